@@ -1,8 +1,22 @@
-//! The base of the session: streams of bytes that may fail.
+//! The base of the session: key expressions, a counter of steps, and streams of bytes that may fail.
 #![tactic(auto)]
 
+mod canonical;
+mod chunks;
+mod comparisons;
+mod declaration;
+mod key_error;
+mod key_expr;
+mod matching;
 mod memory;
+mod pattern;
+mod steps;
 mod stream;
+mod units;
 
+pub use declaration::Declared;
+pub use key_error::KeyError;
+pub use key_expr::KeyExpr;
 pub use memory::{MemorySink, MemorySource, SteadySource};
+pub use steps::Steps;
 pub use stream::{Failed, Sink, Source};

@@ -1,0 +1,4 @@
+mod Examples
+pub mod CanonicalLemmas
+pub mod Cut
+pub mod MatchingLemmas
