@@ -1,4 +1,11 @@
 mod Examples
+pub mod Bools
 pub mod CanonicalLemmas
 pub mod Cut
-pub mod MatchingLemmas
+pub mod Behind
+pub mod Pieces
+pub mod WalkLemmas
+pub mod PieceLemmas
+pub mod CutLemmas
+pub mod SegmentLemmas
+pub mod SymmetricLemmas

@@ -6,3 +6,6 @@ pub mod Rules
 pub mod Chunks
 pub mod Units
 pub mod Key
+pub mod Symmetry
+pub mod Walk
+pub mod Segments

@@ -10,9 +10,11 @@ mod key_expr;
 mod matching;
 mod memory;
 mod pattern;
+mod segment;
 mod steps;
 mod stream;
 mod units;
+mod verbatim;
 
 pub use declaration::Declared;
 pub use key_error::KeyError;

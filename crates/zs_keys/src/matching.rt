@@ -1,21 +1,18 @@
 //! Which key expressions have a key in common.
 
-ghost use Rattle.std.specs.Prelude.{◌≡◌, ℕ, List, [], ◌∷◌, true, MatchOption, ◌==◌};
-ghost use Rattle.zs_keys.specs.Matching.{units, chunk_meets, is_any, is_free, intersects};
-ghost use Rattle.zs_keys.specs.Text.{is_double_star, is_verbatim};
+ghost use Rattle.std.specs.Prelude.{◌≡◌, ℕ, List, ◌==◌, refl};
+ghost use Rattle.zs_keys.specs.Matching.{meets, chunk_meets, is_any, is_free, intersects};
+ghost use Rattle.zs_keys.specs.Text.{is_double_star};
 ghost use Rattle.zs_keys.specs.Chunks.{chunks_left};
 ghost use Rattle.zs_keys.specs.Units.{units_left};
+ghost use Rattle.zs_keys.specs.Segments.{segment_left};
+ghost use Rattle.zs_keys.specs.Symmetry.{same_unit_comm, chunk_meets_comm};
 
 use crate::chunks::Chunks;
-use crate::pattern::{Pattern, matches_list};
+use crate::pattern::{Pattern, Symmetric, matches_list};
+use crate::segment::{Segment, next_verbatim};
 use crate::units::Units;
-
-/// Whether a chunk begins with `@`, so that no wild sign stands for it.
-fn is_verbatim(chunk: &str) -> bool
-    ensures { result ≡ is_verbatim chunk.now }
-{
-    chunk.as_bytes().first() == Some(&b'@')
-}
+use crate::verbatim::is_verbatim;
 
 impl<'a> Pattern for Units<'a> {
     type Element = u8;
@@ -28,7 +25,7 @@ impl<'a> Pattern for Units<'a> {
 
     ghost wild = { is_any };
 
-    ghost free = { λ _. true };
+    ghost wild_right = { is_any };
 
     ghost same = { λ a b. a == b };
 
@@ -42,10 +39,10 @@ impl<'a> Pattern for Units<'a> {
         unit == b'$'
     }
 
-    fn is_free(_unit: u8) -> bool
-        ensures { result ≡ true }
+    fn is_wild_right(unit: u8) -> bool
+        ensures { result ≡ is_any unit }
     {
-        true
+        unit == b'$'
     }
 
     fn is_same(left: u8, right: u8) -> bool
@@ -53,6 +50,12 @@ impl<'a> Pattern for Units<'a> {
     {
         left == right
     }
+}
+
+impl<'a> Symmetric for Units<'a> {
+    ghost one_wild = { refl };
+
+    ghost even = { same_unit_comm };
 }
 
 /// Whether two chunks other than `**` have a chunk in common.
@@ -65,23 +68,23 @@ fn chunk_meets(left: &str, right: &str) -> bool
     left == "*" || right == "*" || matches_list(Units::of(left), Units::of(right))
 }
 
-impl<'a> Pattern for Chunks<'a> {
+impl<'a> Pattern for Segment<'a> {
     type Element = &'a str;
 
     ghost Seen = { List ℕ };
 
     ghost seen = { λ chunk. chunk.now };
 
-    ghost elements = { chunks_left };
+    ghost elements = { segment_left };
 
     ghost wild = { is_double_star };
 
-    ghost free = { is_free };
+    ghost wild_right = { is_double_star };
 
     ghost same = { chunk_meets };
 
-    fn split_first(self) -> Option<(&'a str, Chunks<'a>)> {
-        self.next_chunk()
+    fn split_first(self) -> Option<(&'a str, Segment<'a>)> {
+        self.next_free()
     }
 
     fn is_wild(chunk: &'a str) -> bool
@@ -90,10 +93,10 @@ impl<'a> Pattern for Chunks<'a> {
         chunk == "**"
     }
 
-    fn is_free(chunk: &'a str) -> bool
-        ensures { result ≡ is_free chunk.now }
+    fn is_wild_right(chunk: &'a str) -> bool
+        ensures { result ≡ is_double_star chunk.now }
     {
-        !is_verbatim(chunk)
+        chunk == "**"
     }
 
     fn is_same(left: &'a str, right: &'a str) -> bool
@@ -103,9 +106,41 @@ impl<'a> Pattern for Chunks<'a> {
     }
 }
 
+impl<'a> Symmetric for Segment<'a> {
+    ghost one_wild = { refl };
+
+    ghost even = { chunk_meets_comm };
+}
+
+/// Whether two lists of chunks have a key in common: between verbatim chunks they match apart from one another.
+#[tactic(auto, using(crate::proofs::CutLemmas::meet_steps))]
+fn chunks_meet(left: Chunks<'_>, right: Chunks<'_>) -> bool
+    ensures { result ≡ meets is_double_star is_double_star is_free chunk_meets (chunks_left left.entry)
+        (chunks_left right.entry) }
+{
+    let mut left = left;
+    let mut right = right;
+    loop {
+        if !matches_list(Segment::of(left), Segment::of(right)) {
+            return false;
+        }
+        let Some((verbatim, left_rest)) = next_verbatim(left) else {
+            return next_verbatim(right).is_none();
+        };
+        let Some((other, right_rest)) = next_verbatim(right) else {
+            return false;
+        };
+        if !chunk_meets(verbatim, other) {
+            return false;
+        }
+        left = left_rest;
+        right = right_rest;
+    }
+}
+
 /// Whether two key expressions have a key in common.
 pub(crate) fn intersects(left: &str, right: &str) -> bool
     ensures { result ≡ intersects left.now right.now }
 {
-    matches_list(Chunks::of(left), Chunks::of(right))
+    chunks_meet(Chunks::of(left), Chunks::of(right))
 }
