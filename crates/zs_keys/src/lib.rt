@@ -13,6 +13,8 @@ mod pattern;
 mod segment;
 mod steps;
 mod stream;
+#[cfg(test)]
+mod tests;
 mod units;
 mod verbatim;
 

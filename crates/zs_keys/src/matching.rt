@@ -42,7 +42,7 @@ impl<'a> Pattern for Units<'a> {
     fn is_wild_right(unit: u8) -> bool
         ensures { result ≡ is_any unit }
     {
-        unit == b'$'
+        Self::is_wild(unit)
     }
 
     fn is_same(left: u8, right: u8) -> bool
@@ -96,7 +96,7 @@ impl<'a> Pattern for Segment<'a> {
     fn is_wild_right(chunk: &'a str) -> bool
         ensures { result ≡ is_double_star chunk.now }
     {
-        chunk == "**"
+        Self::is_wild(chunk)
     }
 
     fn is_same(left: &'a str, right: &'a str) -> bool
