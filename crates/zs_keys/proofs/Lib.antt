@@ -2,10 +2,12 @@ mod Examples
 pub mod Bools
 pub mod CanonicalLemmas
 pub mod Cut
+pub mod Boundaries
 pub mod Behind
 pub mod Pieces
 pub mod WalkLemmas
 pub mod PieceLemmas
 pub mod CutLemmas
+pub mod InclusionLemmas
 pub mod SegmentLemmas
 pub mod SymmetricLemmas

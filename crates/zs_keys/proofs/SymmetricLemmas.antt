@@ -41,10 +41,7 @@ module _ {X : Type 0} (wild wild' : X → Bool) (same : X → X → Bool) (one :
       → S a b ≡ false → S p q ≡ S b a
   anywhere-second p q a b h k l s = anywhere p q h ∙ rw (← k, ← l, s) refl
 
-  -- a walk that stands before a wild element of the left list, or of the right one
-  pub match-left : (p q p1 q1 : List X) (x : X) → wild x ≡ true → Onto wild wild' same p q (x ∷ p1) q1 → M p q ≡ S p1 q1
-  match-left p q p1 q1 x w o = o.answer ∙ behind-wild wild wild' same x p1 q1 w
-
+  -- a walk that stands before a wild element of the right list
   pub match-right : (p q p1 q1 : List X) (y : X) → wild' y ≡ true → Onto wild wild' same p q p1 (y ∷ q1) → M p q ≡ S q1 p1
   match-right p q p1 q1 y w o =
       o.answer

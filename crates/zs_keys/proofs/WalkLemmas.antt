@@ -5,7 +5,7 @@ use Rattle.zs_keys.specs.Matching.{meets, some_rest}
 use Rattle.zs_keys.specs.Rules.{meets-ends, meets-left_end, meets-right_end, meets-pair}
 use Rattle.zs_keys.specs.Walk.{Onto}
 use Rattle.zs_keys.proofs.Bools.{or_left}
-use Rattle.zs_keys.proofs.Behind.{behind-step, behind-found, behind-missed, behind-here}
+use Rattle.zs_keys.proofs.Behind.{behind-wild, behind-step, behind-found, behind-missed, behind-here}
 
 module _ {X : Type 0} (wild wild' : X → Bool) (same : X → X → Bool) (p q : List X) where
   abbrev M : List X → List X → Bool
@@ -54,6 +54,10 @@ module _ {X : Type 0} (wild wild' : X → Bool) (same : X → X → Bool) (p q :
   pub onto-right : (p1 q1 : List X) (y : X) (ys : List X) → Onto wild wild' same p q p1 q1 → q1 ≡ y ∷ ys
       → Onto wild wild' same p q p1 (y ∷ ys)
   onto-right p1 q1 y ys o h = rw h at o
+
+  -- a walk that stands before a wild element of the left list
+  pub walk-left : (p1 q1 : List X) (x : X) → wild x ≡ true → Onto wild wild' same p q (x ∷ p1) q1 → M p q ≡ S p1 q1
+  walk-left p1 q1 x w o = o.answer ∙ behind-wild wild wild' same x p1 q1 w
 
   -- a piece that fits is behind
   pub search-found : (p1 q1 : List X) (x : X) → wild x ≡ true → Onto wild wild' same p q (x ∷ p1) q1

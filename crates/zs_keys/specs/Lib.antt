@@ -9,3 +9,4 @@ pub mod Key
 pub mod Symmetry
 pub mod Walk
 pub mod Segments
+pub mod Inclusion

@@ -1,11 +1,13 @@
 //! Key expressions.
 
-ghost use Rattle.std.specs.Prelude.{◌≡◌, ◌↔◌, ◌<◌, IsTrue, IsOk, IfOk, IfErr};
+ghost use Rattle.std.specs.Prelude.{◌≡◌, ◌↔◌, ◌<◌, IsTrue, IsOk, IfOk, IfErr, Some, None, string_bytes, IsCharBoundary};
+ghost use Rattle.std.specs.Option.{ForSome};
 ghost use Rattle.zs_keys.specs.Text.{is_canonical};
-ghost use Rattle.zs_keys.specs.Matching.{intersects};
+ghost use Rattle.zs_keys.specs.Matching.{intersects, includes};
 
 use crate::canonical::is_canonical;
 use crate::declaration::Declared;
+use crate::inclusion::includes;
 use crate::key_error::KeyError;
 use crate::matching::intersects;
 use crate::steps::Steps;
@@ -42,7 +44,7 @@ impl<'a> Model for KeyExpr<'a> {
 
 impl<'a> KeyExpr<'a> {
     ghost use Rattle.zs_keys.specs.declared.key_error.KeyError.{KeyError};
-    ghost use Rattle.zs_keys.specs.Key.{undeclared};
+    ghost use Rattle.zs_keys.specs.Key.{undeclared, text_refusal};
 
     /// The key expression with this text and no declaration.
     ///
@@ -63,12 +65,94 @@ impl<'a> KeyExpr<'a> {
         })
     }
 
+    /// The key expression with this text and no declaration.
+    ///
+    /// # Errors
+    ///
+    /// `BadKeyExpr` where the text is not canonical.
+    pub fn from_string(text: String) -> Result<KeyExpr<'static>, KeyError>
+        ensures ok { IfOk result (λ key. (key ≡ undeclared (string_bytes text)) × (text_refusal key.text ≡ None)) }
+        ensures err { IfErr result (λ error. text_refusal (string_bytes text) ≡ Some error) }
+    {
+        KeyExpr::of_parts(text, None)
+    }
+
+    /// The key expression with this text and declaration, where the text is canonical.
+    pub(crate) fn of_parts(
+        text: String,
+        declaration: Option<Declared>,
+    ) -> Result<KeyExpr<'static>, KeyError>
+        requires { ForSome declaration (λ d. IsCharBoundary (string_bytes text) d.prefix_len) }
+        ensures ok { IfOk result (λ key. (key ≡ record { text = string_bytes text; declaration = declaration })
+            × (text_refusal key.text ≡ None)) }
+        ensures err { IfErr result (λ error. text_refusal (string_bytes text) ≡ Some error) }
+    {
+        if !is_canonical(text.as_str()) {
+            return Err(KeyError::BadKeyExpr);
+        }
+        Ok(KeyExpr {
+            text: CowStr::Owned(text),
+            declaration,
+        })
+    }
+
     /// The text.
     pub fn as_str(&self) -> &str
         ensures text { result.now ≡ self.now.text }
         ensures canonical { IsTrue (is_canonical self.now.text) }
     {
         self.text.as_str()
+    }
+
+    /// The same text without its declaration, borrowed.
+    pub fn as_keyexpr(&self) -> KeyExpr<'_>
+        ensures { result ≡ undeclared self.now.text }
+    {
+        KeyExpr {
+            text: CowStr::Borrowed(self.text.as_str()),
+            declaration: None,
+        }
+    }
+
+    /// The text, as a string of its own.
+    ///
+    /// # Errors
+    ///
+    /// `NoMemory` alone.
+    pub fn into_string(self, alloc: Global) -> Result<String, KeyError>
+        ensures ok { IfOk result (λ text. string_bytes text ≡ self.entry.text) }
+        ensures err { IfErr result (λ error. error ≡ KeyError.NoMemory) }
+    {
+        Ok(self.text.into_owned(alloc)?)
+    }
+
+    /// How it was declared, if it was. The declared prefix ends at a character of the text.
+    pub fn declaration(&self) -> Option<Declared>
+        ensures declaration { result ≡ self.now.declaration }
+        ensures prefix { ForSome self.now.declaration (λ d. IsCharBoundary self.now.text d.prefix_len) }
+    {
+        self.declaration
+    }
+
+    /// The same text, declared so.
+    pub fn with_declaration(self, declared: Declared) -> KeyExpr<'a>
+        requires { IsCharBoundary self.text declared.prefix_len }
+        ensures { result ≡ record self.entry { declaration = Some declared } }
+    {
+        KeyExpr {
+            text: self.text,
+            declaration: Some(declared),
+        }
+    }
+
+    /// The same text without a declaration.
+    pub fn without_declaration(self) -> KeyExpr<'a>
+        ensures { result ≡ undeclared self.entry.text }
+    {
+        KeyExpr {
+            text: self.text,
+            declaration: None,
+        }
     }
 
     /// The same key expression with a text of its own.
@@ -110,5 +194,12 @@ impl<'a> KeyExpr<'a> {
         ensures { result ≡ intersects self.now.text other.now.text }
     {
         intersects(self.as_str(), other.as_str())
+    }
+
+    /// Whether each key of the other key expression is one of this one.
+    pub fn includes(&self, other: &KeyExpr<'_>) -> bool
+        ensures { result ≡ includes self.now.text other.now.text }
+    {
+        includes(self.as_str(), other.as_str())
     }
 }

@@ -5,6 +5,8 @@ mod canonical;
 mod chunks;
 mod comparisons;
 mod declaration;
+mod inclusion;
+mod joining;
 mod key_error;
 mod key_expr;
 mod matching;

@@ -173,3 +173,16 @@ pub(crate) fn matches_list<P: Symmetric>(left: P, right: P) -> bool
         Walk::RightWild(left_rest, right_rest) => stands_anywhere(right_rest, left_rest),
     }
 }
+
+/// Whether the left list matches the right one, which has no wild element.
+pub(crate) fn fits_list<P: Pattern>(left: P, right: P) -> bool
+    requires { list_any P.wild_right (P.elements right) ≡ false }
+    ensures { result ≡ meets_free P.wild P.wild_right P.same (P.elements left) (P.elements right) }
+{
+    match walk_both(left, right) {
+        Walk::Ended => true,
+        Walk::Differ => false,
+        Walk::LeftWild(left_rest, right_rest) => stands_behind(left_rest, right_rest),
+        Walk::RightWild(_, _) => unreachable!(),
+    }
+}
