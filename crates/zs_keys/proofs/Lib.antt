@@ -3,6 +3,7 @@ pub mod Bools
 pub mod CanonicalLemmas
 pub mod Cut
 pub mod Boundaries
+pub mod PrefixLemmas
 pub mod Behind
 pub mod Pieces
 pub mod WalkLemmas

@@ -10,3 +10,4 @@ pub mod Symmetry
 pub mod Walk
 pub mod Segments
 pub mod Inclusion
+pub mod Prefix

@@ -1,7 +1,8 @@
 //! Key expressions.
 
 ghost use Rattle.std.specs.Prelude.{◌≡◌, ◌↔◌, ◌<◌, IsTrue, IsOk, IfOk, IfErr, Some, None, string_bytes, IsCharBoundary};
-ghost use Rattle.std.specs.Option.{ForSome};
+ghost use Rattle.std.specs.Option.{ForSome, option_map};
+ghost use Rattle.zs_keys.specs.Prefix.{nonwild_prefix};
 ghost use Rattle.zs_keys.specs.Text.{is_canonical};
 ghost use Rattle.zs_keys.specs.Matching.{intersects, includes};
 
@@ -10,6 +11,7 @@ use crate::declaration::Declared;
 use crate::inclusion::includes;
 use crate::key_error::KeyError;
 use crate::matching::intersects;
+use crate::prefix::nonwild_prefix;
 use crate::steps::Steps;
 use std::alloc::Global;
 use std::borrow::CowStr;
@@ -201,5 +203,18 @@ impl<'a> KeyExpr<'a> {
         ensures { result ≡ includes self.now.text other.now.text }
     {
         includes(self.as_str(), other.as_str())
+    }
+
+    /// The part before the first wild chunk, if there is one: the whole text where it has no `*`.
+    pub fn nonwild_prefix(&self) -> Option<KeyExpr<'_>>
+        ensures { result ≡ option_map undeclared (nonwild_prefix self.now.text) }
+    {
+        let Some(front) = nonwild_prefix(self.text.as_str()) else {
+            return None;
+        };
+        Some(KeyExpr {
+            text: CowStr::Borrowed(front),
+            declaration: None,
+        })
     }
 }

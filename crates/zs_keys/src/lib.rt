@@ -12,6 +12,7 @@ mod key_expr;
 mod matching;
 mod memory;
 mod pattern;
+mod prefix;
 mod segment;
 mod steps;
 mod stream;
