@@ -1,8 +1,10 @@
 -- Worked examples of the definitions, each computed.
 use Rattle.std.proofs.Common.{◌≡◌, true, false, refl, [], ◌∷◌}
-use Rattle.std.specs.Prelude.{codes}
+use Rattle.std.specs.Prelude.{codes, Some, None}
 use Rattle.zs_keys.specs.Text.{chunks, is_canonical}
 use Rattle.zs_keys.specs.Matching.{meets, intersects, includes}
+use Rattle.zs_keys.specs.Canonize.{squeezed, sink, ordered, canonize}
+use Rattle.zs_keys.specs.Prefix.{before_slash, nonwild_prefix}
 
 slash-splits : chunks (codes "a//") ≡ codes "a" ∷ [] ∷ [] ∷ []
 slash-splits = refl
@@ -127,3 +129,39 @@ any-includes_any = refl
 verbatim-not_included : includes (codes "**") (codes "@a") ≡ false
 unfolding meets
 verbatim-not_included = refl
+
+stars-sink : canonize (codes "a/**/*/$*") ≡ codes "a/*/*/**"
+unfolding squeezed sink ordered
+stars-sink = refl
+
+any-squeezed : canonize (codes "a$*$*$*b/$*$*") ≡ codes "a$*b/*"
+unfolding squeezed sink ordered
+any-squeezed = refl
+
+runs-join : canonize (codes "**/*/**/*/x/**/**") ≡ codes "*/*/**/x/**"
+unfolding squeezed sink ordered
+runs-join = refl
+
+stars-stay : canonize (codes "*/*/a") ≡ codes "*/*/a"
+unfolding squeezed sink ordered
+stars-stay = refl
+
+faults-stay : canonize (codes "a//$x/") ≡ codes "a//$x/"
+unfolding squeezed sink ordered
+faults-stay = refl
+
+nothing-stays : canonize [] ≡ []
+unfolding squeezed sink ordered
+nothing-stays = refl
+
+prefix-whole : nonwild_prefix (codes "a/b") ≡ Some (codes "a/b")
+unfolding before_slash
+prefix-whole = refl
+
+prefix-before_wild : nonwild_prefix (codes "a/b/c$*/d/*") ≡ Some (codes "a/b")
+unfolding before_slash
+prefix-before_wild = refl
+
+prefix-none : nonwild_prefix (codes "*/a") ≡ None
+unfolding before_slash
+prefix-none = refl

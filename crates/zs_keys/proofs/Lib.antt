@@ -3,6 +3,9 @@ pub mod Bools
 pub mod CanonicalLemmas
 pub mod Cut
 pub mod Boundaries
+pub mod SqueezeLemmas
+pub mod OrderLemmas
+pub mod DeclarationLemmas
 pub mod PrefixLemmas
 pub mod Behind
 pub mod Pieces

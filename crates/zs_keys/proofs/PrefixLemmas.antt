@@ -1,14 +1,12 @@
 -- Where a text is cut before its last `/`, and why what stands there is canonical.
-use Rattle.std.proofs.Common.{◌≡◌, ◌≢◌, ℕ, suc, ◌+◌, ◌<◌, ◌≤◌, ◌==◌, Bool, true, false, not, ◌&&◌, ◌||◌, List, [], ◌∷◌, ◌++◌, length, take, drop, get_or, Option, Some, None, Bor, refl, sym, ◌∙◌, ap, arith, lit<, append_assoc}
-use Rattle.std.specs.Prelude.{MatchOption, if◌then◌else◌}
-use Rattle.std.specs.List.{slice_split, onto_first, list_all, list_any, before_first, position_or_len}
-use Rattle.std.specs.Str.{NoCharPasses}
-use Rattle.std.specs.Str.Pattern.{HasCharAt, RFindsChar}
+use Rattle.std.proofs.Common.{◌≡◌, ◌≢◌, ℕ, suc, ◌+◌, ◌<◌, ◌==◌, Bool, true, false, not, ◌&&◌, ◌||◌, List, [], ◌∷◌, ◌++◌, length, take, drop, get_or, Option, Some, None, refl, sym, ◌∙◌, arith, lit<, append_assoc}
+use Rattle.std.specs.List.{list_all, list_any, before_first, position_or_len}
+use Rattle.std.specs.Str.Pattern.{RFindsChar}
 use Rattle.std.proofs.lemmas.Bool.Decides.{nat_tests}
 use Rattle.std.proofs.lemmas.List.{take-append-drop}
-use Rattle.std.proofs.lemmas.Str.Pattern.{NoCharPasses-char, drop_at_char, IsSplitOnceResult, split_once_first}
+use Rattle.std.proofs.lemmas.Str.Pattern.{NoCharPasses-char, drop_at_char}
 use Rattle.zs_keys.specs.Text.{chunks, is_canonical, is_chunk, is_star, is_double_star, has_ordered_stars}
-use Rattle.zs_keys.specs.Prefix.{onto_front, before_slash, nonwild_prefix}
+use Rattle.zs_keys.specs.Prefix.{before_slash, nonwild_prefix}
 use Rattle.zs_keys.proofs.Bools.{split, and_second}
 
 -- no byte is a `/`

@@ -11,3 +11,5 @@ pub mod Walk
 pub mod Segments
 pub mod Inclusion
 pub mod Prefix
+pub mod Canonize
+pub mod Writing

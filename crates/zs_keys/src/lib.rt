@@ -2,6 +2,7 @@
 #![tactic(auto)]
 
 mod canonical;
+mod canonize;
 mod chunks;
 mod comparisons;
 mod declaration;

@@ -1,0 +1,15 @@
+use Rattle.std.proofs.Common.{◌≡◌, ◌++◌, length}
+use Rattle.std.specs.Prelude.{string_bytes}
+use Rattle.zs_keys.specs.Canonize.{squeezed}
+use Rattle.zs_keys.proofs.canonize.squeezed.Given as goal
+use denote.Shadow.{shadow}
+use denote.Text.{Utf8}
+
+abbrev pub invariant-loop-front : goal.invariant-loop-front
+invariant-loop-front l = record {
+  form : squeezed l.chunk ≡ string_bytes l.text ++ squeezed l.rest;
+  utf8 : shadow (Utf8 l.rest);
+}
+
+abbrev pub decreases-loop-front : goal.decreases-loop-front
+decreases-loop-front l = length l.rest
