@@ -103,6 +103,10 @@ module _ (id : ℕ) (v : View) where
     clash_joins has_door is its s kept at apart there =
         absurd (steps.no_clash (slice_index s.words 0) s.views id kept.1 other has_door (Door (2 ^ 32)) (at ∙ ap some is) (there ∙ ap some its) refl)
 
+    pub late_joins : v ≡ Keeper false Open → w ≡ Out true → Joins Kept id v other w (Door (2 ^ 32)) Spent
+    late_joins is its s kept at apart there =
+        absurd (steps.no_late (slice_index s.words 0) s.views id kept.1 other (Door (2 ^ 32)) (at ∙ ap some is) (there ∙ ap some its) refl)
+
 -- by the door's number
 takes_pass_at : (id other out : ℕ) (noted : Bool) → Joins Kept id (Door out) other (Out noted) (one_less (Door out) (Out noted)) Spent
 takes_pass_at id other zero noted s kept at apart there = absurd (steps.no_pass (slice_index s.words 0) s.views id kept.1 other noted (Door (2 ^ 32)) at there refl)

@@ -5,7 +5,7 @@ use lib.ListN.{get_elem?}
 use Rattle.zs_gate.specs.declared.view.View.{View}
 use Rattle.zs_gate.specs.declared.view.View.TheVariants.{Keeper, Door, Out, Inside, Knock, Spent}
 use Rattle.zs_gate.specs.declared.view.Phase.TheVariants.{Open, Draining, Drained}
-use Rattle.zs_gate.specs.Views.{number, pass, inside}
+use Rattle.zs_gate.specs.Views.{number, pass, inside, late}
 use Rattle.zs_gate.specs.Rule.{IsKept}
 use Rattle.zs_gate.proofs.Totals.{changed, cut, joined, bounds}
 
@@ -246,6 +246,15 @@ module _ (word : ℕ) (views : List View) (id : ℕ) (kept : IsKept word views) 
           apart = omega arith;
           late_marked = omega arith;
         }
+
+    -- an open keeper stands beside no pass that found the mark
+    pub no_late : (both : View) → get_elem? views id ≡ some (Keeper false Open) → get_elem? (set views id both) other ≡ some (Out true) → late both ≡ 0 → ⊥
+    no_late both at there none =
+        let o = changed views id (Keeper false Open) Spent at in
+        let s = joined views id other (Keeper false Open) (Out true) both Spent at there in
+        let b = bounds views in
+        let c = bounds (set views id Spent) in
+        omega arith
 
     -- a drained keeper stands beside no one inside
     pub no_clash : (has_door : Bool) (both : View) → get_elem? views id ≡ some (Keeper has_door Drained) → get_elem? (set views id both) other ≡ some Inside → inside both ≡ 0 → ⊥

@@ -3,7 +3,7 @@ use Rattle.std.specs.Prelude.{◌≡◌, ◌≢◌, ℕ, zero, suc, ◌+◌, ◌
 use Rattle.atomic_table.specs.Table.{Me, Step}
 use Rattle.zs_gate.specs.declared.view.View.{View}
 use Rattle.zs_gate.specs.declared.view.View.TheVariants.{Keeper, Door, Out, Inside, Knock, Spent}
-use Rattle.zs_gate.specs.declared.view.Phase.TheVariants.{Open, Draining, Drained}
+use Rattle.zs_gate.specs.declared.view.Phase.TheVariants.{Draining, Drained}
 use Rattle.zs_gate.specs.Views.{number}
 
 abbrev pub Mine : Type 0
@@ -31,11 +31,7 @@ leaves step me found after = Becomes me after (Out false)
 -- the keeper's view once it has set the mark
 abbrev pub draining : View → View
 draining (Keeper has_door phase) = Keeper has_door (Draining 0 0)
-draining (Door out) = Spent
-draining (Out noted) = Spent
-draining Inside = Spent
-draining Knock = Spent
-draining Spent = Spent
+draining _ = Spent
 
 -- drain: the keeper has set the mark
 abbrev pub drains : Told
@@ -44,13 +40,7 @@ drains step me found after = Becomes me after (draining me.0)
 -- the keeper's view after a look that counted passes
 abbrev pub looked : View → ℕ → View
 looked (Keeper has_door (Draining looks count)) more = Keeper has_door (Draining (looks + 1) more)
-looked (Keeper has_door Open) more = Spent
-looked (Keeper has_door Drained) more = Spent
-looked (Door out) more = Spent
-looked (Out noted) more = Spent
-looked Inside more = Spent
-looked Knock more = Spent
-looked Spent more = Spent
+looked _ more = Spent
 
 -- look: drained where the word is 1, so that it counts no one; else one look more, with the count
 abbrev pub looks : Told
@@ -71,18 +61,10 @@ checks step me found after = (number me.0 < 2 ^ 32) × Becomes me after me.0
 -- the door with one pass more
 abbrev pub one_more : View → View
 one_more (Door out) = Door (out + 1)
-one_more (Keeper has_door phase) = Spent
-one_more (Out noted) = Spent
-one_more Inside = Spent
-one_more Knock = Spent
-one_more Spent = Spent
+one_more _ = Spent
 
 -- the door with one pass less. A door of number 0 has no pass to take back: it would have a number that the rule refuses
 abbrev pub one_less : View → View → View
 one_less (Door zero) other = Door (2 ^ 32)
 one_less (Door (suc out)) other = Door out
-one_less (Keeper has_door phase) other = Spent
-one_less (Out noted) other = Spent
-one_less Inside other = Spent
-one_less Knock other = Spent
-one_less Spent other = Spent
+one_less _ other = Spent

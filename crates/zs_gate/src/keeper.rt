@@ -1,9 +1,10 @@
 //! The keeper of a gate, which drains it.
-ghost use Rattle.std.specs.Prelude.{◌≡◌, ◌+◌, ◌<◌, ◌≤◌, IfOk, IfErr};
+ghost use Rattle.std.specs.Prelude.{◌≡◌, true, ◌+◌, ◌<◌, ◌≤◌, IfOk, IfErr};
 
 use crate::gate::Door;
-use crate::pass::Inside;
-use crate::post::Post;
+use crate::pass::{Inside, Pass};
+use crate::post::{Post, Sight};
+use std::alloc::AllocError;
 use std::marker::Model;
 use std::sync::Wait;
 
@@ -78,6 +79,23 @@ impl Keeper {
         let Keeper { mut post } = self;
         post.mark();
         Draining { post }
+    }
+
+    /// A pass that found the mark and a keeper that hasn't drained the gate never stand together: no one can call this.
+    pub fn excludes(self, late: Pass)
+        requires { late ≡ record { gate = self; noted = true } }
+        ensures { ⊥ }
+    {
+        let Keeper { post } = self;
+        let Pass { post: late } = late;
+        post.clash_late(late);
+    }
+
+    // A sight of the gate's mark, for whoever has no seat.
+    pub(crate) fn sight(&self) -> Result<Sight, AllocError>
+        ensures { IfOk result (λ sight. sight ≡ self.now) }
+    {
+        self.post.sight()
     }
 
     /// Ends a gate of which no pass is out. Where one is, keeper and door come back as they were.

@@ -1,6 +1,7 @@
 // One seat at a gate's table, with the table. Each method is one step of the gate, or one cut or union of seats.
 ghost use Rattle.std.specs.Prelude.{◌≡◌, ◌≢◌, ℕ, ◌^◌, ◌<◌, [], Bool, true, false, IfOk, OnErr, MatchBool};
 ghost use Rattle.std.specs.Arc.{arc_value};
+ghost use Rattle.atomic_table.specs.Seated.{TableId, table_id_coded};
 ghost use Rattle.zs_gate.specs.declared.view.View.TheVariants.{Keeper, Door, Out, Inside, Knock};
 ghost use Rattle.zs_gate.specs.declared.view.Phase.TheVariants.{Open, Draining, Drained};
 ghost use Rattle.zs_gate.specs.Views.{number};
@@ -20,7 +21,7 @@ use std::sync::{Arc, Wait};
 const LAST: u64 = 3;
 
 // What a sleep compares.
-const LOW_HALF: u64 = 0xffff_ffff;
+pub const LOW_HALF: u64 = 0xffff_ffff;
 
 type Board = Arc<Table<(), View, (), Rule, Global>, Global>;
 
@@ -172,5 +173,47 @@ impl Post {
         let Post { board: _, seat } = inside;
         self.board.shared.join_seat::<Clash>(&mut self.seat, seat);
         self.board.shared.load::<Check>(&mut self.seat, 0);
+    }
+
+    // An open keeper never meets a pass that found the mark.
+    pub fn clash_late(mut self, late: Post)
+        requires keeper { self.knows ≡ Keeper false Open }
+        requires late { late ≡ record { gate = self.gate; knows = Out true } }
+        ensures { ⊥ }
+    {
+        let Post { board: _, seat } = late;
+        self.board.shared.join_seat::<Clash>(&mut self.seat, seat);
+        self.board.shared.load::<Check>(&mut self.seat, 0);
+    }
+
+    // A sight of the gate's word.
+    pub fn sight(&self) -> Result<Sight, AllocError>
+        ensures { IfOk result (λ sight. sight ≡ self.now.gate) }
+    {
+        let board = Arc::try_clone(&self.board)?;
+        Ok(Sight { board })
+    }
+}
+
+// The word of a gate, for whoever has no seat. To a contract it is the gate.
+#[derive(Drop)]
+pub struct Sight {
+    board: Board,
+}
+
+impl Model for Sight {
+    ghost Value = { TableId };
+
+    ghost coded = { table_id_coded };
+
+    ghost view = { λ s. (arc_value s.board).shared.table_id };
+
+    ghost invariant = { λ s. (arc_value s.board).shared.table_id.words ≡ 1 };
+}
+
+impl Sight {
+    // Whether the word has the mark now. It is never taken away.
+    pub fn is_marked(&self) -> bool {
+        self.board.shared.peek(0) % 2 == 1
     }
 }

@@ -143,7 +143,7 @@ impl Join<View> for TakePass {
     ghost spent = { Spent };
 }
 
-// A drained keeper meets someone inside, which the rule shuts out: the joined view is one that it refuses.
+// Two seats that the rule shuts out beside each other: the joined view is one that it refuses.
 pub struct Clash;
 
 impl Join<View> for Clash {
