@@ -1,5 +1,5 @@
 -- What clauses see of a group of notifiers: its gate, how many passes are out, and how far its keeper has come.
-use Rattle.std.specs.Prelude.{◌≡◌, ℕ}
+use Rattle.std.specs.Prelude.{◌≡◌, ℕ, ◌≤◌}
 use Rattle.atomic_table.specs.Seated.{TableId}
 use Rattle.zs_gate.specs.Places.{DrainingSeen}
 use Rattle.zs_gate.specs.declared.watch.Watch.{Watch}
@@ -26,7 +26,7 @@ pub record GroupSeen : Type 0 where
 
 -- a group after a look that answers nothing: its keeper marked the gate, and counted someone
 abbrev pub IsWaiting : Watch → Type 0
-IsWaiting watch = (keeper : DrainingSeen) × (watch ≡ Draining keeper)
+IsWaiting watch = (keeper : DrainingSeen) × (watch ≡ Draining keeper) × (1 ≤ keeper.count)
 
 abbrev pub IsClosed : Watch → Type 0
 IsClosed watch = (keeper : DrainingSeen) × (watch ≡ Closed keeper)

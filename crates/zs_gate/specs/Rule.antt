@@ -10,6 +10,7 @@ pub record IsKept (word : ℕ) (views : List View) : Type 0 where
   -- the door's number is that of all passes, and fits 32 bits
   pub passes : total number views ≡ total pass views
   pub most : total number views < 2 ^ 32
+  -- without a door there is no pass, and a keeper that has the door stands beside none
   pub no_door : total door views ≡ 0 → total pass views ≡ 0
   pub door_apart : 0 < total keeps_door views → total door views ≡ 0
   -- the word is twice the count of the passes that are inside or knock, plus the mark, which is set exactly where the keeper isn't `Open`

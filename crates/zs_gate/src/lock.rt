@@ -14,7 +14,7 @@ const HELD: u64 = 1;
 
 const AWAITED: u64 = 2;
 
-/// A fact about each value of a lock, by the lock's key.
+/// A fact about each value of a lock, by the lock's key. The key is a value apart from what the lock holds.
 pub trait Fact<T, K> {
     ghost holds: { K → T → Type 0 };
 }
@@ -57,8 +57,8 @@ impl<T, K> Play<Option<T>, K> for PutValue {
     ghost then = { puts_value };
 }
 
-/// A lock round a value of which a fact holds, by a key that is fixed as the lock is made. Contracts see the key,
-/// so two holds of one lock find values that agree on it, which a plain mutex can't tell.
+/// A lock round a value of which a fact holds, by a key that is fixed as the lock is made. Contracts see which lock it
+/// is and its key, so two holds of one lock find values that agree on the key, which a plain mutex can't tell.
 ///
 /// The value moves out while it is held, and comes back by `Taken::put`.
 pub struct KeyedLock<T, K, F: Fact<T, K>> {
@@ -82,8 +82,8 @@ impl<T: Drop, K, F: Fact<T, K>> Drop for KeyedLock<T, K, F> {
     }
 }
 
-/// The right, and the duty, to put a value back into its lock. It can't be let go, so neither can the lock stay locked.
-/// Contracts see the lock.
+/// The right to put a value back into its lock, and the duty: a program that lets it go doesn't compile, so `?` between
+/// `take` and `put` doesn't either. Contracts see the lock.
 pub struct Taken<'a, T, K, F: Fact<T, K>> {
     lock: &'a KeyedLock<T, K, F>,
     seat: Seat<Option<T>, K>,

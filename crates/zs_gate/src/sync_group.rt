@@ -129,7 +129,7 @@ impl SyncGroup {
         })
     }
 
-    /// Another value of the same group.
+    /// Another value of the same group. It takes the allocator as all calls do that can answer want of memory.
     pub fn try_clone(&self, _alloc: Global) -> Result<SyncGroup, AllocError>
         ensures { IfOk result (λ group. group ≡ self.now) }
     {

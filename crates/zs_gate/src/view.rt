@@ -1,4 +1,5 @@
-// What the seats of a gate know, the rule of a gate, and its kinds of step.
+// What the seats of a gate know, the rule of a gate, and its kinds of step: enter, retreat, leave, drain, look, and the
+// cut and the union of seats, each of which is one step on the word.
 use atomic_table::{Join, Play, Split, TableRule};
 
 // How far a keeper has come.
