@@ -1,0 +1,152 @@
+-- Totals of weights: after a change of views, and beside one another.
+use Rattle.std.proofs.Common.{◌≡◌, ℕ, zero, suc, ◌+◌, ◌≤◌, true, false, List, [], ◌∷◌, ◌++◌, set, refl, sym, ap, arith}
+use mathlib.Core.Option.{some, some-ne-none, some-injective}
+use lib.ListN.{get_elem?}
+use Rattle.zs_gate.specs.declared.view.View.{View}
+use Rattle.zs_gate.specs.declared.view.View.TheVariants.{Keeper, Door, Out, Inside, Knock, Spent}
+use Rattle.zs_gate.specs.declared.view.Phase.TheVariants.{Open, Draining, Drained}
+use Rattle.zs_gate.specs.Views.{total, keeper, keeps_door, marked, drained, door, number, pass, counted, inside, late}
+
+pub total-set : (f : View → ℕ) (views : List View) (i : ℕ) (v w : View) → get_elem? views i ≡ some v → total f (set views i w) + f v ≡ total f views + f w
+total-set f [] i v w at = absurd (some-ne-none v (sym at))
+total-set f (x ∷ xs) zero v w at = let e : f x ≡ f v = ap f (some-injective x v at) in omega arith
+total-set f (x ∷ xs) (suc i) v w at = let ih = total-set f xs i v w at in omega arith
+
+pub total-snoc : (f : View → ℕ) (views : List View) (w : View) → total f (views ++ w ∷ []) ≡ total f views + f w
+total-snoc f [] w = omega arith
+total-snoc f (x ∷ xs) w = let ih = total-snoc f xs w in omega arith
+
+-- what the totals of the new views are to those of the old: `gone` went, `came` came
+pub record Sums (old new : List View) (gone came : (View → ℕ) → ℕ) : Type 0 where
+  pub keepers : total keeper new + gone keeper ≡ total keeper old + came keeper
+  pub door_keepers : total keeps_door new + gone keeps_door ≡ total keeps_door old + came keeps_door
+  pub marks : total marked new + gone marked ≡ total marked old + came marked
+  pub drains : total drained new + gone drained ≡ total drained old + came drained
+  pub doors : total door new + gone door ≡ total door old + came door
+  pub numbers : total number new + gone number ≡ total number old + came number
+  pub passes : total pass new + gone pass ≡ total pass old + came pass
+  pub counts : total counted new + gone counted ≡ total counted old + came counted
+  pub insides : total inside new + gone inside ≡ total inside old + came inside
+  pub lates : total late new + gone late ≡ total late old + came late
+
+sums : (old new : List View) (gone came : (View → ℕ) → ℕ) → ((f : View → ℕ) → total f new + gone f ≡ total f old + came f) → Sums old new gone came
+sums old new gone came is = record {
+  keepers = is keeper;
+  door_keepers = is keeps_door;
+  marks = is marked;
+  drains = is drained;
+  doors = is door;
+  numbers = is number;
+  passes = is pass;
+  counts = is counted;
+  insides = is inside;
+  lates = is late;
+}
+
+-- one view changed
+pub changed : (views : List View) (i : ℕ) (v w : View) → get_elem? views i ≡ some v → Sums views (set views i w) (λ f. f v) (λ f. f w)
+changed views i v w at = sums views (set views i w) (λ f. f v) (λ f. f w) (λ f. total-set f views i v w at)
+
+-- one view was cut in two
+pub cut : (views : List View) (i : ℕ) (v left right : View) → get_elem? views i ≡ some v → Sums views (set views i left ++ right ∷ []) (λ f. f v) (λ f. f left + f right)
+cut views i v left right at = sums views (set views i left ++ right ∷ []) (λ f. f v) (λ f. f left + f right)
+    (λ f. let s = total-set f views i v left at in let t = total-snoc f (set views i left) right in omega arith)
+
+-- a view took in another
+pub joined : (views : List View) (i j : ℕ) (v w both spent : View) → get_elem? views i ≡ some v → get_elem? (set views i both) j ≡ some w → Sums views (set (set views i both) j spent) (λ f. f v + f w) (λ f. f both + f spent)
+joined views i j v w both spent at there = sums views (set (set views i both) j spent) (λ f. f v + f w) (λ f. f both + f spent)
+    (λ f. let s = total-set f views i v both at in let t = total-set f (set views i both) j w spent there in omega arith)
+
+total-le : (f g : View → ℕ) → ((v : View) → f v ≤ g v) → (views : List View) → total f views ≤ total g views
+total-le f g le [] = omega arith
+total-le f g le (v ∷ vs) = let h = le v in let ih = total-le f g le vs in omega arith
+
+-- what the weights are to one another, whatever the views are
+pub record Bounds (views : List View) : Type 0 where
+  pub marks : total marked views ≤ total keeper views
+  pub door_keepers : total keeps_door views ≤ total keeper views
+  pub drains : total drained views ≤ total marked views
+  pub insides : total inside views ≤ total counted views
+  pub counts : total counted views ≤ total pass views
+  pub lates : total late views ≤ total pass views
+  pub numbers : total door views ≡ 0 → total number views ≡ 0
+
+marked_le : (v : View) → marked v ≤ keeper v
+marked_le (Keeper has_door Open) = omega arith
+marked_le (Keeper has_door (Draining looks count)) = omega arith
+marked_le (Keeper has_door Drained) = omega arith
+marked_le (Door out) = omega arith
+marked_le (Out noted) = omega arith
+marked_le Inside = omega arith
+marked_le Knock = omega arith
+marked_le Spent = omega arith
+
+keeps_door_le : (v : View) → keeps_door v ≤ keeper v
+keeps_door_le (Keeper true phase) = omega arith
+keeps_door_le (Keeper false phase) = omega arith
+keeps_door_le (Door out) = omega arith
+keeps_door_le (Out noted) = omega arith
+keeps_door_le Inside = omega arith
+keeps_door_le Knock = omega arith
+keeps_door_le Spent = omega arith
+
+drained_le : (v : View) → drained v ≤ marked v
+drained_le (Keeper has_door Open) = omega arith
+drained_le (Keeper has_door (Draining looks count)) = omega arith
+drained_le (Keeper has_door Drained) = omega arith
+drained_le (Door out) = omega arith
+drained_le (Out noted) = omega arith
+drained_le Inside = omega arith
+drained_le Knock = omega arith
+drained_le Spent = omega arith
+
+inside_le : (v : View) → inside v ≤ counted v
+inside_le (Keeper has_door phase) = omega arith
+inside_le (Door out) = omega arith
+inside_le (Out noted) = omega arith
+inside_le Inside = omega arith
+inside_le Knock = omega arith
+inside_le Spent = omega arith
+
+counted_le : (v : View) → counted v ≤ pass v
+counted_le (Keeper has_door phase) = omega arith
+counted_le (Door out) = omega arith
+counted_le (Out noted) = omega arith
+counted_le Inside = omega arith
+counted_le Knock = omega arith
+counted_le Spent = omega arith
+
+late_le : (v : View) → late v ≤ pass v
+late_le (Keeper has_door phase) = omega arith
+late_le (Door out) = omega arith
+late_le (Out true) = omega arith
+late_le (Out false) = omega arith
+late_le Inside = omega arith
+late_le Knock = omega arith
+late_le Spent = omega arith
+
+number-none : (v : View) → door v ≡ 0 → number v ≡ 0
+number-none (Keeper has_door phase) none = refl
+number-none (Door out) none = absurd (omega arith)
+number-none (Out noted) none = refl
+number-none Inside none = refl
+number-none Knock none = refl
+number-none Spent none = refl
+
+numbers-none : (views : List View) → total door views ≡ 0 → total number views ≡ 0
+numbers-none [] none = refl
+numbers-none (v ∷ vs) none =
+    let here : number v ≡ 0 = number-none v (omega arith) in
+    let rest : total number vs ≡ 0 = numbers-none vs (omega arith) in
+    omega arith
+
+pub bounds : (views : List View) → Bounds views
+bounds views = record {
+  marks = total-le marked keeper marked_le views;
+  door_keepers = total-le keeps_door keeper keeps_door_le views;
+  drains = total-le drained marked drained_le views;
+  insides = total-le inside counted inside_le views;
+  counts = total-le counted pass counted_le views;
+  lates = total-le late pass late_le views;
+  numbers = numbers-none views;
+}
