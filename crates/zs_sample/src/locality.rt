@@ -1,0 +1,14 @@
+/// Whose publications a subscriber takes, and whom a publication may reach: this session, the network, or both.
+/// It is Zenoh's `Locality`: `allowed_origin` of a subscriber and `allowed_destination` of a publication.
+#[derive(Clone, Copy, Debug, PartialEq, Eq, Hash)]
+pub enum Locality {
+    SessionLocal,
+    Remote,
+    Any,
+}
+
+impl Default for Locality {
+    fn default() -> Locality {
+        Locality::Any
+    }
+}
