@@ -1,0 +1,55 @@
+-- When each refusal holds, told by the events before: each cause by itself, in no order.
+use Rattle.std.specs.Prelude.{◌≡◌, ℕ, Bool, true, false, ◌&&◌, not, List, Option, Some, None}
+use Rattle.zs_core.specs.declared.event.Event.{Event}
+use Rattle.zs_core.specs.declared.event.Event.TheVariants.{Sub, Undeclare, Put, NetPut, Close}
+use Rattle.zs_core.specs.declared.event.EntityKind.TheVariants.{Sub as sub_kind}
+use Rattle.zs_core.specs.declared.settings.Settings.{Settings}
+use Rattle.zs_core.specs.declared.turn.Refusal.{Refusal}
+use Rattle.zs_core.specs.declared.turn.Refusal.TheVariants.{SessionClosedError, NotFound, BadKeyExpr, IdsExhausted, Ignored}
+use Rattle.zs_core.specs.Keys.{is_bad}
+use Rattle.zs_core.specs.Turns.{cause, text_for, is_spent}
+use Rattle.zs_core.specs.Past.{Entry, is_closed, next_entity, draws_entity, world_of, past_of}
+use Rattle.zs_core.specs.Live.{is_live_sub}
+
+-- an application's event that wants an open session: it declares, or it publishes
+abbrev pub needs_open : Event → Bool
+needs_open (Sub origin key) = true
+needs_open (Put destination key payload encoding qos reliable) = true
+needs_open e = false
+
+-- a message from the network
+abbrev pub is_net : Event → Bool
+is_net (NetPut key payload encoding qos reliable) = true
+is_net e = false
+
+-- an event that names a number which nothing live has
+abbrev pub names_nothing : List Entry → Event → Bool
+names_nothing past (Undeclare sub_kind id) = not (is_live_sub id past)
+names_nothing past e = false
+
+-- an event with a key whose text is no canonical key expression
+abbrev pub has_bad_key : Settings → List Entry → Event → Bool
+has_bad_key s past e = is_bad (text_for (world_of s past) e)
+
+-- an event that would draw an entity number where none is left
+abbrev pub lacks_number : Settings → List Entry → Event → Bool
+lacks_number s past e = draws_entity e && is_spent (next_entity s past)
+
+-- whether a refusal's cause holds of an event, behind these accepted events
+abbrev pub has_cause : Settings → List Entry → Event → Refusal → Bool
+has_cause s past e SessionClosedError = is_closed past && needs_open e
+has_cause s past e NotFound = not (is_closed past) && names_nothing past e
+has_cause s past e BadKeyExpr = not (is_closed past) && has_bad_key s past e
+has_cause s past e IdsExhausted =
+    not (is_closed past) && not (names_nothing past e) && not (has_bad_key s past e) && lacks_number s past e
+has_cause s past e Ignored = is_closed past && is_net e
+has_cause s past e refusal = false
+
+-- the answer names a cause that holds, or there is none and none holds
+abbrev pub Names : (Refusal → Bool) → Option Refusal → Type 0
+Names holds (Some refusal) = holds refusal ≡ true
+Names holds None = (refusal : Refusal) → holds refusal ≡ false
+
+-- the law: behind any history, an event is refused exactly where a cause holds, and for one that holds
+abbrev pub RefusalsHaveCauses : Type 0
+RefusalsHaveCauses = (s : Settings) (h : List Event) (e : Event) → Names (has_cause s (past_of s h) e) (cause (world_of s (past_of s h)) e)

@@ -1,0 +1,12 @@
+pub mod Settings
+pub mod Turn
+pub mod Keys
+pub mod World
+pub mod Subscribers
+pub mod Publications
+pub mod Turns
+pub mod After
+pub mod Past
+pub mod Stands
+pub mod Live
+pub mod Causes

@@ -1,0 +1,60 @@
+use Rattle.std.specs.Prelude.{ℕ, Bool, true, false, List, map, filter, ◌&&◌, if◌then◌else◌}
+use Rattle.zs_keys.specs.Key.{undeclared}
+use Rattle.zs_keys.specs.Matching.{intersects}
+use Rattle.zs_sample.specs.declared.locality.Locality.{Locality}
+use Rattle.zs_sample.specs.declared.locality.Locality.TheVariants.{SessionLocal, Remote, Any}
+use Rattle.zs_sample.specs.declared.quality.QoSType.{QoSType}
+use Rattle.zs_sample.specs.declared.quality.Reliability.TheVariants.{BestEffort, Reliable}
+use Rattle.zs_sample.specs.declared.sample.SampleFields.{SampleFields}
+use Rattle.zs_sample.specs.declared.sample.SampleKind.TheVariants.{Put as put_kind}
+use Rattle.zs_sample.specs.Encoding.{encoding_of}
+use Rattle.zs_sample.specs.Quality.{priority_of}
+use Rattle.zs_core.specs.declared.turn.Effect.{Effect}
+use Rattle.zs_core.specs.declared.turn.Effect.TheVariants.{Hand}
+use Rattle.zs_core.specs.declared.turn.HandOver.TheVariants.{Sample as sample_for}
+use Rattle.zs_core.specs.declared.turn.Kind.TheVariants.{Subscriber}
+use Rattle.zs_core.specs.declared.subscriber.SubRow.{SubRow}
+
+-- a publication: made in this session, for a destination, or come in from the network
+pub record Publication : Type 0 where
+  pub local : Bool
+  pub destination : Locality
+  pub sample : SampleFields
+
+-- a destination or an origin that has this session in it
+abbrev pub has_session : Locality → Bool
+has_session SessionLocal = true
+has_session Remote = false
+has_session Any = true
+
+-- a destination or an origin that has the network in it
+abbrev pub has_network : Locality → Bool
+has_network SessionLocal = false
+has_network Remote = true
+has_network Any = true
+
+-- a local publication reaches this session's subscribers for local data, an incoming one those for network data
+abbrev pub reaches : Bool → Locality → Locality → Bool
+reaches local destination origin =
+    if local then (has_session destination && has_session origin) else has_network origin
+
+-- whether a subscriber is handed a publication: by locality, and by key
+abbrev pub allows : Publication → SubRow → Bool
+allows p row = reaches p.local p.destination row.origin && intersects p.sample.key_expr.text row.key.text
+
+-- the sample of a put on this text: the empty encoding is the default, and a priority outside 1 to 7 is Data
+abbrev pub put_sample : List ℕ → List ℕ → List ℕ → QoSType → Bool → SampleFields
+put_sample text payload encoding qos reliable = record {
+  key_expr = undeclared text;
+  payload = payload;
+  kind = put_kind;
+  encoding = encoding_of encoding;
+  express = qos.express;
+  priority = priority_of qos.priority;
+  congestion_control = qos.congestion;
+  reliability = if reliable then Reliable else BestEffort;
+}
+
+-- one sample for each subscriber that is allowed it, in the order of the rows
+abbrev pub hands : Publication → List SubRow → List Effect
+hands p rows = map (λ row. Hand (sample_for Subscriber row.id p.sample)) (filter (allows p) rows)

@@ -1,0 +1,15 @@
+use Rattle.std.specs.Prelude.{ℕ, Bool, nat_lt, nat_le, ◌&&◌}
+use Rattle.zs_core.specs.declared.settings.Settings.{Settings}
+
+-- the last entity number, which no entity draws
+abbrev pub last_entity : ℕ
+last_entity = 4294967295
+
+-- the settings where none are given: the session is entity 1, lines have at most 65536 bytes, and there are
+-- 4294967296 reads
+abbrev pub default_settings : Settings
+default_settings = record { entity_start = 1; line_max = 65536; turns = 4294967296 }
+
+-- settings that a session can be opened with
+abbrev pub is_valid : Settings → Bool
+is_valid s = nat_lt s.entity_start last_entity && nat_le 1 s.line_max && nat_le s.line_max 1048576 && nat_le 1 s.turns

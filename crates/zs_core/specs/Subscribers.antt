@@ -1,0 +1,29 @@
+use Rattle.std.specs.Prelude.{ℕ, Bool, not, ◌==◌, List, [], ◌∷◌, Option, Some, None, map, filter}
+use Rattle.std.specs.List.{list_any}
+use Rattle.zs_keys.specs.Key.{undeclared}
+use Rattle.zs_core.specs.declared.event.Event.{Event}
+use Rattle.zs_core.specs.declared.event.Event.TheVariants.{Sub, Undeclare, Close}
+use Rattle.zs_core.specs.declared.event.EntityKind.TheVariants.{Sub as sub_kind}
+use Rattle.zs_core.specs.declared.turn.Effect.{Effect}
+use Rattle.zs_core.specs.declared.turn.Effect.TheVariants.{End}
+use Rattle.zs_core.specs.declared.turn.Kind.TheVariants.{Subscriber}
+use Rattle.zs_core.specs.declared.subscriber.SubRow.{SubRow}
+
+-- the subscriber that an event declares, given the number that it drew and the text of its key
+abbrev pub sub_row : Event → Option ℕ → Option (List ℕ) → List SubRow
+sub_row (Sub origin key) (Some number) (Some text) = record { id = number; origin = origin; key = undeclared text } ∷ []
+sub_row e number text = []
+
+-- whether there is a subscriber of that number
+abbrev pub is_sub : ℕ → List SubRow → Bool
+is_sub id rows = list_any (λ row. row.id == id) rows
+
+-- the subscribers that live on after an event
+abbrev pub subs_left : Event → List SubRow → List SubRow
+subs_left (Undeclare sub_kind id) rows = filter (λ row. not (row.id == id)) rows
+subs_left Close rows = []
+subs_left e rows = rows
+
+-- what tells that these subscribers are called no more
+abbrev pub sub_ends : List SubRow → List Effect
+sub_ends rows = map (λ row. End Subscriber row.id) rows

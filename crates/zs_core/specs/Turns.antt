@@ -1,0 +1,115 @@
+use Rattle.std.specs.Prelude.{ℕ, Bool, true, false, not, nat_lt, ◌-◌, List, [], ◌∷◌, ◌++◌, Option, Some, None, if◌then◌else◌, encode_utf8_all}
+use Rattle.zs_sample.specs.declared.locality.Locality.{Locality}
+use Rattle.zs_sample.specs.declared.locality.Locality.TheVariants.{Any}
+use Rattle.zs_sample.specs.declared.quality.QoSType.{QoSType}
+use Rattle.zs_core.specs.declared.event.Event.{Event}
+use Rattle.zs_core.specs.declared.event.Event.TheVariants.{Sub, Undeclare, Put, NetPut, Close}
+use Rattle.zs_core.specs.declared.event.EntityKind.TheVariants.{Sub as sub_kind}
+use Rattle.zs_core.specs.declared.turn.Effect.TheVariants.{End}
+use Rattle.zs_core.specs.declared.turn.Kind.TheVariants.{Subscriber}
+use Rattle.zs_core.specs.declared.event.KeyArg.{KeyArg}
+use Rattle.zs_core.specs.declared.turn.Effect.{Effect}
+use Rattle.zs_core.specs.declared.turn.Refusal.{Refusal}
+use Rattle.zs_core.specs.declared.turn.Refusal.TheVariants.{SessionClosedError, NotFound, BadKeyExpr, IdsExhausted, Ignored}
+use Rattle.zs_core.specs.declared.turn.Turn.{Turn}
+use Rattle.zs_core.specs.Settings.{last_entity}
+use Rattle.zs_core.specs.Turn.{answered}
+use Rattle.zs_core.specs.World.{World}
+use Rattle.zs_core.specs.Keys.{key_of, is_bad}
+use Rattle.zs_core.specs.Subscribers.{is_sub, sub_ends}
+use Rattle.zs_core.specs.Publications.{Publication, put_sample, hands}
+
+-- the refusal where the test holds, else the next one
+abbrev pub refused_if : Bool → Refusal → Option Refusal → Option Refusal
+refused_if true refusal next = Some refusal
+refused_if false refusal next = next
+
+-- a counter that has no number left to draw
+abbrev pub is_spent : ℕ → Bool
+is_spent next = nat_lt (last_entity - next) 1
+
+-- what a closed session refuses: whatever declares or publishes, and whatever comes in
+abbrev pub closed_cause : Event → Option Refusal
+closed_cause (Undeclare kind id) = None
+closed_cause (NetPut key payload encoding qos reliable) = Some Ignored
+closed_cause Close = None
+closed_cause e = Some SessionClosedError
+
+-- why a subscriber is refused: its key, or that no number is left for it
+abbrev pub sub_cause : World → KeyArg → Option Refusal
+sub_cause w key =
+    refused_if (is_bad (key_of w key)) BadKeyExpr (refused_if (is_spent w.counters.entity) IdsExhausted None)
+
+-- why an undeclaration of a subscriber is refused: nothing of that number lives
+abbrev pub undeclare_sub_cause : World → ℕ → Option Refusal
+undeclare_sub_cause w id = refused_if (not (is_sub id w.entities.subs)) NotFound None
+
+-- why a publication on the text of a key is refused: that text
+abbrev pub publication_cause : Option (List ℕ) → Option Refusal
+publication_cause text = refused_if (is_bad text) BadKeyExpr None
+
+-- why an open session refuses an event, the first cause in the order of `Refusal`
+abbrev pub open_cause : World → Event → Option Refusal
+open_cause w (Sub origin key) = sub_cause w key
+open_cause w (Undeclare sub_kind id) = undeclare_sub_cause w id
+open_cause w (Put destination key payload encoding qos reliable) = publication_cause (key_of w key)
+open_cause w (NetPut key payload encoding qos reliable) = publication_cause (Some (encode_utf8_all key))
+open_cause w Close = None
+
+-- why an event is refused, if it is
+abbrev pub cause : World → Event → Option Refusal
+cause w e = if w.closed then closed_cause e else open_cause w e
+
+-- the number that an accepted event draws, if it draws one
+abbrev pub number_for : World → Event → Option ℕ
+number_for w (Sub origin key) = Some w.counters.entity
+number_for w e = None
+
+-- the text of the event's key, if it has one
+abbrev pub text_for : World → Event → Option (List ℕ)
+text_for w (Sub origin key) = key_of w key
+text_for w (Put destination key payload encoding qos reliable) = key_of w key
+text_for w (NetPut key payload encoding qos reliable) = Some (encode_utf8_all key)
+text_for w e = None
+
+-- a put on the text of a key, made here for a destination, or come in
+abbrev pub put_of : Bool → Locality → Option (List ℕ) → List ℕ → List ℕ → QoSType → Bool → Option Publication
+put_of local destination None payload encoding qos reliable = None
+put_of local destination (Some text) payload encoding qos reliable =
+    Some (record { local = local; destination = destination; sample = put_sample text payload encoding qos reliable })
+
+-- the publication that an event is, given the text of its key
+abbrev pub publication_of : Option (List ℕ) → Event → Option Publication
+publication_of text (Put destination key payload encoding qos reliable) = put_of true destination text payload encoding qos reliable
+publication_of text (NetPut key payload encoding qos reliable) = put_of false Any text payload encoding qos reliable
+publication_of text e = None
+
+-- what a publication brings about
+abbrev pub hands_for : World → Option Publication → List Effect
+hands_for w None = []
+hands_for w (Some p) = hands p w.entities.subs
+
+-- what an accepted event brings about, but for what matching listeners hear
+abbrev pub effects_of : World → Event → List Effect
+effects_of w (Undeclare sub_kind id) = End Subscriber id ∷ []
+effects_of w (Put destination key payload encoding qos reliable) =
+    hands_for w (put_of true destination (key_of w key) payload encoding qos reliable)
+effects_of w (NetPut key payload encoding qos reliable) =
+    hands_for w (put_of false Any (Some (encode_utf8_all key)) payload encoding qos reliable)
+effects_of w Close = sub_ends w.entities.subs
+effects_of w e = []
+
+-- the list with more behind it
+abbrev pub added : {A : Type 0} → List A → List A → List A
+added xs [] = xs
+added xs (y ∷ ys) = xs ++ (y ∷ ys)
+
+-- what matching listeners hear between the world before an event and the world after it: there are none yet
+abbrev pub matching : World → World → List Effect
+matching w v = []
+
+-- what a session makes of an event, w being the world before it and v the world after it
+abbrev pub turn_of : World → World → Event → Turn
+turn_of w v e =
+    if w.closed then answered (closed_cause e) None []
+    else answered (open_cause w e) (number_for w e) (added (effects_of w e) (matching w v))

@@ -1,0 +1,18 @@
+use Rattle.std.specs.Prelude.{ℕ, Bool, List}
+use Rattle.zs_core.specs.declared.settings.Settings.{Settings}
+use Rattle.zs_core.specs.declared.subscriber.SubRow.{SubRow}
+
+-- the next number of each sort
+pub record Counters : Type 0 where
+  pub entity : ℕ
+
+-- what the application has declared and not ended, ascending by number
+pub record Entities : Type 0 where
+  pub subs : List SubRow
+
+-- all that a session is at a moment, as plain lists and counters
+pub record World : Type 0 where
+  pub settings : Settings
+  pub closed : Bool
+  pub counters : Counters
+  pub entities : Entities

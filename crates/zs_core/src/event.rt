@@ -1,0 +1,50 @@
+use zs_sample::{Locality, QoSType, Text, ZBytes};
+
+/// The key of an event, as the application gave it.
+#[derive(Debug, Drop)]
+pub enum KeyArg {
+    /// A text, not tested yet.
+    Text(Text),
+}
+
+/// The sorts of entities that an application can undeclare.
+#[derive(Clone, Copy, Debug, PartialEq, Eq, Hash)]
+pub enum EntityKind {
+    Sub,
+}
+
+/// What can happen to a session.
+#[derive(Debug, Drop)]
+pub enum Event {
+    /// The application declares a subscriber, which takes publications of this origin.
+    Sub {
+        origin: Locality,
+        key: KeyArg,
+    },
+    /// The application ends what it declared under this number.
+    Undeclare {
+        kind: EntityKind,
+        id: u32,
+    },
+    /// The application puts a value on a key, for subscribers of this destination.
+    Put {
+        destination: Locality,
+        key: KeyArg,
+        payload: ZBytes,
+        /// The empty text is the default encoding.
+        encoding: Text,
+        qos: QoSType,
+        reliable: bool,
+    },
+    /// A put comes in from the network, on a key that is no canonical key expression perhaps.
+    NetPut {
+        key: Text,
+        payload: ZBytes,
+        /// The empty text is the default encoding.
+        encoding: Text,
+        qos: QoSType,
+        reliable: bool,
+    },
+    /// The application closes the session.
+    Close,
+}

@@ -1,0 +1,44 @@
+ghost use Rattle.std.specs.Prelude.{◌≡◌};
+ghost use Rattle.zs_core.specs.Settings.{is_valid};
+
+/// The most bytes that any settings allow a line.
+pub const LINE_MAX: u32 = 1 << 20;
+
+/// What a session is opened with.
+#[derive(Clone, Copy, Debug, PartialEq, Eq, Hash)]
+pub struct Settings {
+    /// The number of the session itself among the entities: the first one that it declares has the next.
+    pub entity_start: u32,
+    /// How many bytes a line of a script may have.
+    pub line_max: u32,
+    /// How many reads of its input a run makes at most.
+    pub turns: u64,
+}
+
+impl Settings {
+    /// Whether a session can be opened with them: there is a number left for an entity, lines may have from 1 to
+    /// 1048576 bytes, and there is at least one read.
+    pub fn is_valid(&self) -> bool
+        ensures { result ≡ is_valid self.now }
+    {
+        self.entity_start < u32::MAX
+            && self.line_max >= 1
+            && self.line_max <= LINE_MAX
+            && self.turns >= 1
+    }
+}
+
+impl Default for Settings {
+    ghost use Rattle.std.specs.Prelude.{◌≡◌};
+    ghost use Rattle.zs_core.specs.Settings.{default_settings};
+
+    ghost is_default = { λ s. s ≡ default_settings };
+
+    fn default() -> Settings {
+        Settings {
+            entity_start: 1,
+            line_max: 65536,
+            turns: 1 << 32,
+        }
+    }
+}

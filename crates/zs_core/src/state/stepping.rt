@@ -1,0 +1,51 @@
+ghost use Rattle.std.specs.Prelude.{◌≡◌, [], true, IsTrue, IfOk, OnErr};
+ghost use Rattle.zs_core.specs.Settings.{is_valid};
+ghost use Rattle.zs_core.specs.Turn.{was_refused};
+ghost use Rattle.zs_core.specs.Stands.{world_after, Steps, Previews};
+
+use super::SessionState;
+use crate::event::Event;
+use crate::settings::Settings;
+use crate::turn::Turn;
+use std::alloc::{AllocError, Global};
+
+impl SessionState {
+    /// An open session in which nothing is declared. It keeps the allocator.
+    pub fn new(alloc: Global, settings: &Settings) -> Result<SessionState, AllocError>
+        requires { IsTrue (is_valid settings.now) }
+        ensures { IfOk result (λ state. state ≡ world_after settings.now []) }
+    {
+        Ok(SessionState {
+            alloc,
+            settings: *settings,
+            closed: false,
+            next_entity: settings.entity_start + 1,
+            subs: Vec::new(alloc),
+        })
+    }
+
+    /// The turn that `step` would give for the event.
+    pub fn preview(&self, event: &Event) -> Result<Turn, AllocError>
+        ensures { IfOk result (λ turn. Previews self.now event.now turn) }
+    {
+        self.turn_for(event)
+    }
+
+    /// Takes one event: gives its turn, and changes the session as the event says. What takes memory comes
+    /// first, so at an `Err` the session is as it was.
+    pub fn step(&mut self, event: &Event) -> Result<Turn, AllocError>
+        ensures ok { IfOk result (λ turn. Steps self.old self.new event.now turn) }
+        ensures refused { IfOk result (λ turn. was_refused turn.answer ≡ true → self.new ≡ self.old) }
+        ensures err { OnErr result (self.new ≡ self.old) }
+    {
+        let turn = self.turn_for(event)?;
+        if self.closed {
+            return Ok(turn);
+        }
+        if turn.is_refused() {
+            return Ok(turn);
+        }
+        self.change(event)?;
+        Ok(turn)
+    }
+}

@@ -1,0 +1,106 @@
+ghost use Rattle.std.specs.Prelude.{◌≡◌, ◌==◌, not, [], ◌∷◌, Some, None, filter, IfOk, OnOk, OnErr};
+ghost use Rattle.zs_core.specs.Turn.{answered};
+ghost use Rattle.zs_core.specs.Turns.{sub_cause, undeclare_sub_cause};
+ghost use Rattle.zs_core.specs.Subscribers.{is_sub, sub_ends};
+ghost use Rattle.zs_core.specs.After.{after};
+
+use super::SessionState;
+use super::keys::own_key;
+use crate::event::{EntityKind, Event, KeyArg};
+use crate::subscriber::SubRow;
+use crate::turn::{Effect, Effects, Kind, Refusal, Turn};
+use std::alloc::{AllocError, Global};
+use zs_keys::KeyExpr;
+use zs_sample::Locality;
+
+impl SessionState {
+    pub(super) fn preview_sub(&self, key: &KeyArg) -> Turn
+        ensures { result ≡ answered (sub_cause self.now key.now) (Some self.now.counters.entity) [] }
+    {
+        if KeyExpr::new(self.text_of(key)).is_err() {
+            return Turn::refused(self.alloc, Refusal::BadKeyExpr);
+        }
+        if u32::MAX - self.next_entity < 1 {
+            return Turn::refused(self.alloc, Refusal::IdsExhausted);
+        }
+        Turn::quiet(self.alloc, Some(self.next_entity))
+    }
+
+    pub(super) fn change_sub(&mut self, origin: Locality, key: &KeyArg) -> Result<(), AllocError>
+        requires { sub_cause self.old key.now ≡ None }
+        ensures ok { OnOk result (self.new ≡ after self.old (Event.Sub origin key.now)) }
+        ensures err { OnErr result (self.new ≡ self.old) }
+    {
+        let text = self.text_of(key);
+        let row = SubRow {
+            id: self.next_entity,
+            origin,
+            key: own_key(self.alloc, text)?,
+        };
+        self.subs.push(row)?;
+        self.next_entity += 1;
+        Ok(())
+    }
+
+    pub(super) fn preview_undeclare_sub(&self, id: u32) -> Result<Turn, AllocError>
+        ensures { IfOk result (λ turn.
+            turn ≡ answered (undeclare_sub_cause self.now id) None (Effect.End Kind.Subscriber id ∷ [])) }
+    {
+        if !is_sub(id, &self.subs) {
+            return Ok(Turn::refused(self.alloc, Refusal::NotFound));
+        }
+        let mut effects = Effects::new(self.alloc);
+        effects.push(Effect::End {
+            kind: Kind::Subscriber,
+            id,
+        })?;
+        Ok(Turn::of(effects))
+    }
+
+    pub(super) fn change_undeclare_sub(&mut self, id: u32)
+        ensures { self.new ≡ after self.old (Event.Undeclare EntityKind.Sub id) }
+    {
+        leave_out(id, &mut self.subs);
+    }
+
+    pub(super) fn preview_close(&self) -> Result<Turn, AllocError>
+        ensures { IfOk result (λ turn. turn ≡ answered None None (sub_ends self.now.entities.subs)) }
+    {
+        Ok(Turn::of(ends_of(self.alloc, &self.subs)?))
+    }
+
+    pub(super) fn change_close(&mut self)
+        ensures { self.new ≡ after self.old Event.Close }
+    {
+        self.closed = true;
+        self.subs.clear();
+    }
+}
+
+/// Whether there is a subscriber of that number.
+fn is_sub(id: u32, rows: &[SubRow]) -> bool
+    ensures { result ≡ is_sub id rows.now }
+{
+    rows.iter().any(|row| row.id == id)
+}
+
+/// Takes the subscriber of that number out.
+fn leave_out(id: u32, rows: &mut Vec<SubRow>)
+    ensures { rows.new.items ≡ filter (λ row. not (row.id == id)) rows.old.items }
+{
+    rows.retain(|row| row.id != id);
+}
+
+/// That these subscribers are called no more.
+fn ends_of(alloc: Global, rows: &[SubRow]) -> Result<Effects, AllocError>
+    ensures { IfOk result (λ effects. effects ≡ sub_ends rows.now) }
+{
+    let mut effects = Effects::new(alloc);
+    for row in rows {
+        effects.push(Effect::End {
+            kind: Kind::Subscriber,
+            id: row.id,
+        })?;
+    }
+    Ok(effects)
+}
