@@ -1,0 +1,191 @@
+-- The events of lines without line feeds are plain.
+use Rattle.std.proofs.Common.{ℕ, zero, suc, ◌≡◌, ◌+◌, ◌<◌, ◌≤◌, ◌==◌, Bool, true, false, not, nat_lt, List, [], ◌∷◌, length, get_or, drop, Option, Some, None, IfSome, refl, subst, ap, ◌∙◌, arith, cond, codes, inl, inr, option_map, option_and_then, encode_utf8_all}
+use Rattle.std.specs.List.{list_all, position_or_len, onto_first, AllByRecursion}
+use Rattle.std.specs.Str.{IsUtf8, is_utf8, chars, bytes_eq}
+use Rattle.std.proofs.lemmas.Bool.{and_parts, and_from, cases_lt, eqb-true, ltb-true}
+use Rattle.std.proofs.lemmas.List.Splits.{slice_split_first}
+use Rattle.std.proofs.lemmas.List.Sums.{passes_at_first}
+use Rattle.std.proofs.lemmas.List.{length-drop}
+use Rattle.std.proofs.lemmas.Str.{IsUtf8-nil, IsUtf8-take, IsUtf8-drop, IsCharBoundary-before_ascii, IsCharBoundary-after_ascii, IsUtf8-from_is_utf8, encodes-chars}
+use Rattle.zs_core.specs.declared.event.KeyArg.{KeyArg}
+use Rattle.zs_core.specs.declared.event.KeyArg.TheVariants.{Text}
+use Rattle.zs_core.specs.declared.event.Event.{Event}
+use Rattle.zs_core.specs.declared.event.Event.TheVariants.{Sub, Undeclare, Put, NetPut}
+use Rattle.zs_script.specs.Lines.{fields}
+use Rattle.zs_script.specs.Symbols.{number_of, u32_max, locality_of, is_numbered, key_of, bytes_of, after_prefix, wire_of}
+use Rattle.zs_script.specs.Grammar.{default_encoding, default_qos, sub_of, entity_kind_of, undeclare_of, put_of, push_of, net_of, event_of_fields, event_of}
+use Rattle.zs_script.specs.Plain.{has_no_line_feed, is_plain, is_plain_key, is_plain_event}
+use Rattle.zs_script.specs.Laws.{EventsArePlain}
+use Rattle.zs_script.proofs.PlainTexts.{fields-plain}
+
+-- a text that can stand in a field
+abbrev pub IsText : List ℕ → Type 0
+IsText text = (is_plain text ≡ true) × IsUtf8 text
+
+abbrev tab_at : List ℕ → ℕ
+tab_at bytes = position_or_len (λ b. b == 9) bytes
+
+-- the fields of a text are texts
+fields-whole : (bs : List ℕ) → length bs ≤ tab_at bs → fields bs ≡ bs ∷ []
+fields-whole [] h = refl
+fields-whole (b ∷ bs) h =
+    (elim (b == 9) as (λ t. length (b ∷ bs) ≤ cond (not t) (1 + tab_at bs) 0
+    → cond t ([] ∷ fields bs) (onto_first b (fields bs)) ≡ (b ∷ bs) ∷ [])
+    [ true ↦ λ m. absurd (omega arith) | false ↦ λ m. ap (onto_first b) (fields-whole bs (omega arith)) ]) h
+
+fields-utf8 : (n : ℕ) (bs : List ℕ) → length bs ≤ n → IsUtf8 bs → AllByRecursion IsUtf8 (fields bs)
+fields-utf8 zero [] h u = (IsUtf8-nil, tt)
+fields-utf8 zero (b ∷ bs) h u = absurd (omega arith)
+fields-utf8 (suc n) bs h u =
+    elim (cases_lt (tab_at bs) (length bs)) [
+      | inl lt ↦
+          let is : get_or bs (tab_at bs) 0 ≡ 9 = eqb-true _ _ (passes_at_first (λ b. b == 9) bs 0 lt) in
+          let before = IsUtf8-take bs (tab_at bs) u (IsCharBoundary-before_ascii bs (tab_at bs) lt (omega arith)) in
+          let after = IsUtf8-drop bs (tab_at bs + 1) u (IsCharBoundary-after_ascii bs (tab_at bs) u lt (omega arith)) in
+          rw (slice_split_first (λ b. b == 9) bs 0 lt)
+          (before, fields-utf8 n (drop (tab_at bs + 1) bs) (omega (arith, length-drop (tab_at bs + 1) bs)) after)
+      | inr ge ↦ rw (fields-whole bs ge) (u, tt)
+    ]
+
+both-texts : (parts : List (List ℕ)) → list_all is_plain parts ≡ true → AllByRecursion IsUtf8 parts
+    → AllByRecursion IsText parts
+both-texts [] h u = tt
+both-texts (part ∷ parts) h u =
+    let both = and_parts (is_plain part) (list_all is_plain parts) h in
+    ((both.0, u.0), both-texts parts both.1 u.1)
+
+-- what holds of each value that there may be
+on-map : {A B : Type 0} (f : A → B) (P : A → Type 0) (Q : B → Type 0) → ((a : A) → P a → Q (f a)) → (o : Option A)
+    → IfSome o P → IfSome (option_map f o) Q
+on-map f P Q each None h = tt
+on-map f P Q each (Some a) h = each a h
+
+on-then : {A B : Type 0} (f : A → Option B) (P : A → Type 0) (Q : B → Type 0) → ((a : A) → P a → IfSome (f a) Q)
+    → (o : Option A) → IfSome o P → IfSome (option_and_then f o) Q
+on-then f P Q each None h = tt
+on-then f P Q each (Some a) h = each a h
+
+on-any : {A : Type 0} (o : Option A) → IfSome o (λ _. Unit {0})
+on-any None = tt
+on-any (Some a) = tt
+
+on-choice : {A : Type 0} (b : Bool) (Q : A → Type 0) (x y : Option A) → IfSome x Q → IfSome y Q → IfSome (cond b x y) Q
+on-choice true Q x y h k = h
+on-choice false Q x y h k = k
+
+-- the symbols
+abbrev PlainKey : KeyArg → Type 0
+PlainKey key = is_plain_key key ≡ true
+
+abbrev PlainChars : List ℕ → Type 0
+PlainChars text = is_plain (encode_utf8_all text) ≡ true
+
+abbrev PlainEvent : Event → Type 0
+PlainEvent event = is_plain_event event ≡ true
+
+chars-plain : (field : List ℕ) → IsText field → PlainChars (chars field)
+chars-plain field h = ap is_plain (encodes-chars field h.1) ∙ h.0
+
+key-plain : (field : List ℕ) → IsText field → IfSome (key_of field) PlainKey
+key-plain field h = on-choice (is_numbered field) PlainKey None (Some (Text (chars field))) tt (chars-plain field h)
+
+behind-text : (b : ℕ) (bs : List ℕ) → b < 128 → IsText (b ∷ bs) → IsText bs
+behind-text b bs small h = (
+  (and_parts _ (is_plain bs) h.0).1,
+  IsUtf8-drop (b ∷ bs) 1 h.1 (IsCharBoundary-after_ascii (b ∷ bs) 0 h.1 (omega arith) small),
+)
+
+prefix-text : (front field : List ℕ) → list_all (λ b. nat_lt b 128) front ≡ true → IsText field
+    → IfSome (after_prefix front field) IsText
+prefix-text [] field small h = h
+prefix-text (p ∷ ps) [] small h = tt
+prefix-text (p ∷ ps) (b ∷ bs) small h =
+    let both = and_parts (nat_lt p 128) (list_all (λ c. nat_lt c 128) ps) small in
+    elim (p == b) as (λ t. (p == b) ≡ t → IfSome (cond t (after_prefix ps bs) None) IsText) [
+      | true ↦ λ e. let same : p ≡ b = eqb-true p b e in
+          let less : p < 128 = ltb-true p 128 both.0 in
+          prefix-text ps bs both.1 (behind-text b bs (omega arith) h)
+      | false ↦ λ e. tt
+    ] refl
+
+wire-plain : (field : List ℕ) → IsText field → IfSome (wire_of field) PlainChars
+wire-plain field h =
+    on-map chars IsText PlainChars chars-plain (after_prefix (codes "s0:") field) (prefix-text (codes "s0:") field refl h)
+
+default-plain : PlainChars default_encoding
+unfolding lib.Utf8.encode
+default-plain = refl
+
+-- the forms of lines
+sub-plain : (rest : List (List ℕ)) → AllByRecursion IsText rest → IfSome (sub_of rest) PlainEvent
+sub-plain [] h = tt
+sub-plain (place ∷ []) h = tt
+sub-plain (place ∷ key ∷ []) h =
+    on-then (λ origin. option_map (λ arg. Sub origin arg) (key_of key)) (λ _. Unit {0}) PlainEvent
+    (λ origin _. on-map (λ arg. Sub origin arg) PlainKey PlainEvent (λ arg k. k) (key_of key) (key-plain key h.1.0))
+    (locality_of place) (on-any (locality_of place))
+sub-plain (place ∷ key ∷ more ∷ rest) h = tt
+
+undeclare-plain : (rest : List (List ℕ)) → IfSome (undeclare_of rest) PlainEvent
+undeclare-plain [] = tt
+undeclare-plain (kind ∷ []) = tt
+undeclare-plain (kind ∷ number ∷ []) =
+    on-then (λ k. option_map (λ id. Undeclare k id) (number_of u32_max number)) (λ _. Unit {0}) PlainEvent
+    (λ k _. on-map (λ id. Undeclare k id) (λ _. Unit {0}) PlainEvent (λ id _. refl) (number_of u32_max number) (on-any _))
+    (entity_kind_of kind) (on-any (entity_kind_of kind))
+undeclare-plain (kind ∷ number ∷ more ∷ rest) = tt
+
+put-plain : (rest : List (List ℕ)) → AllByRecursion IsText rest → IfSome (put_of rest) PlainEvent
+put-plain [] h = tt
+put-plain (place ∷ []) h = tt
+put-plain (place ∷ key ∷ []) h = tt
+put-plain (place ∷ key ∷ bytes ∷ []) h =
+    on-then (λ destination. option_and_then (λ arg. option_map (λ payload.
+    Put destination arg payload default_encoding default_qos true) (bytes_of bytes)) (key_of key)) (λ _. Unit {0}) PlainEvent
+    (λ destination _. on-then (λ arg. option_map (λ payload.
+    Put destination arg payload default_encoding default_qos true) (bytes_of bytes)) PlainKey PlainEvent
+    (λ arg k. on-map (λ payload. Put destination arg payload default_encoding default_qos true) (λ _. Unit {0}) PlainEvent
+    (λ payload _. and_from _ _ k default-plain) (bytes_of bytes) (on-any _))
+    (key_of key) (key-plain key h.1.0))
+    (locality_of place) (on-any (locality_of place))
+put-plain (place ∷ key ∷ bytes ∷ more ∷ rest) h = tt
+
+push-plain : (rest : List (List ℕ)) → AllByRecursion IsText rest → IfSome (push_of rest) PlainEvent
+push-plain [] h = tt
+push-plain (wire ∷ []) h = tt
+push-plain (wire ∷ word ∷ []) h = tt
+push-plain (wire ∷ word ∷ bytes ∷ []) h =
+    on-choice (bytes_eq word (codes "put")) PlainEvent _ None
+    (on-then (λ text. option_map (λ payload.
+    NetPut text payload default_encoding default_qos true) (bytes_of bytes)) PlainChars PlainEvent
+    (λ text k. on-map (λ payload. NetPut text payload default_encoding default_qos true) (λ _. Unit {0}) PlainEvent
+    (λ payload _. and_from _ _ k default-plain) (bytes_of bytes) (on-any _))
+    (wire_of wire) (wire-plain wire h.0))
+    tt
+push-plain (wire ∷ word ∷ bytes ∷ more ∷ rest) h = tt
+
+net-plain : (rest : List (List ℕ)) → AllByRecursion IsText rest → IfSome (net_of rest) PlainEvent
+net-plain [] h = tt
+net-plain (word ∷ rest) h = on-choice (bytes_eq word (codes "push")) PlainEvent (push_of rest) None (push-plain rest h.1) tt
+
+fields-event : (parts : List (List ℕ)) → AllByRecursion IsText parts → IfSome (event_of_fields parts) PlainEvent
+fields-event [] h = tt
+fields-event (word ∷ rest) h =
+    on-choice (bytes_eq word (codes "sub")) PlainEvent (sub_of rest) _ (sub-plain rest h.1)
+    (on-choice (bytes_eq word (codes "undeclare")) PlainEvent (undeclare_of rest) _ (undeclare-plain rest)
+    (on-choice (bytes_eq word (codes "put")) PlainEvent (put_of rest) _ (put-plain rest h.1)
+    (on-choice (bytes_eq word (codes "net")) PlainEvent (net_of rest) None (net-plain rest h.1) tt)))
+
+line-event : (bytes : List ℕ) → has_no_line_feed bytes ≡ true → IfSome (event_of bytes) PlainEvent
+unfolding event_of
+line-event bytes h =
+    elim (is_utf8 bytes) as (λ t. is_utf8 bytes ≡ t → IfSome (cond t (event_of_fields (fields bytes)) None) PlainEvent) [
+      | true ↦ λ e. fields-event (fields bytes) (both-texts (fields bytes) (fields-plain bytes h)
+          (fields-utf8 (length bytes) bytes (omega arith) (IsUtf8-from_is_utf8 bytes e)))
+      | false ↦ λ e. tt
+    ] refl
+
+pub events-plain : EventsArePlain
+events-plain bytes event h e =
+    let P : Option Event → Type 0 = λ o. IfSome o PlainEvent in
+    subst P e (line-event bytes h)

@@ -1,0 +1,9 @@
+pub mod Lines
+pub mod Fields
+pub mod Symbols
+pub mod Grammar
+pub mod Printing
+pub mod Reading
+pub mod Writing
+pub mod Plain
+pub mod Laws

@@ -1,0 +1,63 @@
+-- The symbols that the forms of lines are made of, each read from one field.
+use Rattle.std.specs.Prelude.{ℕ, ◌+◌, ◌*◌, ◌-◌, Bool, false, nat_le, ◌==◌, ◌&&◌, is_some, List, [], ◌∷◌, Option, Some, None, option_map, codes, if◌then◌else◌}
+use Rattle.std.specs.List.{before_first}
+use Rattle.std.specs.Str.{bytes_eq, chars}
+use Rattle.std.specs.Result.{result_ok}
+use Rattle.hex.specs.Hex.{decode_of}
+use Rattle.zs_sample.specs.declared.locality.Locality.{Locality}
+use Rattle.zs_sample.specs.declared.locality.Locality.TheVariants.{SessionLocal, Remote, Any}
+use Rattle.zs_core.specs.declared.event.KeyArg.{KeyArg}
+use Rattle.zs_core.specs.declared.event.KeyArg.TheVariants.{Text}
+
+-- a decimal digit
+abbrev pub is_digit : ℕ → Bool
+is_digit b = nat_le 48 b && nat_le b 57
+
+-- the number that these digits end, where those before them make n and it is to be at most max
+abbrev pub number_from : ℕ → ℕ → List ℕ → Option ℕ
+number_from max n [] = if nat_le n max then Some n else None
+number_from max n (b ∷ bs) = if is_digit b && nat_le n max then number_from max (10 * n + (b - 48)) bs else None
+
+-- a number in decimal digits, at most max: `0`, or digits that do not begin with one
+abbrev pub number_of : ℕ → List ℕ → Option ℕ
+number_of max [] = None
+number_of max (b ∷ []) = number_from max 0 (b ∷ [])
+number_of max (b ∷ c ∷ bs) = if b == 48 then None else number_from max 0 (b ∷ c ∷ bs)
+
+-- the greatest number of an entity, and of a declared key
+abbrev pub u32_max : ℕ
+u32_max = 4294967295
+
+abbrev pub u16_max : ℕ
+u16_max = 65535
+
+-- a word for the origin of a subscriber, or the destination of a publication
+abbrev pub locality_of : List ℕ → Option Locality
+locality_of field =
+    if bytes_eq field (codes "any") then Some Any else
+    if bytes_eq field (codes "local") then Some SessionLocal else
+    if bytes_eq field (codes "remote") then Some Remote else None
+
+-- the form of a declared number, with or without a suffix: `#` and a number, then nothing or `:` and any text
+abbrev pub is_numbered : List ℕ → Bool
+is_numbered [] = false
+is_numbered (b ∷ bs) = b == 35 && is_some (number_of u16_max (before_first (λ c. c == 58) bs))
+
+-- a key: a text, which need not be canonical. Declared numbers have no event yet
+abbrev pub key_of : List ℕ → Option KeyArg
+key_of field = if is_numbered field then None else Some (Text (chars field))
+
+-- bytes: `x` and an even number of hexadecimal digits, of either case
+abbrev pub bytes_of : List ℕ → Option (List ℕ)
+bytes_of [] = None
+bytes_of (b ∷ digits) = if b == 120 then result_ok (decode_of digits) else None
+
+-- what stands behind a prefix
+abbrev pub after_prefix : List ℕ → List ℕ → Option (List ℕ)
+after_prefix [] field = Some field
+after_prefix (p ∷ ps) [] = None
+after_prefix (p ∷ ps) (b ∷ bs) = if p == b then after_prefix ps bs else None
+
+-- a wire expression: the mapping and the scope `s0`, `:`, and the text. Other scopes have no event yet
+abbrev pub wire_of : List ℕ → Option (List ℕ)
+wire_of field = option_map chars (after_prefix (codes "s0:") field)
