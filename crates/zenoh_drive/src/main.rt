@@ -1,0 +1,81 @@
+//! `zenoh_drive` drives a Zenoh session by a script on standard input, and prints every answer and hand-over.
+#![tactic(auto)]
+
+use std::alloc::{AllocError, Global};
+use std::process::ExitCode;
+use std::rt::Env;
+use std::{env, io};
+use zs_session::{StdSink, StdSource, run};
+
+/// The statuses that the program ends with by itself; all others are those of `run`.
+const BAD_WORDS: u8 = 2;
+
+const WRITE_FAULT: u8 = 7;
+
+const NO_MEMORY: u8 = 8;
+
+const USAGE: &str = "\
+usage: zenoh_drive              drives a session by the script on standard input
+       zenoh_drive --help       prints this
+       zenoh_drive --version    prints the version
+
+A script line is one event. A tab stands between its fields:
+  sub LOC KEY                   declares a subscriber
+  undeclare sub N               ends the subscriber of that number
+  put LOC KEY BYTES             puts a value
+  net push s0:KEY put BYTES     a put comes in from the network
+LOC is any, local or remote; KEY is a key expression; BYTES is x and hexadecimal
+digits, two for each byte. The end of input closes the session.
+
+Status: 0 the end was reached; 2 bad words; 3 a line is no event; 4 a line is too
+long; 5 too many reads; 6 the input failed; 7 the output failed; 8 no memory.
+";
+
+/// The words behind the program's name.
+fn words(rt: &(impl Env + AllocGlobal)) -> io::Result<Vec<String>> {
+    let mut words = Vec::new(rt.alloc());
+    for word in env::args(rt)?.skip(1) {
+        words.push(word).map_err(|_| AllocError)?;
+    }
+    Ok(words)
+}
+
+/// Prints a text, and returns the exit status.
+fn printed(rt: &impl Print, text: &str) -> u8 {
+    match rt.print(text) {
+        Ok(()) => 0,
+        Err(_) => WRITE_FAULT,
+    }
+}
+
+/// Writes a complaint, and returns its exit status. A fault of standard error changes nothing.
+fn refused(rt: &impl Eprint, complaint: &str, status: u8) -> u8 {
+    let _ = rt.eprintln(complaint);
+    status
+}
+
+/// What the program does with its words, and its exit status.
+fn status(rt: &HostRuntime, alloc: Global) -> u8 {
+    let words = match words(rt) {
+        Ok(words) => words,
+        Err(error) if error.kind() == io::ErrorKind::OutOfMemory => {
+            return refused(rt, "NoMemory", NO_MEMORY);
+        }
+        Err(_) => return refused(rt, "bad words", BAD_WORDS),
+    };
+    match words.as_slice() {
+        [word] if word.as_str() == "--help" => printed(rt, USAGE),
+        [word] if word.as_str() == "--version" => printed(rt, "zenoh_drive 0.1.0\n"),
+        words => run(
+            alloc,
+            words,
+            &mut StdSource::new(rt.stdin()),
+            &mut StdSink::new(rt.stdout()),
+            &mut StdSink::new(rt.stderr()),
+        ),
+    }
+}
+
+fn main(rt: HostRuntime) -> ExitCode {
+    ExitCode::from(status(&rt, rt.alloc()))
+}

@@ -1,0 +1,6 @@
+pub mod Script
+pub mod Telling
+pub mod Driving
+pub mod Laws
+pub mod Errors
+pub mod Running

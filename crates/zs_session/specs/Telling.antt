@@ -1,0 +1,71 @@
+-- What an output tells of refusals and of hand-overs to subscribers, and what it has to tell of a script.
+use Rattle.std.specs.Prelude.{◌≡◌, ℕ, ◌+◌, Bool, true, false, ◌&&◌, ◌||◌, ◌⊎◌, List, [], ◌∷◌, ◌++◌, length, map, filter, Option, Some, None, bytes_eq, codes, decimal}
+use Rattle.zs_core.specs.declared.event.Event.{Event}
+use Rattle.zs_core.specs.declared.settings.Settings.{Settings}
+use Rattle.zs_core.specs.declared.turn.Answer.TheVariants.{Refused}
+use Rattle.zs_core.specs.declared.turn.Effect.TheVariants.{Hand}
+use Rattle.zs_core.specs.declared.turn.HandOver.TheVariants.{Sample}
+use Rattle.zs_core.specs.declared.turn.Kind.TheVariants.{Subscriber}
+use Rattle.zs_core.specs.declared.turn.Refusal.{Refusal}
+use Rattle.zs_core.specs.Publications.{Publication, allows}
+use Rattle.zs_core.specs.Turns.{text_for, publication_of}
+use Rattle.zs_core.specs.Past.{Entry, past_of, world_of}
+use Rattle.zs_core.specs.Live.{live_subs}
+use Rattle.zs_core.specs.Causes.{has_cause}
+use Rattle.zs_script.specs.Lines.{lines, fields}
+use Rattle.zs_script.specs.Printing.{answer_fields, effect_fields}
+use Rattle.zs_script.specs.Laws.{row}
+
+-- a printed line without its line feed
+abbrev pub plain_line : ℕ → List (List ℕ) → List ℕ
+plain_line number parts = decimal number ++ row parts
+
+-- fields that go on with `sub`
+abbrev pub is_for_sub : List (List ℕ) → Bool
+is_for_sub [] = false
+is_for_sub (kind ∷ more) = bytes_eq kind (codes "sub")
+
+-- the fields behind a line's number tell of a refusal, or of a hand-over to a subscriber
+abbrev pub tells : List (List ℕ) → Bool
+tells [] = false
+tells (word ∷ more) = bytes_eq word (codes "refused") || (bytes_eq word (codes "hand") && is_for_sub more)
+
+-- so does a line
+abbrev pub tells_behind : List (List ℕ) → Bool
+tells_behind [] = false
+tells_behind (number ∷ more) = tells more
+
+abbrev pub is_telling : List ℕ → Bool
+is_telling line = tells_behind (fields line)
+
+-- the lines of an output that tell of refusals and of hand-overs to subscribers
+abbrev pub told : List ℕ → List (List ℕ)
+told output = filter is_telling (lines output)
+
+-- the publication that an event is at its moment, if it is one
+abbrev pub published : Settings → List Entry → Event → Option Publication
+published s past e = publication_of (text_for (world_of s past) e) e
+
+-- one line for each live subscriber whose locality and key allow the publication, in ascending number
+abbrev pub hand_lines : List Entry → ℕ → Option Publication → List (List ℕ)
+hand_lines past number None = []
+hand_lines past number (Some p) =
+    map (λ hearer. plain_line number (effect_fields (Hand (Sample Subscriber hearer.id p.sample)))) (filter (allows p) (live_subs past))
+
+-- the lines tell the event of that number behind these accepted events: a refusal by a cause that holds, and nothing
+-- else, or, where no cause holds, its hand-overs
+abbrev pub Tells : Settings → List Entry → ℕ → Event → List (List ℕ) → Type 0
+Tells s past number e told_lines =
+    ((refusal : Refusal) × (has_cause s past e refusal ≡ true) × (told_lines ≡ plain_line number (answer_fields (Refused refusal)) ∷ []))
+    ⊎ (((refusal : Refusal) → has_cause s past e refusal ≡ false) × (told_lines ≡ hand_lines past number (published s past e)))
+
+-- the lines tell these events behind a history, one event after the other
+abbrev pub ToldAfter : Settings → List Event → List Event → List (List ℕ) → Type 0
+ToldAfter s h [] told_lines = told_lines ≡ []
+ToldAfter s h (e ∷ es) told_lines =
+    (here : List (List ℕ)) × (later : List (List ℕ)) × (told_lines ≡ here ++ later)
+    × Tells s (past_of s h) (length h + 1) e here × ToldAfter s (e ∷ h) es later
+
+-- the lines tell the events of a script from the first one on
+abbrev pub Told : Settings → List Event → List (List ℕ) → Type 0
+Told s es told_lines = ToldAfter s [] es told_lines

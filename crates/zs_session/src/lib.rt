@@ -1,0 +1,16 @@
+//! A session driven by a script: lines in, printed turns out, with the theorem on the whole run.
+#![tactic(auto)]
+
+pub use driving::{Driven, drive};
+pub use errors::DriveError;
+pub use laws::text_tells;
+pub use running::run;
+pub use system::{StdSink, StdSource};
+pub use zs_core::Settings;
+
+mod complaining;
+mod driving;
+mod errors;
+mod laws;
+mod running;
+mod system;
