@@ -14,3 +14,5 @@ mod errors;
 mod laws;
 mod running;
 mod system;
+#[cfg(test)]
+mod tests;
