@@ -65,7 +65,7 @@ before_slash-front (b ∷ bs) front h = by_option (before_slash bs)
     (λ t. let h' : None ≡ Some front = rw (e, t) at h in cc))
 
 -- a text has some chunk
-chunks-some : (bs : List ℕ) → (c : List ℕ) × (cs : List (List ℕ)) × (chunks bs ≡ c ∷ cs)
+pub chunks-some : (bs : List ℕ) → (c : List ℕ) × (cs : List (List ℕ)) × (chunks bs ≡ c ∷ cs)
 chunks-some [] = ([], [], refl)
 chunks-some (b ∷ bs) =
     let (c, cs, is) = chunks-some bs in
@@ -73,7 +73,7 @@ chunks-some (b ∷ bs) =
     (λ h. ([], chunks bs, rw h refl))
     (λ h. (b ∷ c, cs, rw (h, is) refl))
 
-chunks-append : (a b : List ℕ) → chunks (a ++ (0x2f ∷ b)) ≡ chunks a ++ chunks b
+pub chunks-append : (a b : List ℕ) → chunks (a ++ (0x2f ∷ b)) ≡ chunks a ++ chunks b
 chunks-append [] b = refl
 chunks-append (x ∷ xs) b =
     let (c, cs, is) = chunks-some xs in

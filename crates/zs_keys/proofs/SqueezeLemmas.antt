@@ -47,11 +47,11 @@ repeat (a ∷ b ∷ c ∷ []) h =
     (and_second (0x24 == a) ((0x2a == b) && ((0x24 == c) && false)) h)) in cc
 repeat (a ∷ b ∷ c ∷ d ∷ t) h = (t, repeat_shape a b c d t h)
 
-squeezed-none : squeezed [] ≡ []
+pub squeezed-none : squeezed [] ≡ []
 unfolding squeezed
 squeezed-none = refl
 
-squeezed-cons : (b : ℕ) (bs : List ℕ) → squeezed (b ∷ bs) ≡ without_repeat (b ∷ squeezed bs)
+pub squeezed-cons : (b : ℕ) (bs : List ℕ) → squeezed (b ∷ bs) ≡ without_repeat (b ∷ squeezed bs)
 unfolding squeezed
 squeezed-cons b bs = refl
 

@@ -1,0 +1,19 @@
+-- Laws of the definitions, by which a reader may check them.
+use Rattle.std.specs.Prelude.{◌≡◌, ℕ, List, IsTrue}
+use Rattle.zs_keys.specs.Text.{is_canonical}
+use Rattle.zs_keys.specs.Matching.{intersects, includes}
+use Rattle.zs_keys.specs.Canonize.{canonize}
+use Rattle.zs_keys.specs.Key.{join_text}
+
+-- two key expressions have a key in common, or not, from either side
+abbrev pub MeetBothWays : List ℕ → List ℕ → Type 0
+MeetBothWays left right = intersects left right ≡ intersects right left
+
+-- a canonical text is its own canonical form
+abbrev pub IsOwnForm : List ℕ → Type 0
+IsOwnForm text = IsTrue (is_canonical text) → canonize text ≡ text
+
+-- two canonical texts with a `/` between them have a canonical form
+abbrev pub JoinsToCanonical : List ℕ → List ℕ → Type 0
+JoinsToCanonical text suffix =
+    IsTrue (is_canonical text) → IsTrue (is_canonical suffix) → IsTrue (is_canonical (join_text text suffix))

@@ -1,0 +1,18 @@
+//! Laws of the definitions. Each function does nothing: its contract is the law, for all texts.
+
+ghost use Rattle.zs_keys.specs.Laws.{MeetBothWays, IsOwnForm, JoinsToCanonical};
+
+/// Whether two key expressions have a key in common does not depend on their order.
+pub fn intersects_is_symmetric(left: &str, right: &str)
+    ensures { MeetBothWays left.now right.now }
+{}
+
+/// A canonical text is its own canonical form.
+pub fn canonical_form_is_kept(text: &str)
+    ensures { IsOwnForm text.now }
+{}
+
+/// Two canonical texts joined by a `/` have a canonical form.
+pub fn joins_are_canonical(text: &str, suffix: &str)
+    ensures { JoinsToCanonical text.now suffix.now }
+{}
