@@ -1,15 +1,15 @@
 -- The canonical form of a text whose chunks are those of canonical texts.
-use Rattle.std.proofs.Common.{◌≡◌, ◌≢◌, ℕ, suc, ◌==◌, Bool, true, false, not, ◌&&◌, ◌||◌, List, [], ◌∷◌, ◌++◌, map, append-nil, refl, sym, ◌∙◌, ap, arith}
-use Rattle.std.specs.Prelude.{codes, bytes_eq, if◌then◌else◌}
+use Rattle.std.proofs.Common.{◌≡◌, ◌≢◌, ℕ, ◌==◌, Bool, true, false, not, ◌&&◌, ◌||◌, List, [], ◌∷◌, ◌++◌, map, refl, ◌∙◌, ap, arith}
+use Rattle.std.specs.Prelude.{codes, bytes_eq}
 use Rattle.std.specs.Cmp.Lexicographic.{bytes_decides}
-use Rattle.std.specs.List.{list_all, join_with_byte, starts_with, slice_split}
+use Rattle.std.specs.List.{list_all, join_with_byte, starts_with}
 use Rattle.std.proofs.lemmas.Bool.Decides.{nat_tests}
 use Rattle.std.proofs.lemmas.List.Splits.{join_with_byte-slice_split}
 use Rattle.zs_keys.specs.Text.{chunks, is_canonical, is_chunk, is_star, is_double_star, may_follow, may_run, has_ordered_stars}
 use Rattle.zs_keys.specs.Canonize.{squeezed, canonized_chunk, sink, ordered, canonize}
 use Rattle.zs_keys.specs.Key.{join_text}
 use Rattle.zs_keys.proofs.Bools.{split, and_second, or_none_left, or_none_right}
-use Rattle.zs_keys.proofs.SqueezeLemmas.{squeezed-plain, squeezed-other, squeezed-whole, squeezed-none}
+use Rattle.zs_keys.proofs.SqueezeLemmas.{squeezed-plain, squeezed-other, squeezed-none, squeezed-once, squeezed-all}
 use Rattle.zs_keys.proofs.OrderLemmas.{sink-star, sink-run, sink-other, ordered-run, ordered-plain, ordered-none, sink-none}
 use Rattle.zs_keys.proofs.PrefixLemmas.{chunks-append, chunks-some}
 
@@ -245,3 +245,62 @@ canonical-itself text h =
       ordered-same (chunks text) (and_second (list_all is_chunk (chunks text)) (has_ordered_stars (chunks text)) h),
     )
     (join_with_byte-slice_split 0x2f text)
+
+-- a chunk in canonical form
+abbrev is_form : List ℕ → Bool
+is_form c = bytes_eq (canonized_chunk c) c
+
+chunk-once : (c : List ℕ) → canonized_chunk (canonized_chunk c) ≡ canonized_chunk c
+chunk-once c = split (bytes_eq (squeezed c) (codes "$*"))
+    (λ t. rw t star-canonized)
+    (λ t. rw (t, squeezed-once c, t) refl)
+
+forms-all : (cs : List (List ℕ)) → list_all is_form (map canonized_chunk cs) ≡ true
+forms-all [] = refl
+forms-all (c ∷ cs) =
+    both (is_form (canonized_chunk c)) (list_all is_form (map canonized_chunk cs))
+    ((bytes_decides (canonized_chunk (canonized_chunk c)) (canonized_chunk c)).1 (chunk-once c)) (forms-all cs)
+
+forms-same : (cs : List (List ℕ)) → list_all is_form cs ≡ true → map canonized_chunk cs ≡ cs
+forms-same [] h = refl
+forms-same (c ∷ cs) h =
+    rw (
+      (bytes_decides (canonized_chunk c) c).0 (and_first (is_form c) (list_all is_form cs) h),
+      forms-same cs (and_second (is_form c) (list_all is_form cs) h),
+    ) refl
+
+form-no_slash : (c : List ℕ) → has_no_slash c ≡ true → has_no_slash (canonized_chunk c) ≡ true
+form-no_slash c h = split (bytes_eq (squeezed c) (codes "$*"))
+    (λ t. rw t refl)
+    (λ t. rw t (squeezed-all (λ b. not (b == 0x2f)) refl refl c h))
+
+forms-no_slash : (cs : List (List ℕ)) → list_all has_no_slash cs ≡ true → list_all has_no_slash (map canonized_chunk cs) ≡ true
+forms-no_slash [] h = refl
+forms-no_slash (c ∷ cs) h =
+    both (has_no_slash (canonized_chunk c)) (list_all has_no_slash (map canonized_chunk cs))
+    (form-no_slash c (and_first (has_no_slash c) (list_all has_no_slash cs) h))
+    (forms-no_slash cs (and_second (has_no_slash c) (list_all has_no_slash cs) h))
+
+-- ordered chunks in canonical form, joined, are their own canonical form
+joined-once : (f : List ℕ) (fs : List (List ℕ)) → list_all has_no_slash (f ∷ fs) ≡ true → list_all is_form (f ∷ fs) ≡ true
+    → canonize (join_with_byte 0x2f (ordered (f ∷ fs))) ≡ join_with_byte 0x2f (ordered (f ∷ fs))
+joined-once f fs n h =
+    let (d, ds, is) = ordered-some f fs in
+    let plain : list_all has_no_slash (d ∷ ds) ≡ true = rw is at (ordered-chunks has_no_slash refl (f ∷ fs) n) in
+    let forms : list_all is_form (d ∷ ds) ≡ true = rw is at (ordered-chunks is_form run-form (f ∷ fs) h) in
+    let in_order : has_ordered_stars (d ∷ ds) ≡ true = rw is at (ordered-in_order (f ∷ fs)) in
+    rw (is, chunks-of_joined d ds plain, forms-same (d ∷ ds) forms, ordered-same (d ∷ ds) in_order) refl
+  where
+    run-form : is_form (codes "**") ≡ true
+    run-form = (bytes_decides (canonized_chunk (codes "**")) (codes "**")).1 run-canonized
+
+pub canonize-once : (text : List ℕ) → canonize (canonize text) ≡ canonize text
+canonize-once text =
+    let (c, cs, is) = chunks-some text in
+    once-of (map canonized_chunk (chunks text)) (canonized_chunk c) (map canonized_chunk cs) (rw is refl)
+    (forms-no_slash (chunks text) (chunks-whole text)) (forms-all (chunks text))
+  where
+    once-of : (all : List (List ℕ)) (f : List ℕ) (fs : List (List ℕ)) → all ≡ f ∷ fs → list_all has_no_slash all ≡ true
+        → list_all is_form all ≡ true
+        → canonize (join_with_byte 0x2f (ordered all)) ≡ join_with_byte 0x2f (ordered all)
+    once-of all f fs is n h = rw is (joined-once f fs (rw is at n) (rw is at h))

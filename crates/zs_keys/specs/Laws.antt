@@ -17,3 +17,11 @@ IsOwnForm text = IsTrue (is_canonical text) → canonize text ≡ text
 abbrev pub JoinsToCanonical : List ℕ → List ℕ → Type 0
 JoinsToCanonical text suffix =
     IsTrue (is_canonical text) → IsTrue (is_canonical suffix) → IsTrue (is_canonical (join_text text suffix))
+
+-- a key expression that includes another one has a key in common with it
+abbrev pub MeetsWhatItIncludes : List ℕ → List ℕ → Type 0
+MeetsWhatItIncludes left right = IsTrue (includes left right) → IsTrue (intersects left right)
+
+-- the canonical form of a text is its own
+abbrev pub IsFormOnce : List ℕ → Type 0
+IsFormOnce text = canonize (canonize text) ≡ canonize text

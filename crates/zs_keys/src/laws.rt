@@ -1,6 +1,6 @@
 //! Laws of the definitions. Each function does nothing: its contract is the law, for all texts.
 
-ghost use Rattle.zs_keys.specs.Laws.{MeetBothWays, IsOwnForm, JoinsToCanonical};
+ghost use Rattle.zs_keys.specs.Laws.{MeetBothWays, MeetsWhatItIncludes, IsOwnForm, IsFormOnce, JoinsToCanonical};
 
 /// Whether two key expressions have a key in common does not depend on their order.
 pub fn intersects_is_symmetric(left: &str, right: &str)
@@ -15,4 +15,14 @@ pub fn canonical_form_is_kept(text: &str)
 /// Two canonical texts joined by a `/` have a canonical form.
 pub fn joins_are_canonical(text: &str, suffix: &str)
     ensures { JoinsToCanonical text.now suffix.now }
+{}
+
+/// A key expression that includes another one has a key in common with it.
+pub fn includes_implies_intersects(left: &str, right: &str)
+    ensures { MeetsWhatItIncludes left.now right.now }
+{}
+
+/// The canonical form of a text is its own canonical form.
+pub fn canonize_is_idempotent(text: &str)
+    ensures { IsFormOnce text.now }
 {}
