@@ -8,21 +8,10 @@ use Rattle.std.proofs.lemmas.List.Splits.{join_with_byte-slice_split}
 use Rattle.zs_keys.specs.Text.{chunks, is_canonical, is_chunk, is_star, is_double_star, may_follow, may_run, has_ordered_stars}
 use Rattle.zs_keys.specs.Canonize.{squeezed, canonized_chunk, sink, ordered, canonize}
 use Rattle.zs_keys.specs.Key.{join_text}
-use Rattle.zs_keys.proofs.Bools.{split, and_second, or_none_left, or_none_right}
+use Rattle.zs_keys.proofs.Bools.{split, and_second, or_none_left, or_none_right, and_first, both, not_true}
 use Rattle.zs_keys.proofs.SqueezeLemmas.{squeezed-plain, squeezed-other, squeezed-none, squeezed-once, squeezed-all}
 use Rattle.zs_keys.proofs.OrderLemmas.{sink-star, sink-run, sink-other, ordered-run, ordered-plain, ordered-none, sink-none}
 use Rattle.zs_keys.proofs.PrefixLemmas.{chunks-append, chunks-some}
-
-and_first : (a b : Bool) → (a && b) ≡ true → a ≡ true
-and_first true b h = refl
-and_first false b h = cc
-
-not-true : (b : Bool) → not b ≡ true → b ≡ false
-not-true true h = cc
-not-true false h = refl
-
-both : (a b : Bool) → a ≡ true → b ≡ true → (a && b) ≡ true
-both a b h k = rw (h, k) refl
 
 -- no `$` behind a `*`
 no-dollar : (b : ℕ) → may_follow 0x2a b ≡ true → (0x24 == b) ≡ false
@@ -147,7 +136,7 @@ has_no_slash c = list_all (λ b. not (b == 0x2f)) c
 chunks-one : (c : List ℕ) → has_no_slash c ≡ true → chunks c ≡ c ∷ []
 chunks-one [] h = refl
 chunks-one (b ∷ bs) h =
-    let plain : (b == 0x2f) ≡ false = not-true (b == 0x2f) (and_first (not (b == 0x2f)) (has_no_slash bs) h) in
+    let plain : (b == 0x2f) ≡ false = not_true (b == 0x2f) (and_first (not (b == 0x2f)) (has_no_slash bs) h) in
     rw (plain, chunks-one bs (and_second (not (b == 0x2f)) (has_no_slash bs) h)) refl
 
 chunks-of_joined : (c : List ℕ) (cs : List (List ℕ)) → list_all has_no_slash (c ∷ cs) ≡ true
@@ -218,7 +207,7 @@ join-canonical a b h k =
 
 apart-of : (a b r : Bool) → a ≡ true → (not (a && b) && r) ≡ true → b ≡ false
 apart-of a b r h k =
-    let first : not b ≡ true = rw h at (and_first (not (a && b)) r k) in not-true b first
+    let first : not b ≡ true = rw h at (and_first (not (a && b)) r k) in not_true b first
 
 sink-front : (c : List ℕ) (cs : List (List ℕ)) → is_double_star c ≡ true → c ≡ codes "**" → has_ordered_stars (c ∷ cs) ≡ true
     → sink cs ≡ c ∷ cs

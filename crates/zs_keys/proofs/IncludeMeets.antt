@@ -7,18 +7,7 @@ use Rattle.std.proofs.lemmas.Bool.Decides.{nat_tests}
 use Rattle.zs_keys.specs.Text.{chunks, is_star, is_double_star, is_verbatim}
 use Rattle.zs_keys.specs.Matching.{meets, units, is_any, units_meet, units_include, is_free, chunk_meets, chunk_includes, includes, intersects}
 use Rattle.zs_keys.specs.Rules.{meets-ends, meets-wild-end, meets-wild, meets-left_end, meets-right_end, meets-pair}
-use Rattle.zs_keys.proofs.Bools.{split, or_cases, or_left, or_right, and_second}
-
-and_first : (a b : Bool) → (a && b) ≡ true → a ≡ true
-and_first true b h = refl
-and_first false b h = cc
-
-both : (a b : Bool) → a ≡ true → b ≡ true → (a && b) ≡ true
-both a b h k = rw (h, k) refl
-
-not-true : (b : Bool) → not b ≡ true → b ≡ false
-not-true true h = cc
-not-true false h = refl
+use Rattle.zs_keys.proofs.Bools.{split, or_cases, or_left, or_right, and_second, and_first, both, not_true}
 
 module _ {X : Type 0} (wild wild' free : X → Bool) (fits same : X → X → Bool)
     (plain : (x y : X) → wild x ≡ false → fits x y ≡ true → wild' y ≡ false)
@@ -85,7 +74,7 @@ wide c d = is_star c || (not (is_star d) && units_include (units c) (units d))
 
 free-meets : (c d : List ℕ) → is_free c ≡ true → is_free d ≡ true → wide c d ≡ true → chunk_meets c d ≡ true
 free-meets c d f g h =
-    rw (not-true (is_verbatim c) f, not-true (is_verbatim d) g)
+    rw (not_true (is_verbatim c) f, not_true (is_verbatim d) g)
     (or_cases (is_star c) (not (is_star d) && units_include (units c) (units d)) h
     (λ s. or_left (is_star c || is_star d) (units_meet (units c) (units d)) (or_left (is_star c) (is_star d) s))
     (λ s. or_right (is_star c || is_star d) (units_meet (units c) (units d))
@@ -93,7 +82,7 @@ free-meets c d f g h =
 
 chunk-plain : (c d : List ℕ) → is_double_star c ≡ false → chunk_includes c d ≡ true → is_double_star d ≡ false
 chunk-plain c d w h =
-    not-true (is_double_star d) (and_first (not (is_double_star d)) (bytes_eq c d || (is_free c && is_free d && wide c d)) h)
+    not_true (is_double_star d) (and_first (not (is_double_star d)) (bytes_eq c d || (is_free c && is_free d && wide c d)) h)
 
 chunk-weaker : (c d : List ℕ) → is_double_star c ≡ false → chunk_includes c d ≡ true → chunk_meets c d ≡ true
 chunk-weaker c d w h =

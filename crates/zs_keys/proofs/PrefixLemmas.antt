@@ -7,7 +7,7 @@ use Rattle.std.proofs.lemmas.List.{take-append-drop}
 use Rattle.std.proofs.lemmas.Str.Pattern.{NoCharPasses-char, drop_at_char}
 use Rattle.zs_keys.specs.Text.{chunks, is_canonical, is_chunk, is_star, is_double_star, has_ordered_stars}
 use Rattle.zs_keys.specs.Prefix.{before_slash, nonwild_prefix}
-use Rattle.zs_keys.proofs.Bools.{split, and_second}
+use Rattle.zs_keys.proofs.Bools.{split, and_second, and_first, both}
 
 -- no byte is a `/`
 abbrev HasNoSlash : List ℕ → Type 0
@@ -80,13 +80,6 @@ chunks-append (x ∷ xs) b =
     split (x == 0x2f)
     (λ h. rw (h, chunks-append xs b) refl)
     (λ h. rw (h, chunks-append xs b, is) refl)
-
-and_first : (a b : Bool) → (a && b) ≡ true → a ≡ true
-and_first true b h = refl
-and_first false b h = cc
-
-both : (a b : Bool) → a ≡ true → b ≡ true → (a && b) ≡ true
-both a b h k = rw (h, k) refl
 
 all-front : (xs ys : List (List ℕ)) → list_all is_chunk (xs ++ ys) ≡ true → list_all is_chunk xs ≡ true
 all-front [] ys h = refl

@@ -4,14 +4,10 @@ use Rattle.std.specs.Prelude.{codes}
 use Rattle.std.specs.List.{starts_with, list_all}
 use Rattle.std.proofs.lemmas.Bool.Decides.{nat_tests}
 use Rattle.zs_keys.specs.Canonize.{without_repeat, squeezed}
-use Rattle.zs_keys.proofs.Bools.{split, and_second}
+use Rattle.zs_keys.proofs.Bools.{split, and_second, and_first}
 
 abbrev starts : List ℕ → List ℕ → Bool
 starts text front = starts_with (λ a b. a == b) text front
-
-and_first : (a b : Bool) → (a && b) ≡ true → a ≡ true
-and_first true b h = refl
-and_first false b h = cc
 
 byte_is : (n b : ℕ) → (n == b) ≡ true → b ≡ n
 byte_is n b h = grind (arith, nat_tests)

@@ -1,9 +1,10 @@
 -- Laws of the definitions, by which a reader may check them.
-use Rattle.std.specs.Prelude.{◌≡◌, ℕ, List, IsTrue}
+use Rattle.std.specs.Prelude.{◌≡◌, ℕ, List, IsTrue, bytes_eq}
+use Rattle.std.specs.Hash as fed
 use Rattle.zs_keys.specs.Text.{is_canonical}
 use Rattle.zs_keys.specs.Matching.{intersects, includes}
 use Rattle.zs_keys.specs.Canonize.{canonize}
-use Rattle.zs_keys.specs.Key.{join_text}
+use Rattle.zs_keys.specs.Key.{Key, join_text}
 
 -- two key expressions have a key in common, or not, from either side
 abbrev pub MeetBothWays : List ℕ → List ℕ → Type 0
@@ -25,3 +26,7 @@ MeetsWhatItIncludes left right = IsTrue (includes left right) → IsTrue (inters
 -- the canonical form of a text is its own
 abbrev pub IsFormOnce : List ℕ → Type 0
 IsFormOnce text = canonize (canonize text) ≡ canonize text
+
+-- key expressions with equal texts hand a hasher the same, whatever their declarations
+abbrev pub HashAlike : Key → Key → Type 0
+HashAlike left right = IsTrue (bytes_eq left.text right.text) → fed.str left.text ≡ fed.str right.text

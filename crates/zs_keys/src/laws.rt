@@ -1,6 +1,8 @@
 //! Laws of the definitions. Each function does nothing: its contract is the law, for all texts.
 
-ghost use Rattle.zs_keys.specs.Laws.{MeetBothWays, MeetsWhatItIncludes, IsOwnForm, IsFormOnce, JoinsToCanonical};
+ghost use Rattle.zs_keys.specs.Laws.{MeetBothWays, MeetsWhatItIncludes, IsOwnForm, IsFormOnce, JoinsToCanonical, HashAlike};
+
+use crate::key_expr::KeyExpr;
 
 /// Whether two key expressions have a key in common does not depend on their order.
 pub fn intersects_is_symmetric(left: &str, right: &str)
@@ -25,4 +27,9 @@ pub fn includes_implies_intersects(left: &str, right: &str)
 /// The canonical form of a text is its own canonical form.
 pub fn canonize_is_idempotent(text: &str)
     ensures { IsFormOnce text.now }
+{}
+
+/// Equal key expressions have equal hashes, whatever their declarations.
+pub fn equal_keys_hash_alike(left: &KeyExpr<'_>, right: &KeyExpr<'_>)
+    ensures { HashAlike left.now right.now }
 {}

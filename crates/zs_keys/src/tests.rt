@@ -378,6 +378,22 @@ fn texts(rt: HostRuntime) -> Result<(), Fail> {
 }
 
 #[test]
+fn error_texts(rt: HostRuntime) -> Result<(), Fail> {
+    let texts = [
+        (KeyError::BadKeyExpr, "not a canonical key expression"),
+        (
+            KeyError::ConcatStars,
+            "a text that begins with a star cannot follow one that ends with a star",
+        ),
+        (KeyError::NoMemory, "out of memory"),
+    ];
+    for (error, text) in texts {
+        assert_eq!(rt; format!(in rt.alloc(); "{error}")?.as_str(), text);
+    }
+    Ok(())
+}
+
+#[test]
 fn declared_keys(rt: HostRuntime) -> Result<(), Fail> {
     let alloc = rt.alloc();
     let declared = Declared {
