@@ -1,5 +1,5 @@
 -- How verbatim chunks cut two lists of chunks that are to match.
-use Rattle.std.proofs.Common.{◌≡◌, ℕ, Bool, true, false, not, ◌&&◌, ◌<◌, length, List, [], ◌∷◌, refl, ◌∙◌, ap, arith}
+use Rattle.std.proofs.Common.{◌≡◌, ℕ, Bool, true, false, ◌&&◌, ◌<◌, length, List, [], ◌∷◌, refl, ◌∙◌, ap, arith}
 use Rattle.std.specs.Prelude.{bytes_eq, codes}
 use Rattle.std.specs.Cmp.Lexicographic.{bytes_decides}
 use Rattle.zs_keys.specs.Text.{is_double_star, is_verbatim}
@@ -7,7 +7,7 @@ use Rattle.zs_keys.specs.Matching.{meets, is_free, chunk_meets}
 use Rattle.zs_keys.specs.Rules.{meets-ends, meets-left_end, meets-right_end, meets-pair}
 use Rattle.zs_keys.specs.Symmetry.{chunk_meets_comm}
 use Rattle.zs_keys.specs.Segments.{front, behind}
-use Rattle.zs_keys.proofs.Bools.{split}
+use Rattle.zs_keys.proofs.Bools.{split, not_true, not_false}
 use Rattle.zs_keys.proofs.SegmentLemmas.{cut}
 
 -- `**` is not verbatim
@@ -22,16 +22,8 @@ verbatim-apart c d h k = split (bytes_eq c d)
     (λ e. let is : c ≡ d = (bytes_decides c d).0 e in let clash : is_free d ≡ true = rw is at h in cc)
     (λ e. e)
 
-not-true : (b : Bool) → not b ≡ true → b ≡ false
-not-true true h = cc
-not-true false h = refl
-
-not-false : (b : Bool) → not b ≡ false → b ≡ true
-not-false true h = refl
-not-false false h = cc
-
 meets-apart : (c d : List ℕ) → is_free c ≡ true → is_free d ≡ false → chunk_meets c d ≡ false
-meets-apart c d h k = rw (not-true (is_verbatim c) h, not-false (is_verbatim d) k) (verbatim-apart c d h k)
+meets-apart c d h k = rw (not_true (is_verbatim c) h, not_false (is_verbatim d) k) (verbatim-apart c d h k)
 
 meets-apart' : (c d : List ℕ) → is_free c ≡ false → is_free d ≡ true → chunk_meets c d ≡ false
 meets-apart' c d h k = chunk_meets_comm c d ∙ meets-apart d c k h

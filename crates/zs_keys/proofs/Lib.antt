@@ -5,6 +5,8 @@ pub mod Cut
 pub mod Boundaries
 pub mod SqueezeLemmas
 pub mod OrderLemmas
+pub mod IncludeMeets
+pub mod CanonicalForm
 pub mod DeclarationLemmas
 pub mod PrefixLemmas
 pub mod Behind

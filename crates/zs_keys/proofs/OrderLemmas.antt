@@ -25,6 +25,10 @@ pub sink-other : (c : List ℕ) (cs : List (List ℕ)) → is_star c ≡ false �
 unfolding sink
 sink-other c cs h k = rw (h, k) refl
 
+pub sink-run : (c : List ℕ) (cs : List (List ℕ)) → is_star c ≡ false → is_double_star c ≡ true → sink (c ∷ cs) ≡ c ∷ cs
+unfolding sink
+sink-run c cs h k = rw (h, k) refl
+
 pub ordered-run : (c : List ℕ) (cs : List (List ℕ)) → is_double_star c ≡ true → ordered (c ∷ cs) ≡ sink (ordered cs)
 unfolding ordered
 ordered-run c cs h = rw h refl

@@ -7,7 +7,7 @@ use Rattle.std.proofs.lemmas.List.{take-append-drop}
 use Rattle.std.proofs.lemmas.Str.Pattern.{NoCharPasses-char, drop_at_char}
 use Rattle.zs_keys.specs.Text.{chunks, is_canonical, is_chunk, is_star, is_double_star, has_ordered_stars}
 use Rattle.zs_keys.specs.Prefix.{before_slash, nonwild_prefix}
-use Rattle.zs_keys.proofs.Bools.{split, and_second}
+use Rattle.zs_keys.proofs.Bools.{split, and_second, and_first, both}
 
 -- no byte is a `/`
 abbrev HasNoSlash : List ℕ → Type 0
@@ -65,7 +65,7 @@ before_slash-front (b ∷ bs) front h = by_option (before_slash bs)
     (λ t. let h' : None ≡ Some front = rw (e, t) at h in cc))
 
 -- a text has some chunk
-chunks-some : (bs : List ℕ) → (c : List ℕ) × (cs : List (List ℕ)) × (chunks bs ≡ c ∷ cs)
+pub chunks-some : (bs : List ℕ) → (c : List ℕ) × (cs : List (List ℕ)) × (chunks bs ≡ c ∷ cs)
 chunks-some [] = ([], [], refl)
 chunks-some (b ∷ bs) =
     let (c, cs, is) = chunks-some bs in
@@ -73,20 +73,13 @@ chunks-some (b ∷ bs) =
     (λ h. ([], chunks bs, rw h refl))
     (λ h. (b ∷ c, cs, rw (h, is) refl))
 
-chunks-append : (a b : List ℕ) → chunks (a ++ (0x2f ∷ b)) ≡ chunks a ++ chunks b
+pub chunks-append : (a b : List ℕ) → chunks (a ++ (0x2f ∷ b)) ≡ chunks a ++ chunks b
 chunks-append [] b = refl
 chunks-append (x ∷ xs) b =
     let (c, cs, is) = chunks-some xs in
     split (x == 0x2f)
     (λ h. rw (h, chunks-append xs b) refl)
     (λ h. rw (h, chunks-append xs b, is) refl)
-
-and_first : (a b : Bool) → (a && b) ≡ true → a ≡ true
-and_first true b h = refl
-and_first false b h = cc
-
-both : (a b : Bool) → a ≡ true → b ≡ true → (a && b) ≡ true
-both a b h k = rw (h, k) refl
 
 all-front : (xs ys : List (List ℕ)) → list_all is_chunk (xs ++ ys) ≡ true → list_all is_chunk xs ≡ true
 all-front [] ys h = refl

@@ -1,17 +1,13 @@
 -- Runs of `$*` squeezed from the left.
 use Rattle.std.proofs.Common.{◌≡◌, ◌≢◌, ℕ, suc, ◌<◌, ◌==◌, Bool, true, false, ◌&&◌, List, [], ◌∷◌, ◌++◌, length, get_or, append_assoc, refl, sym, ◌∙◌, ap, arith}
 use Rattle.std.specs.Prelude.{codes}
-use Rattle.std.specs.List.{starts_with}
+use Rattle.std.specs.List.{starts_with, list_all}
 use Rattle.std.proofs.lemmas.Bool.Decides.{nat_tests}
 use Rattle.zs_keys.specs.Canonize.{without_repeat, squeezed}
-use Rattle.zs_keys.proofs.Bools.{split, and_second}
+use Rattle.zs_keys.proofs.Bools.{split, and_second, and_first}
 
 abbrev starts : List ℕ → List ℕ → Bool
 starts text front = starts_with (λ a b. a == b) text front
-
-and_first : (a b : Bool) → (a && b) ≡ true → a ≡ true
-and_first true b h = refl
-and_first false b h = cc
 
 byte_is : (n b : ℕ) → (n == b) ≡ true → b ≡ n
 byte_is n b h = grind (arith, nat_tests)
@@ -47,11 +43,11 @@ repeat (a ∷ b ∷ c ∷ []) h =
     (and_second (0x24 == a) ((0x2a == b) && ((0x24 == c) && false)) h)) in cc
 repeat (a ∷ b ∷ c ∷ d ∷ t) h = (t, repeat_shape a b c d t h)
 
-squeezed-none : squeezed [] ≡ []
+pub squeezed-none : squeezed [] ≡ []
 unfolding squeezed
 squeezed-none = refl
 
-squeezed-cons : (b : ℕ) (bs : List ℕ) → squeezed (b ∷ bs) ≡ without_repeat (b ∷ squeezed bs)
+pub squeezed-cons : (b : ℕ) (bs : List ℕ) → squeezed (b ∷ bs) ≡ without_repeat (b ∷ squeezed bs)
 unfolding squeezed
 squeezed-cons b bs = refl
 
@@ -183,3 +179,28 @@ pub squeezed-step : (whole t0 t1 t2 r0 r2 front back : List ℕ) → whole ≡ t
     → HasNoDollar front → t1 ≡ t0 ++ front → (t2 ++ squeezed r2) ≡ (t1 ++ squeezed (0x24 ∷ back)) → whole ≡ t2 ++ squeezed r2
 squeezed-step whole t0 t1 t2 r0 r2 front back h cut none k l =
     rw (h, cut, squeezed-front front (0x24 ∷ back) none, l, k) (sym (append_assoc t0 front (squeezed (0x24 ∷ back))))
+
+-- squeezing twice changes nothing more
+pub squeezed-once : (bs : List ℕ) → squeezed (squeezed bs) ≡ squeezed bs
+squeezed-once [] = rw squeezed-none squeezed-none
+squeezed-once (b ∷ bs) = squeezed_cases b bs
+    (λ t is sq.
+    let rest : squeezed bs ≡ 0x2a ∷ 0x24 ∷ 0x2a ∷ t = cc in
+    let again : squeezed (0x2a ∷ 0x24 ∷ 0x2a ∷ t) ≡ 0x2a ∷ 0x24 ∷ 0x2a ∷ t = rw rest at (squeezed-once bs) in
+    let same = sym (squeezed-plain 0x2a (0x24 ∷ 0x2a ∷ t) star-plain) ∙ again in
+    let inner : squeezed (0x24 ∷ 0x2a ∷ t) ≡ 0x24 ∷ 0x2a ∷ t = cc in
+    rw sq inner)
+    (λ sq. rw sq (squeezed-cons b (squeezed bs) ∙ rw (squeezed-once bs) (sym (squeezed-cons b bs) ∙ sq)))
+
+-- no byte comes in
+pub squeezed-all : (test : ℕ → Bool) → test 0x24 ≡ true → test 0x2a ≡ true → (bs : List ℕ) → list_all test bs ≡ true
+    → list_all test (squeezed bs) ≡ true
+squeezed-all test d s [] h = rw squeezed-none refl
+squeezed-all test d s (b ∷ bs) h =
+    let rest = squeezed-all test d s bs (and_second (test b) (list_all test bs) h) in
+    squeezed_cases b bs
+    (λ t is sq.
+    let tail : squeezed bs ≡ 0x2a ∷ 0x24 ∷ 0x2a ∷ t = cc in
+    let all : list_all test (0x2a ∷ 0x24 ∷ 0x2a ∷ t) ≡ true = rw tail at rest in
+    rw sq (and_second (test 0x2a) (list_all test (0x24 ∷ 0x2a ∷ t)) all))
+    (λ sq. rw (sq, and_first (test b) (list_all test bs) h) rest)

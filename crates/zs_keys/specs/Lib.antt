@@ -13,3 +13,4 @@ pub mod Inclusion
 pub mod Prefix
 pub mod Canonize
 pub mod Writing
+pub mod Laws

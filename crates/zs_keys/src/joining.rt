@@ -37,6 +37,7 @@ fn joins_stars(text: &str, suffix: &str) -> bool
 }
 
 impl<'a> KeyExpr<'a> {
+    ghost use Rattle.zs_keys.specs.declared.key_error.KeyError.{KeyError};
     ghost use Rattle.zs_keys.specs.Key.{undeclared, text_refusal, concat_refusal, IsCause, join_text, join_key, kept_declaration};
 
     /// The text with a suffix put behind it, and the same declaration. Unlike [`concat`](KeyExpr::concat) it lets
@@ -114,5 +115,19 @@ impl<'a> KeyExpr<'a> {
         let form = canonize(alloc, text.as_str())?;
         let declaration = self.declaration_in(form.as_str());
         Ok(KeyExpr::of_parts(form, declaration)?)
+    }
+
+    /// The operator `/`: [`join`](KeyExpr::join) of the text of another key expression. Two canonical texts always have
+    /// a canonical form.
+    ///
+    /// # Errors
+    ///
+    /// `NoMemory` alone.
+    pub fn div(&self, alloc: Global, rhs: &KeyExpr<'_>) -> Result<KeyExpr<'static>, KeyError>
+        ensures ok { IfOk result (λ key. key ≡ join_key self.now rhs.now.text) }
+        ensures err { IfErr result (λ error. error ≡ KeyError.NoMemory) }
+    {
+        let _canonical = self.as_str();
+        self.join(alloc, rhs.as_str())
     }
 }

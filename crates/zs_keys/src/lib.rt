@@ -10,6 +10,7 @@ mod inclusion;
 mod joining;
 mod key_error;
 mod key_expr;
+pub mod laws;
 mod matching;
 mod memory;
 mod pattern;

@@ -3,7 +3,8 @@
 ghost use Rattle.std.specs.Prelude.{◌≡◌, ◌<◌, length};
 
 use crate::{
-    Failed, KeyError, KeyExpr, MemorySink, MemorySource, Sink, Source, SteadySource, Steps,
+    Declared, Failed, KeyError, KeyExpr, MemorySink, MemorySource, Sink, Source, SteadySource,
+    Steps,
 };
 use std::alloc::{AllocError, Global};
 use std::marker::Brand;
@@ -116,6 +117,150 @@ a/@v/*/@w a/@v/@w
 é$* ü$*
 ";
 
+/// Pairs of key expressions of which the left one includes the right one.
+const INCLUDE: &str = "\
+a a
+a/b a/b
+* a
+* *
+* a$*
+* $*a
+** **
+** *
+** a
+** a/b
+** a/**/b
+** */*
+**/a a
+**/a b/a
+**/a **/a
+**/a **/b/a
+a/** a
+a/** a/b
+a/** a/**
+a/** a/*
+a/** a/b/**/c
+a/**/b a/b
+a/**/b a/*/b
+a/**/b a/**/b
+a/**/b a/c/**/b
+*/** a
+*/** a/**
+*/** */*
+*/*/** a/b/**
+a$* a
+a$* ab
+a$* a$*
+a$* a$*b
+a$*b ab
+a$*b a$*c$*b
+$*a$* bac
+a/b$*/** a/b/c
+@a @a
+@a/** @a
+@a/** @a/b/**
+@a/* @a/b
+**/@a/** @a/b
+**/@a/** b/@a
+é$* éü
+";
+
+/// Pairs of key expressions of which the left one does not include the right one.
+const EXCLUDE: &str = "\
+a b
+a *
+a a$*
+a **
+* **
+* a/b
+* @a
+** @a
+** a/@b
+**/a a/b
+**/a **
+a/* a
+a/* a/**
+a/* a/b/c
+a/** **
+a/** b
+a/** a/@b
+a/**/b a/**
+a/**/b **/b
+*/** **
+*/** @a/b
+*/*/** a
+*/*/** a/**
+a$* *
+a$* b
+a$*b a
+a$*b a$*
+a$*b ac
+aa$*aa aaa
+$*a a$*
+@a *
+@a @ab
+@a @a/b
+@a$* @ab
+@a/** **
+@a/* @a/**
+@a/* @a/@b
+**/@a/** **
+**/@a/** a/b
+b$*/c */c
+a/b/** a/**
+é$* ü
+";
+
+/// Texts with their canonical forms, some of which are not canonical.
+const FORMS: &str = "\
+a a
+a/b a/b
+* *
+** **
+$* *
+a/$* a/*
+$*/a */a
+$*$* *
+$*$*$* *
+a$*$* a$*
+$*$*a $*a
+a$*$*b a$*b
+a$*$*$*b a$*b
+a$*$*b$*$*c a$*b$*c
+a$*b$*c a$*b$*c
+**/** **
+**/**/** **
+**/* */**
+**/*/* */*/**
+*/** */**
+*/**/* */*/**
+**/*/** */**
+*/*/* */*/*
+a/**/**/b a/**/b
+a/**/*/b a/*/**/b
+a/**/*/**/b a/*/**/b
+a/**/$*/b a/*/**/b
+a/$*/** a/*/**
+**/a/** **/a/**
+**/a/**/* **/a/*/**
+**/*/a/**/* */**/a/*/**
+a/**/*/$* a/*/*/**
+**/$*$*/** */**
+@a/$* @a/*
+@a$*$*b @a$*b
+**/@a/** **/@a/**
+*/$*/@a */*/@a
+a//b a//b
+a/ a/
+$ $
+a$b a$b
+$$*$* $$*
+*a *a
+# #
+?$*$* ?$*
+é$*$*ü é$*ü
+";
+
 /// Texts that are no key expressions.
 const BAD: [&str; 16] = [
     "", "/", "/a", "a/", "a//b", "**/**", "**/*", "a/**/*/b", "$*", "a/$*/b", "a$*$*b", "#x",
@@ -141,6 +286,40 @@ fn assert_pairs(rt: &impl Abort, table: &str, meet: bool, count: usize) -> Resul
 fn pairs_of_keys(rt: HostRuntime) -> Result<(), Fail> {
     assert_pairs(&rt, MEET, true, 55)?;
     assert_pairs(&rt, APART, false, 42)
+}
+
+#[test]
+fn inclusions(rt: HostRuntime) -> Result<(), Fail> {
+    let mut pairs = 0u64;
+    for (table, included) in [(INCLUDE, true), (EXCLUDE, false)] {
+        for line in table.lines() {
+            let (left, right) = line.split_once(' ').ok_or("a line has two keys")?;
+            let (left, right) = (KeyExpr::new(left)?, KeyExpr::new(right)?);
+            assert_eq!(rt; left.includes(&right), included, "{line}");
+            pairs = pairs.saturating_add(1);
+        }
+    }
+    assert_eq!(rt; pairs, 86);
+    Ok(())
+}
+
+#[test]
+fn canonical_forms(rt: HostRuntime) -> Result<(), Fail> {
+    let mut lines = 0u64;
+    for line in FORMS.lines() {
+        let (text, form) = line.split_once(' ').ok_or("a line has two texts")?;
+        let text = String::from_str(rt.alloc(), text)?;
+        match KeyExpr::autocanonize(rt.alloc(), text) {
+            Ok(key) => assert_eq!(rt; key.as_str(), form, "{line}"),
+            Err(error) => {
+                assert_eq!(rt; error, KeyError::BadKeyExpr, "{line}");
+                assert!(rt; KeyExpr::new(form).is_err(), "{line}");
+            }
+        }
+        lines = lines.saturating_add(1);
+    }
+    assert_eq!(rt; lines, 46);
+    Ok(())
 }
 
 #[test]
@@ -173,7 +352,7 @@ fn hostile_keys(rt: HostRuntime) -> Result<(), Fail> {
     assert!(rt; runs.meets(&others));
     assert!(rt; runs.meets(&plain));
     assert!(rt; !others.meets(&plain));
-    let long = repeated(rt.alloc(), "a/", 1000, "b/**")?;
+    let long = repeated(rt.alloc(), "a/", 100, "b/**")?;
     let deep = repeated(rt.alloc(), "$*a", 2000, "b")?;
     let flat = repeated(rt.alloc(), "a", 4000, "")?;
     assert!(rt; !KeyExpr::new(deep.as_str())?.meets(&KeyExpr::new(flat.as_str())?));
@@ -190,8 +369,74 @@ fn texts(rt: HostRuntime) -> Result<(), Fail> {
     assert_eq!(rt; copy, key);
     let owned = copy.into_owned(rt.alloc())?;
     assert_eq!(rt; owned.as_str(), "a/b");
+    assert_eq!(rt; owned.as_keyexpr().as_str(), "a/b");
     assert_eq!(rt; format!(in rt.alloc(); "{owned}")?.as_str(), "a/b");
     assert!(rt; KeyExpr::new("a/c")? > owned);
+    let text = owned.into_string(rt.alloc())?;
+    assert_eq!(rt; KeyExpr::from_string(text)?.as_str(), "a/b");
+    Ok(())
+}
+
+#[test]
+fn error_texts(rt: HostRuntime) -> Result<(), Fail> {
+    let texts = [
+        (KeyError::BadKeyExpr, "not a canonical key expression"),
+        (
+            KeyError::ConcatStars,
+            "a text that begins with a star cannot follow one that ends with a star",
+        ),
+        (KeyError::NoMemory, "out of memory"),
+    ];
+    for (error, text) in texts {
+        assert_eq!(rt; format!(in rt.alloc(); "{error}")?.as_str(), text);
+    }
+    Ok(())
+}
+
+#[test]
+fn declared_keys(rt: HostRuntime) -> Result<(), Fail> {
+    let alloc = rt.alloc();
+    let declared = Declared {
+        number: 1,
+        prefix_len: 4,
+        tag: 7,
+    };
+    let key = KeyExpr::new("a/**")?.with_declaration(declared);
+    let joined = key.join(alloc, "*")?;
+    assert_eq!(rt; joined.as_str(), "a/*/**");
+    assert_eq!(rt; joined.declaration(), None);
+    let joined = key.join(alloc, "b")?;
+    assert_eq!(rt; joined.as_str(), "a/**/b");
+    assert_eq!(rt; joined.declaration(), Some(declared));
+    assert_eq!(rt; key.join(alloc, ""), Err(KeyError::BadKeyExpr));
+    assert_eq!(rt; key.concat(alloc, "*"), Err(KeyError::ConcatStars));
+    let longer = key.concat(alloc, "/b")?;
+    assert_eq!(rt; longer.as_str(), "a/**/b");
+    assert_eq!(rt; longer.declaration(), Some(declared));
+    assert_eq!(rt; key.with_suffix(alloc, "//"), Err(KeyError::BadKeyExpr));
+    assert_eq!(rt; key.with_suffix(alloc, "/*b"), Err(KeyError::BadKeyExpr));
+    assert_eq!(rt; key.with_suffix(alloc, "/b")?.as_str(), "a/**/b");
+    assert_eq!(rt; key.nonwild_prefix(), Some(KeyExpr::new("a")?));
+    assert_eq!(rt; KeyExpr::new("*/a")?.nonwild_prefix(), None);
+    assert_eq!(rt; key.without_declaration().declaration(), None);
+    Ok(())
+}
+
+#[test]
+fn joined_keys(rt: HostRuntime) -> Result<(), Fail> {
+    let alloc = rt.alloc();
+    let declared = Declared {
+        number: 1,
+        prefix_len: 1,
+        tag: 7,
+    };
+    let key = KeyExpr::new("a/b")?.with_declaration(declared);
+    let joined = key.join(alloc, "c")?;
+    assert_eq!(rt; joined.as_str(), "a/b/c");
+    assert_eq!(rt; joined.declaration(), Some(declared));
+    let divided = key.div(alloc, &KeyExpr::new("*")?)?;
+    assert_eq!(rt; divided.as_str(), "a/b/*");
+    assert_eq!(rt; divided.declaration(), Some(declared));
     Ok(())
 }
 

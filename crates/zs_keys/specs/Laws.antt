@@ -1,0 +1,32 @@
+-- Laws of the definitions, by which a reader may check them.
+use Rattle.std.specs.Prelude.{◌≡◌, ℕ, List, IsTrue, bytes_eq}
+use Rattle.std.specs.Hash as fed
+use Rattle.zs_keys.specs.Text.{is_canonical}
+use Rattle.zs_keys.specs.Matching.{intersects, includes}
+use Rattle.zs_keys.specs.Canonize.{canonize}
+use Rattle.zs_keys.specs.Key.{Key, join_text}
+
+-- two key expressions have a key in common, or not, from either side
+abbrev pub MeetBothWays : List ℕ → List ℕ → Type 0
+MeetBothWays left right = intersects left right ≡ intersects right left
+
+-- a canonical text is its own canonical form
+abbrev pub IsOwnForm : List ℕ → Type 0
+IsOwnForm text = IsTrue (is_canonical text) → canonize text ≡ text
+
+-- two canonical texts with a `/` between them have a canonical form
+abbrev pub JoinsToCanonical : List ℕ → List ℕ → Type 0
+JoinsToCanonical text suffix =
+    IsTrue (is_canonical text) → IsTrue (is_canonical suffix) → IsTrue (is_canonical (join_text text suffix))
+
+-- a key expression that includes another one has a key in common with it
+abbrev pub MeetsWhatItIncludes : List ℕ → List ℕ → Type 0
+MeetsWhatItIncludes left right = IsTrue (includes left right) → IsTrue (intersects left right)
+
+-- the canonical form of a text is its own
+abbrev pub IsFormOnce : List ℕ → Type 0
+IsFormOnce text = canonize (canonize text) ≡ canonize text
+
+-- key expressions with equal texts hand a hasher the same, whatever their declarations
+abbrev pub HashAlike : Key → Key → Type 0
+HashAlike left right = IsTrue (bytes_eq left.text right.text) → fed.str left.text ≡ fed.str right.text

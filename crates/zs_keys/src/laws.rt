@@ -1,0 +1,35 @@
+//! Laws of the definitions. Each function does nothing: its contract is the law, for all texts.
+
+ghost use Rattle.zs_keys.specs.Laws.{MeetBothWays, MeetsWhatItIncludes, IsOwnForm, IsFormOnce, JoinsToCanonical, HashAlike};
+
+use crate::key_expr::KeyExpr;
+
+/// Whether two key expressions have a key in common does not depend on their order.
+pub fn intersects_is_symmetric(left: &str, right: &str)
+    ensures { MeetBothWays left.now right.now }
+{}
+
+/// A canonical text is its own canonical form.
+pub fn canonical_form_is_kept(text: &str)
+    ensures { IsOwnForm text.now }
+{}
+
+/// Two canonical texts joined by a `/` have a canonical form.
+pub fn joins_are_canonical(text: &str, suffix: &str)
+    ensures { JoinsToCanonical text.now suffix.now }
+{}
+
+/// A key expression that includes another one has a key in common with it.
+pub fn includes_implies_intersects(left: &str, right: &str)
+    ensures { MeetsWhatItIncludes left.now right.now }
+{}
+
+/// The canonical form of a text is its own canonical form.
+pub fn canonize_is_idempotent(text: &str)
+    ensures { IsFormOnce text.now }
+{}
+
+/// Equal key expressions have equal hashes, whatever their declarations.
+pub fn equal_keys_hash_alike(left: &KeyExpr<'_>, right: &KeyExpr<'_>)
+    ensures { HashAlike left.now right.now }
+{}
