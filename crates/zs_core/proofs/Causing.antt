@@ -1,16 +1,15 @@
-use Rattle.std.proofs.Common.{◌≡◌, List, Bool, true, false, Option, Some, None, refl, sym, ◌∙◌, ap, subst}
-use Rattle.std.specs.Prelude.{ℕ, ◌&&◌, not, if◌then◌else◌, encode_utf8_all}
+use Rattle.std.proofs.Common.{◌≡◌, List, Bool, true, false, Option, Some, None, refl, ◌∙◌, subst}
+use Rattle.std.specs.Prelude.{◌&&◌, not, if◌then◌else◌, encode_utf8_all}
 use Rattle.zs_core.specs.declared.event.Event.{Event}
 use Rattle.zs_core.specs.declared.event.Event.TheVariants.{Sub, Undeclare, Put, NetPut, Close}
 use Rattle.zs_core.specs.declared.event.EntityKind.TheVariants.{Sub as sub_kind}
 use Rattle.zs_core.specs.declared.settings.Settings.{Settings}
 use Rattle.zs_core.specs.declared.turn.Refusal.{Refusal}
-use Rattle.zs_core.specs.declared.turn.Refusal.TheVariants.{SessionClosedError, NotFound, UnknownScope, BadKeyExpr, QueryCancelled, ReplyDisjoint, NotDeclared, IdsExhausted, Ignored}
+use Rattle.zs_core.specs.declared.turn.Refusal.TheVariants.{SessionClosedError, NotFound, BadKeyExpr, IdsExhausted, Ignored}
 use Rattle.zs_core.specs.Keys.{key_of, is_bad}
 use Rattle.zs_core.specs.Subscribers.{is_sub}
 use Rattle.zs_core.specs.Turns.{cause, open_cause, closed_cause, refused_if, is_spent}
 use Rattle.zs_core.specs.Past.{Entry, is_closed, next_entity, world_of, past_of, subs}
-use Rattle.zs_core.specs.Live.{is_live_sub}
 use Rattle.zs_core.specs.Causes.{has_cause, needs_open, is_net, names_nothing, has_bad_key, lacks_number, Names}
 use Rattle.zs_core.proofs.Living.{IsNumbered, numbered, is_sub_is_live}
 

@@ -15,8 +15,8 @@ use Rattle.zs_keys.specs.Key.{undeclared}
 use Rattle.zs_core.specs.Subscribers.{sub_row, subs_left, is_sub}
 use Rattle.zs_core.specs.Turns.{added, cause, number_for, text_for}
 use Rattle.zs_core.specs.Past.{Entry, subs, next_entity, draws_entity, world_of, entry_for, joined, past_of}
-use Rattle.zs_core.specs.Live.{declared_subs, drew_sub, ends_sub, drew_unended, is_live_sub, live_subs}
-use Rattle.zs_core.proofs.Filters.{filter_alike, filter-filter, filter_none, all_of, all_weaker, all_append}
+use Rattle.zs_core.specs.Live.{declared_subs, drew_sub, ends_sub, drew_unended, is_live_sub, live_subs, Ascend}
+use Rattle.zs_core.proofs.Filters.{filter-filter, filter_none, all_weaker, all_append}
 
 -- an event that draws an entity number drew the next one, and its key stands for a text
 abbrev pub IsDrawn : ℕ → Event → Option ℕ → Option (List ℕ) → Type 0
@@ -150,3 +150,43 @@ is_sub_is_live s (x ∷ past) id n = go x.event x.number x.text n.0 (is_sub_is_l
     go (Undeclare sub_kind other) number text drew ih = is_sub-left id other (subs past) ∙ ap (λ (b : Bool). not (id == other) && b) ih
     go Close number text drew ih = refl
     go e number text drew ih = ih
+
+-- what holds of each element holds of those that a filter keeps
+all_filter : (P : SubRow → Type 0) (p : SubRow → Bool) (rows : List SubRow) → AllByRecursion P rows → AllByRecursion P (filter p rows)
+all_filter P p [] all = tt
+all_filter P p (row ∷ rows) all = go (p row) refl (all_filter P p rows all.1)
+  where
+    go : (b : Bool) → p row ≡ b → AllByRecursion P (filter p rows) → AllByRecursion P (filter p (row ∷ rows))
+    go true kept rest = rw kept (all.0, rest)
+    go false kept rest = rw kept rest
+
+ascend_filter : (p : SubRow → Bool) (rows : List SubRow) → Ascend rows → Ascend (filter p rows)
+ascend_filter p [] up = tt
+ascend_filter p (row ∷ rows) up = go (p row) refl (ascend_filter p rows up.1)
+  where
+    go : (b : Bool) → p row ≡ b → Ascend (filter p rows) → Ascend (filter p (row ∷ rows))
+    go true kept rest = rw kept (all_filter (λ later. row.id < later.id) p rows up.0, rest)
+    go false kept rest = rw kept rest
+
+ascend_push : (n : ℕ) (rows : List SubRow) (row : SubRow) → row.id ≡ n → AllByRecursion (λ r. r.id < n) rows → Ascend rows → Ascend (rows ++ row ∷ [])
+ascend_push n [] row same under up = (tt, tt)
+ascend_push n (r ∷ rows) row same under up =
+    (all_append (λ later. r.id < later.id) rows (row ∷ []) up.0 (omega (arith, under.0, same), tt), ascend_push n rows row same under.1 up.1)
+
+-- the declared subscribers stand in ascending number
+declared_ascend : (s : Settings) (past : List Entry) → IsNumbered s past → Ascend (declared_subs past)
+declared_ascend s [] n = tt
+declared_ascend s (x ∷ past) n = go x.event x.number x.text n.0 (below s past n.1) (declared_ascend s past n.1)
+  where
+    go : (e : Event) (number : Option ℕ) (text : Option (List ℕ)) → IsDrawn (next_entity s past) e number text
+        → AllByRecursion (λ row. row.id < next_entity s past) (declared_subs past) → Ascend (declared_subs past)
+        → Ascend (added (declared_subs past) (sub_row e number text))
+    go (Sub origin key) (Some number) (Some text) drew all up =
+        let same : number ≡ next_entity s past = cc ((drew refl).0) in
+        ascend_push number (declared_subs past) _ refl (rw same all) up
+    go (Sub origin key) (Some number) None drew all up = up
+    go (Sub origin key) None text drew all up = up
+    go e number text drew all up = up
+
+pub subscribers_ascend : (s : Settings) (h : List Event) → Ascend (live_subs (past_of s h))
+subscribers_ascend s h = ascend_filter (λ row. is_live_sub row.id (past_of s h)) (declared_subs (past_of s h)) (declared_ascend s (past_of s h) (numbered s h))

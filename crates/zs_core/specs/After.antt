@@ -1,4 +1,4 @@
-use Rattle.std.specs.Prelude.{ℕ, Bool, true, ◌+◌, List, []}
+use Rattle.std.specs.Prelude.{true, ◌+◌, []}
 use Rattle.zs_core.specs.declared.event.Event.{Event}
 use Rattle.zs_core.specs.declared.event.Event.TheVariants.{Sub, Undeclare, Close}
 use Rattle.zs_core.specs.World.{World}

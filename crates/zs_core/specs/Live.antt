@@ -1,6 +1,6 @@
 -- What is live, told by the events alone: a plain filter over all that was ever declared, with no table.
-use Rattle.std.specs.Prelude.{◌≡◌, ℕ, Bool, true, false, ◌==◌, ◌&&◌, ◌||◌, not, List, [], ◌∷◌, Option, Some, None, filter}
-use Rattle.std.specs.List.{list_any}
+use Rattle.std.specs.Prelude.{◌≡◌, ℕ, ◌<◌, Bool, true, false, ◌==◌, ◌&&◌, ◌||◌, not, List, [], ◌∷◌, Option, Some, filter}
+use Rattle.std.specs.List.{list_any, AllByRecursion}
 use Rattle.zs_core.specs.declared.event.Event.{Event}
 use Rattle.zs_core.specs.declared.event.Event.TheVariants.{Sub, Undeclare, Close}
 use Rattle.zs_core.specs.declared.event.EntityKind.TheVariants.{Sub as sub_kind}
@@ -43,3 +43,12 @@ live_subs past = filter (λ row. is_live_sub row.id past) (declared_subs past)
 -- the law: after any history, the table of subscribers holds the live ones and no others
 abbrev pub TableIsLive : Type 0
 TableIsLive = (s : Settings) (h : List Event) → subs (past_of s h) ≡ live_subs (past_of s h)
+
+-- the numbers of rows rise from each one to all behind it
+abbrev pub Ascend : List SubRow → Type 0
+Ascend [] = Unit {0}
+Ascend (row ∷ rows) = AllByRecursion (λ later. row.id < later.id) rows × Ascend rows
+
+-- the law: after any history, the live subscribers stand in ascending number, and so no number is there twice
+abbrev pub SubscribersAscend : Type 0
+SubscribersAscend = (s : Settings) (h : List Event) → Ascend (live_subs (past_of s h))

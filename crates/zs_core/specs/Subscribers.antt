@@ -1,4 +1,4 @@
-use Rattle.std.specs.Prelude.{ℕ, Bool, not, ◌==◌, List, [], ◌∷◌, Option, Some, None, map, filter}
+use Rattle.std.specs.Prelude.{ℕ, Bool, not, ◌==◌, List, [], ◌∷◌, Option, Some, map, filter}
 use Rattle.std.specs.List.{list_any}
 use Rattle.zs_keys.specs.Key.{undeclared}
 use Rattle.zs_core.specs.declared.event.Event.{Event}

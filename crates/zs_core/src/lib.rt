@@ -3,7 +3,7 @@
 #![tactic(auto)]
 
 pub use event::{EntityKind, Event, KeyArg};
-pub use laws::{refusals_have_causes, table_is_live};
+pub use laws::{refusals_have_causes, subscribers_ascend, table_is_live};
 pub use settings::Settings;
 pub use state::SessionState;
 pub use subscriber::SubRow;
