@@ -1,6 +1,5 @@
-use Rattle.std.proofs.Common.{◌≡◌, ℕ, suc, ◌+◌, ◌≤◌, ◌<◌, List, [], ◌∷◌, ◌++◌, length, Bool, true, false, Option, Some, None, refl, sym, ◌∙◌, ap, subst, append_assoc, length-append, arith}
-use Rattle.std.specs.Prelude.{◌&&◌, is_some, nat_le, Result, Err, IsErrAnd}
-use Rattle.std.specs.List.{AllByRecursion, filter_map}
+use Rattle.std.proofs.Common.{◌≡◌, ℕ, suc, ◌+◌, ◌≤◌, List, [], ◌∷◌, ◌++◌, length, true, false, Option, Some, None, refl, sym, ◌∙◌, ap, subst, append_assoc, length-append, arith}
+use Rattle.std.specs.Prelude.{◌&&◌, nat_le, Result, Err, IsErrAnd}
 use Rattle.std.proofs.lemmas.List.{append-nil}
 use Rattle.std.proofs.lemmas.List.Elements.{filter_map-append}
 use Rattle.std.proofs.lemmas.Bool.Decides.{nat_tests}
@@ -17,8 +16,7 @@ use Rattle.zs_script.specs.Printing.{turn_text}
 use Rattle.zs_script.specs.Reading.{Reading, HasSeen, GivesLine, IsTooLong}
 use Rattle.zs_script.specs.Writing.{PutsFrontOn}
 use Rattle.zs_session.specs.Script.{is_good, events_of, script, text_after, text}
-use Rattle.zs_session.specs.Telling.{Told, told}
-use Rattle.zs_session.specs.Driving.{IsDone, IsFront, StopsAt, IsNoEvent, IsLong, AreGood, read_events}
+use Rattle.zs_session.specs.Driving.{IsDone, IsFront, StopsAt, IsNoEvent, IsLong, AreGood}
 use Rattle.zs_script.specs.declared.reader.LineError.{LineError}
 use Rattle.zs_script.specs.declared.reader.LineError.TheVariants.{ReadFault as read_fault, LineTooLong as long_line, OutOfTurns as out_of_turns, NoMemory as no_memory}
 use Rattle.zs_session.specs.declared.driving.Driven.{Driven}

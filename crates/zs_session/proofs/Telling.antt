@@ -1,7 +1,6 @@
-use Rattle.std.proofs.Common.{◌≡◌, ◌+◌, List, [], ◌∷◌, ◌++◌, length, Bool, true, false, Option, Some, None, refl, sym, ◌∙◌, ap, subst, inl, inr, append_assoc, arith}
-use Rattle.std.specs.Prelude.{ℕ, ◌==◌, ◌&&◌, ◌||◌, not, ◌⊎◌, if◌then◌else◌, decimal, encode_utf8_all, map, filter}
+use Rattle.std.proofs.Common.{◌≡◌, ◌+◌, List, [], ◌∷◌, ◌++◌, length, Bool, true, false, Option, Some, None, refl, sym, ◌∙◌, ap, inl, inr}
+use Rattle.std.specs.Prelude.{ℕ, if◌then◌else◌, encode_utf8_all, map, filter}
 use Rattle.std.specs.List.{AllByRecursion, flat_map}
-use Rattle.std.proofs.lemmas.Bool.Decides.{nat_tests}
 use Rattle.std.proofs.lemmas.List.Elements.{filter-append}
 use Rattle.zs_core.specs.declared.event.Event.{Event}
 use Rattle.zs_core.specs.declared.event.Event.TheVariants.{Sub, Undeclare, Put, NetPut, Close}
@@ -21,11 +20,9 @@ use Rattle.zs_core.specs.declared.turn.Kind.TheVariants.{Subscriber}
 use Rattle.zs_core.specs.declared.turn.Refusal.{Refusal}
 use Rattle.zs_core.specs.declared.turn.Turn.{Turn}
 use Rattle.zs_core.specs.Turn.{answered}
-use Rattle.zs_core.specs.World.{World}
-use Rattle.zs_core.specs.Keys.{key_of}
 use Rattle.zs_core.specs.Subscribers.{sub_ends}
-use Rattle.zs_core.specs.Publications.{Publication, allows, hands, put_sample}
-use Rattle.zs_core.specs.Turns.{cause, closed_cause, open_cause, number_for, effects_of, hands_for}
+use Rattle.zs_core.specs.Publications.{Publication, allows, put_sample}
+use Rattle.zs_core.specs.Turns.{closed_cause, open_cause, number_for, effects_of, hands_for}
 use Rattle.zs_core.specs.Past.{Entry, past_of, world_of, is_closed, subs}
 use Rattle.zs_core.specs.Live.{live_subs}
 use Rattle.zs_core.specs.Causes.{has_cause, Names}

@@ -1,4 +1,4 @@
-use Rattle.std.proofs.Common.{◌≡◌, ℕ, ◌+◌, List, [], Some, Err, sym, ◌∙◌, ap, refl, subst, arith}
+use Rattle.std.proofs.Common.{◌≡◌, ℕ, ◌+◌, [], Err, sym, ◌∙◌, ap, subst, arith}
 use Rattle.zs_core.specs.World.{World}
 use Rattle.zs_core.specs.Stands.{world_after}
 use Rattle.zs_core.specs.declared.event.Event.TheVariants.{Close}

@@ -1,4 +1,4 @@
-use Rattle.std.proofs.Common.{◌≡◌, ℕ, ◌≤◌, length, Ok, Err, sym, ◌∙◌, ap, refl, subst, inl, inr}
+use Rattle.std.proofs.Common.{◌≤◌, length, Err, sym, ◌∙◌, ap, subst, inr}
 use Rattle.zs_core.specs.declared.settings.Settings.{Settings}
 use Rattle.zs_session.specs.declared.errors.DriveError.{DriveError}
 use Rattle.zs_session.specs.Driving.{IsDone, IsFront, StopsAt, IsNoEvent, IsLong, IsValid}
