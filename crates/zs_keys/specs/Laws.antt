@@ -1,5 +1,5 @@
 -- Laws of the definitions, by which a reader may check them.
-use Rattle.std.specs.Prelude.{◌≡◌, ℕ, List, IsTrue, bytes_eq}
+use Rattle.std.specs.Prelude.{◌≡◌, ℕ, List, IsTrue, bytes_eq, chars}
 use Rattle.std.specs.Hash as fed
 use Rattle.zs_keys.specs.Text.{is_canonical}
 use Rattle.zs_keys.specs.Matching.{intersects, includes}
@@ -30,3 +30,8 @@ IsFormOnce text = canonize (canonize text) ≡ canonize text
 -- key expressions with equal texts hand a hasher the same, whatever their declarations
 abbrev pub HashAlike : Key → Key → Type 0
 HashAlike left right = IsTrue (bytes_eq left.text right.text) → fed.str left.text ≡ fed.str right.text
+
+-- matching and inclusion are those of the characters of two texts, although they are defined over bytes
+abbrev pub IsByCharacters : List ℕ → List ℕ → Type 0
+IsByCharacters left right =
+    (intersects (chars left) (chars right) ≡ intersects left right) × (includes (chars left) (chars right) ≡ includes left right)

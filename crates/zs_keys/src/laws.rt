@@ -1,6 +1,6 @@
 //! Laws of the definitions. Each function does nothing: its contract is the law, for all texts.
 
-ghost use Rattle.zs_keys.specs.Laws.{MeetBothWays, MeetsWhatItIncludes, IsOwnForm, IsFormOnce, JoinsToCanonical, HashAlike};
+ghost use Rattle.zs_keys.specs.Laws.{MeetBothWays, MeetsWhatItIncludes, IsOwnForm, IsFormOnce, JoinsToCanonical, HashAlike, IsByCharacters};
 
 use crate::key_expr::KeyExpr;
 
@@ -32,4 +32,9 @@ pub fn canonize_is_idempotent(text: &str)
 /// Equal key expressions have equal hashes, whatever their declarations.
 pub fn equal_keys_hash_alike(left: &KeyExpr<'_>, right: &KeyExpr<'_>)
     ensures { HashAlike left.now right.now }
+{}
+
+/// The definitions speak of the bytes of two texts, and have the same answers over their characters.
+pub fn matching_is_by_characters(left: &str, right: &str)
+    ensures { IsByCharacters left.now right.now }
 {}
