@@ -1,6 +1,6 @@
 //! Laws of the definitions. Each function does nothing: its contract is the law, for all texts.
 
-ghost use Rattle.zs_keys.specs.Laws.{MeetBothWays, MeetsWhatItIncludes, IsOwnForm, IsFormOnce, JoinsToCanonical, HashAlike, IsByCharacters};
+ghost use Rattle.zs_keys.specs.Laws.{MeetBothWays, MeetsWhatItIncludes, IsOwnForm, IsFormOnce, HasFormWhere, JoinsToCanonical, HashAlike, IsByCharacters};
 
 use crate::key_expr::KeyExpr;
 
@@ -27,6 +27,12 @@ pub fn includes_implies_intersects(left: &str, right: &str)
 /// The canonical form of a text is its own canonical form.
 pub fn canonize_is_idempotent(text: &str)
     ensures { IsFormOnce text.now }
+{}
+
+/// The canonical form of a text is canonical exactly where the text has no fault but runs of stars: where each chunk, in
+/// its own canonical form, may stand in a canonical text.
+pub fn canonical_form_is_canonical(text: &str)
+    ensures { HasFormWhere text.now }
 {}
 
 /// Equal key expressions have equal hashes, whatever their declarations.
