@@ -8,7 +8,7 @@ use Rattle.std.proofs.lemmas.List.Splits.{join_with_byte-slice_split}
 use Rattle.zs_keys.specs.Text.{chunks, is_canonical, is_chunk, is_star, is_double_star, may_follow, may_run, has_ordered_stars}
 use Rattle.zs_keys.specs.Canonize.{squeezed, canonized_chunk, sink, ordered, canonize}
 use Rattle.zs_keys.specs.Key.{join_text}
-use Rattle.zs_keys.proofs.Bools.{split, and_second, or_none_left, or_none_right, and_first, both, not_true}
+use Rattle.zs_keys.proofs.Bools.{split, and_second, or_none_left, or_none_right, and_first, both, not_true, both_ways}
 use Rattle.zs_keys.proofs.SqueezeLemmas.{squeezed-plain, squeezed-other, squeezed-none, squeezed-once, squeezed-all}
 use Rattle.zs_keys.proofs.OrderLemmas.{sink-star, sink-run, sink-other, ordered-run, ordered-plain, ordered-none, sink-none}
 use Rattle.zs_keys.proofs.PrefixLemmas.{chunks-append, chunks-some}
@@ -293,3 +293,52 @@ canonize-once text =
         → list_all is_form all ≡ true
         → canonize (join_with_byte 0x2f (ordered all)) ≡ join_with_byte 0x2f (ordered all)
     once-of all f fs is n h = rw is (joined-once f fs (rw is at n) (rw is at h))
+
+-- what holds of each chunk in order holds of each chunk
+sink-back : (test : List ℕ → Bool) (cs : List (List ℕ)) → list_all test (sink cs) ≡ true → list_all test cs ≡ true
+sink-back test [] h = refl
+sink-back test (c ∷ cs) h = split (is_star c)
+    (λ t.
+    let h' : (test c && list_all test (sink cs)) ≡ true = rw (sink-star c cs t) at h in
+    both (test c) (list_all test cs) (and_first (test c) (list_all test (sink cs)) h')
+    (sink-back test cs (and_second (test c) (list_all test (sink cs)) h')))
+    (λ t. split (is_double_star c)
+    (λ k. rw (sink-run c cs t k) at h)
+    (λ k. and_second (test (codes "**")) (list_all test (c ∷ cs)) (rw (sink-other c cs t k) at h)))
+
+ordered-back : (test : List ℕ → Bool) → test (codes "**") ≡ true → (cs : List (List ℕ)) → list_all test (ordered cs) ≡ true
+    → list_all test cs ≡ true
+ordered-back test run [] h = refl
+ordered-back test run (c ∷ cs) h = split (is_double_star c)
+    (λ k.
+    let is : c ≡ codes "**" = (bytes_decides c (codes "**")).0 k in
+    both (test c) (list_all test cs) (rw is run)
+    (ordered-back test run cs (sink-back test (ordered cs) (rw (ordered-run c cs k) at h))))
+    (λ k.
+    let h' : (test c && list_all test (ordered cs)) ≡ true = rw (ordered-plain c cs k) at h in
+    both (test c) (list_all test cs) (and_first (test c) (list_all test (ordered cs)) h')
+    (ordered-back test run cs (and_second (test c) (list_all test (ordered cs)) h')))
+
+joined-canonical : (f : List ℕ) (fs : List (List ℕ)) → list_all has_no_slash (f ∷ fs) ≡ true
+    → is_canonical (join_with_byte 0x2f (ordered (f ∷ fs))) ≡ list_all is_chunk (f ∷ fs)
+joined-canonical f fs n =
+    let (d, ds, is) = ordered-some f fs in
+    let plain : list_all has_no_slash (d ∷ ds) ≡ true = rw is at (ordered-chunks has_no_slash refl (f ∷ fs) n) in
+    let back : list_all is_chunk (d ∷ ds) ≡ true → list_all is_chunk (f ∷ fs) ≡ true =
+    λ h. ordered-back is_chunk refl (f ∷ fs) (rw is h) in
+    both_ways (is_canonical (join_with_byte 0x2f (ordered (f ∷ fs)))) (list_all is_chunk (f ∷ fs))
+    (λ h.
+    let h' : (list_all is_chunk (d ∷ ds) && has_ordered_stars (d ∷ ds)) ≡ true = rw (is, chunks-of_joined d ds plain) at h in
+    back (and_first (list_all is_chunk (d ∷ ds)) (has_ordered_stars (d ∷ ds)) h'))
+    (λ h. form-canonical f fs h n)
+
+-- the canonical form is canonical exactly where each of its chunks is one
+pub form-where : (text : List ℕ) → is_canonical (canonize text) ≡ list_all is_chunk (map canonized_chunk (chunks text))
+form-where text =
+    let (c, cs, is) = chunks-some text in
+    where-of (map canonized_chunk (chunks text)) (canonized_chunk c) (map canonized_chunk cs) (rw is refl)
+    (forms-no_slash (chunks text) (chunks-whole text))
+  where
+    where-of : (all : List (List ℕ)) (f : List ℕ) (fs : List (List ℕ)) → all ≡ f ∷ fs → list_all has_no_slash all ≡ true
+        → is_canonical (join_with_byte 0x2f (ordered all)) ≡ list_all is_chunk all
+    where-of all f fs is n = rw is (joined-canonical f fs (rw is at n))

@@ -5,6 +5,9 @@ pub mod Cut
 pub mod Boundaries
 pub mod SqueezeLemmas
 pub mod OrderLemmas
+pub mod Encoding
+pub mod Characters
+pub mod CharacterChunks
 pub mod IncludeMeets
 pub mod CanonicalForm
 pub mod DeclarationLemmas

@@ -1,6 +1,6 @@
 //! Laws of the definitions. Each function does nothing: its contract is the law, for all texts.
 
-ghost use Rattle.zs_keys.specs.Laws.{MeetBothWays, MeetsWhatItIncludes, IsOwnForm, IsFormOnce, JoinsToCanonical, HashAlike};
+ghost use Rattle.zs_keys.specs.Laws.{MeetBothWays, MeetsWhatItIncludes, IsOwnForm, IsFormOnce, HasFormWhere, JoinsToCanonical, HashAlike, IsByCharacters};
 
 use crate::key_expr::KeyExpr;
 
@@ -29,7 +29,18 @@ pub fn canonize_is_idempotent(text: &str)
     ensures { IsFormOnce text.now }
 {}
 
+/// The canonical form of a text is canonical exactly where the text has no fault but runs of stars: where each chunk, in
+/// its own canonical form, may stand in a canonical text.
+pub fn canonical_form_is_canonical(text: &str)
+    ensures { HasFormWhere text.now }
+{}
+
 /// Equal key expressions have equal hashes, whatever their declarations.
 pub fn equal_keys_hash_alike(left: &KeyExpr<'_>, right: &KeyExpr<'_>)
     ensures { HashAlike left.now right.now }
+{}
+
+/// The definitions speak of the bytes of two texts, and have the same answers over their characters.
+pub fn matching_is_by_characters(left: &str, right: &str)
+    ensures { IsByCharacters left.now right.now }
 {}
