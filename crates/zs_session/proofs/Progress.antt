@@ -43,7 +43,22 @@ pub record Progress (s : Settings) (input taken : List ℕ) (reader : Reading) (
   pub given : reader.given ≡ length read
   pub seen : HasSeen reader now
   pub line_max : reader.line_max ≡ s.line_max
+
+-- how far a run has read, whatever its sink tells: each read took a turn and gave at least one byte
+pub record Reads (s : Settings) (input : List ℕ) (reader : Reading) (left : Option (List ℕ)) : Type 0 where
+  pub now : List ℕ
+  pub holds : left ≡ Some now
+  pub seen : HasSeen reader now
   pub turns : length now + s.turns ≤ length input + reader.turns
+
+pub reads_begun : (s : Settings) (input : List ℕ) (left : Option (List ℕ)) → left ≡ Some input
+    → Reads s input (record { held = []; ended = false; turns = s.turns; given = 0; line_max = s.line_max }) left
+reads_begun s input left holds = record { now = input; holds = holds; seen = λ ended. cc; turns = omega arith }
+
+pub reads_on : (s : Settings) (input : List ℕ) (old new : Reading) (left left' : Option (List ℕ)) (r : Reads s input old left)
+    (now : List ℕ) (place : ℕ) (bytes : List ℕ) → left' ≡ Some now → GivesLine old new r.now now place bytes → Reads s input new left'
+reads_on s input old new left left' r now place bytes holds g =
+    record { now = now; holds = holds; seen = g.seen; turns = omega (arith, g.turns, r.turns) }
 
 text_after-append : (s : Settings) (h es fs : List Event) → text_after s h (es ++ fs) ≡ text_after s h es ++ text_after s (history_after h es) fs
 text_after-append s h [] fs = refl
@@ -99,7 +114,6 @@ begun s input taken left written holds output = record {
   given = refl;
   seen = λ ended. cc;
   line_max = refl;
-  turns = omega arith;
 }
 
 -- what one more line adds to those that were read
@@ -147,7 +161,6 @@ module _ (s : Settings) (input taken : List ℕ) (old new : Reading) (left left'
         given = g.given ∙ omega (arith, p.given, length-append p.read (bytes ∷ []));
         seen = g.seen;
         line_max = g.line_max ∙ p.line_max;
-        turns = omega (arith, g.turns, p.turns);
       }
 
   -- the line is an event, and a front of its turn was written
@@ -215,9 +228,9 @@ stopped_long s input taken reader left written state number place p same long = 
 }
 
 -- the turns ran out
-pub spent : (s : Settings) (input taken : List ℕ) (reader : Reading) (left written : Option (List ℕ)) (state : World) (number : ℕ)
-    (p : Progress s input taken reader left written state number) → reader.turns ≤ length p.now → s.turns ≤ length input
-spent s input taken reader left written state number p low = omega (arith, p.turns, low)
+pub spent : (s : Settings) (input : List ℕ) (reader : Reading) (left : Option (List ℕ)) (r : Reads s input reader left)
+    → reader.turns ≤ length r.now → s.turns ≤ length input
+spent s input reader left r low = omega (arith, r.turns, low)
 
 -- all lines were read
 module _ (s : Settings) (input taken : List ℕ) (reader : Reading) (left written written' : Option (List ℕ)) (state : World) (number : ℕ)

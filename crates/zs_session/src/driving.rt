@@ -86,7 +86,7 @@ pub fn drive<S: Source, K: Sink>(
         → (input taken : List ℕ) → S.left source.old ≡ Some input → K.written sink.old ≡ Some taken
         → StopsAt settings.now input taken (K.written sink.new) number (IsLong settings.now.line_max) }
     ensures out_of_turns { result ≡ Err DriveError.OutOfTurns
-        → (input : List ℕ) → S.left source.old ≡ Some input → (taken : List ℕ) → K.written sink.old ≡ Some taken → settings.now.turns ≤ length input }
+        → (input : List ℕ) → S.left source.old ≡ Some input → settings.now.turns ≤ length input }
     ensures read_fault { result ≡ Err DriveError.ReadFault → HasRisen (S.faults source.old) (S.faults source.new) }
     ensures write_fault { result ≡ Err DriveError.WriteFault → HasRisen (K.faults sink.old) (K.faults sink.new) }
     ensures source_later { S.faults source.old ≤ S.faults source.new }
@@ -118,7 +118,7 @@ fn drive_lines<S: Source, K: Sink>(
         → (input taken : List ℕ) → S.left source.old ≡ Some input → K.written sink.old ≡ Some taken
         → StopsAt settings.now input taken (K.written sink.new) number (IsLong settings.now.line_max) }
     ensures out_of_turns { result ≡ Err DriveError.OutOfTurns
-        → (input : List ℕ) → S.left source.old ≡ Some input → (taken : List ℕ) → K.written sink.old ≡ Some taken → settings.now.turns ≤ length input }
+        → (input : List ℕ) → S.left source.old ≡ Some input → settings.now.turns ≤ length input }
     ensures read_fault { result ≡ Err DriveError.ReadFault → HasRisen (S.faults source.old) (S.faults source.new) }
     ensures write_fault { result ≡ Err DriveError.WriteFault → HasRisen (K.faults sink.old) (K.faults sink.new) }
     ensures source_later { S.faults source.old ≤ S.faults source.new }

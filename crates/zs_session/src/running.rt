@@ -28,7 +28,7 @@ pub fn run<S: Source, K: Sink, C: Sink>(
     ensures words { words.now ≢ [] → (result ≡ 2) × (source.new ≡ source.old) × (sink.new ≡ sink.old)
         × Complains (C.written complaints.old) (C.faults complaints.old) bad_words (C.written complaints.new) (C.faults complaints.new) }
     ensures only_words { result ≡ 2 → words.now ≢ [] }
-    ensures known { result ≤ 8 }
+    ensures known { (result ≢ 1) × (result ≤ 8) }
     ensures done { result ≡ 0 → (input taken : List ℕ) → S.left source.old ≡ Some input → K.written sink.old ≡ Some taken
         → (count : ℕ) × IsDone default_settings input taken (S.left source.new) (K.written sink.new) count }
     ensures quiet { result ≡ 0 → complaints.new ≡ complaints.old }
@@ -45,7 +45,7 @@ pub fn run<S: Source, K: Sink, C: Sink>(
     ensures complaint { 5 ≤ result → (error : DriveError) × (result ≡ status_of error)
         × Complains (C.written complaints.old) (C.faults complaints.old) (complaint_of error) (C.written complaints.new) (C.faults complaints.new) }
     ensures out_of_turns { result ≡ 5
-        → (input taken : List ℕ) → S.left source.old ≡ Some input → K.written sink.old ≡ Some taken → default_settings.turns ≤ length input }
+        → (input : List ℕ) → S.left source.old ≡ Some input → default_settings.turns ≤ length input }
     ensures read_fault { result ≡ 6 → HasRisen (S.faults source.old) (S.faults source.new) }
     ensures write_fault { result ≡ 7 → HasRisen (K.faults sink.old) (K.faults sink.new) }
     ensures complete { words.now ≡ [] → (input taken : List ℕ) → S.left source.old ≡ Some input → K.written sink.old ≡ Some taken

@@ -8,4 +8,4 @@ returns-clause-complete g c = λ input taken holds output valid read write.
     (λ same. read (e.read_fault same)) (λ same. write (e.write_fault same))
     (λ number same. e.bad_line number same input taken holds output)
     (λ number same. e.long_line number same input taken holds output)
-    (λ same. e.out_of_turns same input holds taken output)
+    (λ same. e.out_of_turns same input holds)

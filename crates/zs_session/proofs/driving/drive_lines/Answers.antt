@@ -10,7 +10,7 @@ use Rattle.zs_script.specs.Reading.{Reading}
 use Rattle.zs_session.specs.Script.{events_of}
 use Rattle.zs_session.specs.Driving.{IsDone, StopsAt, IsNoEvent}
 use Rattle.zs_session.proofs.Progress.{Progress}
-use Rattle.zs_session.proofs.Progress.{history_after, error_from, long_from, turns_from, none_from, begun, went_on, part_written, stopped, front_whole, stopped_long, spent, part_closed, closed}
+use Rattle.zs_session.proofs.Progress.{Reads, reads_begun, reads_on, history_after, error_from, long_from, turns_from, none_from, begun, went_on, part_written, stopped, front_whole, stopped_long, spent, part_closed, closed}
 use Rattle.zs_session.proofs.driving.drive_lines.Goals as goal
 
 pub returns-in_err-state-clause-front : goal.returns-in_err-state-clause-front
@@ -23,6 +23,9 @@ lines-init g c = record {
       subst (λ (w : World). Progress c.args.settings.now input taken c.new-reader.result (g.S.Source.left c.args.source.now) (g.K.Sink.written c.args.sink.now) w 0) (sym c.in_ok-state.ensures)
       (subst (λ (r : Reading). Progress c.args.settings.now input taken r (g.S.Source.left c.args.source.now) (g.K.Sink.written c.args.sink.now) (world_after c.args.settings.now []) 0) (sym c.new-reader.ensures)
       (begun c.args.settings.now input taken _ _ holds output));
+  reads = λ input holds.
+      subst (λ (r : Reading). Reads c.args.settings.now input r (g.S.Source.left c.args.source.now)) (sym c.new-reader.ensures)
+      (reads_begun c.args.settings.now input _ holds);
   source_later = omega arith;
   sink_later = omega arith;
 }
@@ -39,10 +42,10 @@ returns-in_err-line-clause-long_line g c = λ number same input taken holds outp
     stopped_long _ _ _ _ _ _ _ _ _ p long.0 (long.1 p.now p.holds p.seen)
 
 pub returns-in_err-line-clause-out_of_turns : goal.returns-in_err-line-clause-out_of_turns
-returns-in_err-line-clause-out_of_turns g c = λ same input holds taken output.
+returns-in_err-line-clause-out_of_turns g c = λ same input holds.
     let line = turns_from _ (error_from c.from_residual-in_err-line.result c.in_err-line.field-0.0 _ c.from_residual-in_err-line.ensures.1 same) in
-    let p = c.lines.invariant.progress input taken holds output in
-    spent _ _ _ _ _ _ _ _ p (c.in_err-line.ensures.out_of_turns (ap Err line) p.now p.holds p.seen)
+    let r = c.lines.invariant.reads input holds in
+    spent _ _ _ _ r (c.in_err-line.ensures.out_of_turns (ap Err line) r.now r.holds r.seen)
 
 pub returns-in_err-event-clause-front : goal.returns-in_err-event-clause-front
 returns-in_err-event-clause-front g c = λ input taken holds output.
@@ -74,6 +77,10 @@ lines-preserved g c = record {
       let line = (rw c.in-Some.is at c.in_ok-line.ensures.line) p.now p.holds p.seen in
       went_on _ _ _ _ _ _ _ _ _ _ _ _ _ p line.0 line.1 line.2 _ _ (sym c.in_ok-event.ensures ∙ c.in-Some-2.is)
       (c.in_ok-take_event.ensures.stands c.args.settings.now (history_after [] (events_of p.read)) p.stands) (c.in_ok-take_event.ensures.whole c.args.settings.now (history_after [] (events_of p.read)) p.stands);
+  reads = λ input holds.
+      let r = c.lines.invariant.reads input holds in
+      let line = (rw c.in-Some.is at c.in_ok-line.ensures.line) r.now r.holds r.seen in
+      reads_on _ _ _ _ _ _ r _ _ _ line.1 line.2;
   source_later = omega (arith, c.lines.invariant.source_later, c.next.ensures.later);
   sink_later = omega (arith, c.lines.invariant.sink_later, c.take_event.ensures.later);
 }

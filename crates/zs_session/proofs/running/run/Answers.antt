@@ -46,9 +46,9 @@ returns-in-Err-clause-long_line g c = λ status.
     )
 
 pub returns-in-Err-clause-out_of_turns : goal.returns-in-Err-clause-out_of_turns
-returns-in-Err-clause-out_of_turns g c = λ status input taken holds output.
+returns-in-Err-clause-out_of_turns g c = λ status input holds.
     let e = turns_status c.in-Err.error (sym c.status_of.ensures ∙ status) in
-    subst (λ (s : Settings). s.turns ≤ length input) c.default.ensures (c.in-Err.ensures.out_of_turns (ap Err e) input holds taken output)
+    subst (λ (s : Settings). s.turns ≤ length input) c.default.ensures (c.in-Err.ensures.out_of_turns (ap Err e) input holds)
 
 pub returns-in-Err-clause-complete : goal.returns-in-Err-clause-complete
 returns-in-Err-clause-complete g c = λ empty input taken holds output valid read write.
