@@ -1,0 +1,12 @@
+//! Payloads as shared slices of bytes, and texts.
+#![tactic(auto)]
+
+pub use payload::{TextError, ZBytes};
+pub use slice_iterator::ZBytesSliceIterator;
+pub use text::Text;
+
+mod making;
+mod payload;
+mod slice_iterator;
+mod slices;
+mod text;
