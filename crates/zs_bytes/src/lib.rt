@@ -2,11 +2,13 @@
 #![tactic(auto)]
 
 pub use payload::{TextError, ZBytes};
+pub use reader::{BeforeStart, ZBytesReader};
 pub use slice_iterator::ZBytesSliceIterator;
 pub use text::Text;
 
 mod making;
 mod payload;
+mod reader;
 mod slice_iterator;
 mod slices;
 mod text;

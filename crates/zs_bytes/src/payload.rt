@@ -4,6 +4,7 @@ ghost use Rattle.std.specs.Prelude.{◌≡◌, ◌≢◌, ◌<◌, ◌≤◌, �
 ghost use Rattle.std.specs.Cow.{cow_slice_items, cow_str_bytes, IsBorrowedSlice, IsBorrowedStr};
 ghost use Rattle.zs_bytes.specs.Payload.{bytes_of, one_slice};
 
+use crate::reader::ZBytesReader;
 use crate::slice_iterator::ZBytesSliceIterator;
 use crate::slices::Slices;
 use bytes::Bytes;
@@ -89,6 +90,13 @@ impl ZBytes {
         ensures { result ≡ self.now }
     {
         ZBytesSliceIterator::over(self.as_slices())
+    }
+
+    /// A reader of the bytes, at their start.
+    pub fn reader(&self) -> ZBytesReader<'_>
+        ensures { result ≡ record { bytes = bytes_of self.now; position = 0 } }
+    {
+        ZBytesReader::over(self.as_slices(), self.len)
     }
 
     /// The bytes where they lie in one piece.
