@@ -1,7 +1,7 @@
 -- A reader that takes one piece, and a buffer that it is written to.
-use Rattle.std.proofs.Common.{◌≡◌, ℕ, ◌+◌, ◌-◌, ◌≤◌, List, [], ◌++◌, length, take, drop, sym, ap, ◌∙◌, arith, length-append, length-drop}
+use Rattle.std.proofs.Common.{◌≡◌, ℕ, ◌+◌, ◌-◌, ◌<◌, ◌≤◌, List, [], ◌++◌, min, length, take, drop, sym, ap, ◌∙◌, arith, length-append, length-drop}
 use Rattle.std.specs.List.{concat}
-use Rattle.std.proofs.lemmas.List.{append-nil, drop-drop, drop-append-le, take-append-le, length-take-le, drop_all}
+use Rattle.std.proofs.lemmas.List.{append-nil, take-append-drop, drop-drop, drop-append-le, take-append-le, length-take-le, drop_all}
 use Rattle.std.proofs.Math.Seq.{take-add, take-append-add, drop-append-add}
 use borrow.Rule.Slice.PartMut.{put_mid}
 use Rattle.zs_bytes.specs.Reading.{IsAt, Reading, unread}
@@ -55,3 +55,11 @@ moved-moved s t u a b n first second sum =
 -- what is left after a move
 pub unread-moved : (s t : Reading) (a : ℕ) → t ≡ record s { position = s.position + a } → unread t ≡ drop a (unread s)
 unread-moved s t a after = ap (λ (r : Reading). unread r) after ∙ sym (drop-drop a s.position s.bytes)
+
+-- a read that moved n bytes took them off
+pub read-consumes : (s t : Reading) (into : List ℕ) (n : ℕ) → n ≡ min (length into) (length (unread s)) → take n into ≡ take n (unread s) → t ≡ record s { position = s.position + n } → (unread s ≡ take n into ++ unread t) × (n ≡ 0 → 0 < length into → unread t ≡ [])
+read-consumes s t into n count bytes after =
+    let left = unread-moved s t n after in (
+      sym (take-append-drop n (unread s)) ∙ ap (λ (front : List ℕ). front ++ drop n (unread s)) (sym bytes) ∙ ap (λ (rest : List ℕ). take n into ++ rest) (sym left),
+      λ none room. left ∙ drop_all n (unread s) (omega arith),
+    )

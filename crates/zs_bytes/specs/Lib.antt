@@ -1,3 +1,4 @@
 pub mod Payload
 pub mod Reading
 pub mod Slices
+pub mod Written

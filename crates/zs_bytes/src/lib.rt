@@ -5,6 +5,7 @@ pub use payload::{TextError, ZBytes};
 pub use reader::{BeforeStart, ZBytesReader};
 pub use slice_iterator::ZBytesSliceIterator;
 pub use text::Text;
+pub use writer::ZBytesWriter;
 
 mod making;
 mod payload;
@@ -12,3 +13,4 @@ mod reader;
 mod slice_iterator;
 mod slices;
 mod text;
+mod writer;

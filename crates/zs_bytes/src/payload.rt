@@ -1,6 +1,6 @@
 //! The payload of a publication, a query or a reply.
 
-ghost use Rattle.std.specs.Prelude.{◌≡◌, ◌≢◌, ◌<◌, ◌≤◌, ◌==◌, [], length, IfOk, OnOk, IsOkAnd, IsUtf8, MatchOption};
+ghost use Rattle.std.specs.Prelude.{◌≡◌, ◌≢◌, ◌<◌, ◌≤◌, ◌==◌, [], length, ◌+◌, ◌++◌, vec_len, vec_capacity, IfOk, OnOk, IsOkAnd, IsUtf8, MatchOption};
 ghost use Rattle.std.specs.Cow.{cow_slice_items, cow_str_bytes, IsBorrowedSlice, IsBorrowedStr};
 ghost use Rattle.zs_bytes.specs.Payload.{bytes_of, one_slice};
 
@@ -174,6 +174,32 @@ impl ZBytes {
         ZBytes {
             slices: Slices::One(slice),
             len,
+        }
+    }
+
+    /// A payload of these slices, which have `len` bytes.
+    pub(crate) fn of_list(slices: Vec<Bytes>, len: usize) -> ZBytes
+        requires { len ≡ length (bytes_of slices.items) }
+        ensures { result ≡ slices.items }
+    {
+        ZBytes {
+            slices: Slices::of_list(slices),
+            len,
+        }
+    }
+
+    /// Moves the slices behind those of a list that has room for them.
+    pub(crate) fn move_into(self, list: &mut Vec<Bytes>)
+        requires { vec_len list.old + length self ≤ vec_capacity list.old }
+        ensures { list.new.items ≡ list.old.items ++ self }
+    {
+        match self.slices {
+            Slices::Nothing => (),
+            Slices::One(slice) => list.push_reserved(slice),
+            Slices::Many(mut slices) => {
+                // There is room, so it succeeds.
+                let _moved = list.append(&mut slices);
+            }
         }
     }
 }

@@ -1,12 +1,15 @@
 //! Reading a payload.
 
-ghost use Rattle.std.specs.Prelude.{◌≡◌, ◌+◌, ◌<◌, ◌≤◌, ◌==◌, [], ◌++◌, length, take, drop, min, pos, ◌+ℤ◌, ◌<ℤ◌, ◌≤ℤ◌, ◌↔◌, IsErr, IfOk, OnErr, MatchOption};
+ghost use Rattle.std.specs.Prelude.{◌≡◌, ◌+◌, ◌<◌, ◌≤◌, ◌==◌, [], ◌++◌, length, take, drop, min, pos, ◌+ℤ◌, ◌<ℤ◌, ◌≤ℤ◌, ◌↔◌, Some, IsErr, IsOk, IfOk, IfErr, OnErr, MatchOption};
+ghost use Rattle.std.specs.Io.{ReadsAtMost};
+ghost use Rattle.std.specs.Io.KnownBytes.{ReadConsumes, Keeps};
+ghost use Rattle.std.specs.IoError.{error_kind};
 ghost use Rattle.std.specs.Int.{int_min};
 ghost use Rattle.zs_bytes.specs.Payload.{bytes_of};
 ghost use Rattle.zs_bytes.specs.Reading.{unread, seek_target};
 
 use bytes::Bytes;
-use std::io::SeekFrom;
+use std::io::{self, ErrorKind, SeekFrom};
 use std::marker::Model;
 
 /// A seek to a place below the start.
@@ -177,5 +180,54 @@ fn moved(base: u64, offset: i64, end: u64) -> Option<u64>
         base.checked_sub(offset.unsigned_abs())
     } else {
         Some(base.saturating_add(offset.unsigned_abs()).min(end))
+    }
+}
+
+impl<'a> io::Read for ZBytesReader<'a> {
+    ghost remaining = { λ r. Some (unread r) };
+
+    fn read(&mut self, buf: &mut [u8]) -> io::Result<usize>
+        ensures bound { ReadsAtMost result buf.new }
+        ensures bytes { ReadConsumes (Some (unread self.old)) (Some (unread self.new)) result buf.new }
+        ensures count { result ≡ Ok (min (length buf.new) (length (unread self.old))) }
+        ensures kept { IfOk result (λ count. drop count buf.new ≡ drop count buf.old) }
+        ensures after { IfOk result (λ count. self.new ≡ record self.old { position = self.old.position + count }) }
+    {
+        Ok(ZBytesReader::read(self, buf))
+    }
+}
+
+impl<'a> io::Seek for ZBytesReader<'a> {
+    ghost stream_bytes = { λ r. Some r.bytes };
+
+    fn seek(&mut self, to: SeekFrom) -> io::Result<u64>
+        ensures bytes { Keeps (Some self.old.bytes) (Some self.new.bytes) }
+        ensures refused { IsErr result ↔ (seek_target self.old to <ℤ pos 0) }
+        ensures kind { IfErr result (λ e. error_kind e ≡ ErrorKind.InvalidInput) }
+        ensures place { IfOk result (λ place. pos place ≡ int_min (seek_target self.old to) (pos (length self.old.bytes))) }
+        ensures after { IfOk result (λ place. self.new ≡ record self.old { position = place }) }
+        ensures kept { OnErr result (self.new ≡ self.old) }
+    {
+        match ZBytesReader::seek(self, to) {
+            Ok(place) => Ok(place),
+            Err(BeforeStart) => Err(io::Error::from(ErrorKind::InvalidInput)),
+        }
+    }
+
+    fn rewind(&mut self) -> io::Result<()>
+        ensures bytes { Keeps (Some self.old.bytes) (Some self.new.bytes) }
+        ensures ok { IsOk result }
+        ensures after { self.new ≡ record self.old { position = 0 } }
+    {
+        *self = ZBytesReader::over(self.slices, self.len);
+        Ok(())
+    }
+
+    fn stream_position(&mut self) -> io::Result<u64>
+        ensures bytes { Keeps (Some self.old.bytes) (Some self.new.bytes) }
+        ensures value { result ≡ Ok self.old.position }
+        ensures same { self.new ≡ self.old }
+    {
+        Ok(self.position as u64)
     }
 }

@@ -16,6 +16,20 @@ pub(crate) enum Slices {
 }
 
 impl Slices {
+    /// These slices. A list of one is given back.
+    pub(crate) fn of_list(list: Vec<Bytes>) -> Slices
+        ensures { slices_of result ≡ list.items }
+    {
+        let mut list = list;
+        if list.len() != 1 {
+            return Slices::Many(list);
+        }
+        match list.pop() {
+            Some(slice) => Slices::One(slice),
+            None => Slices::Nothing,
+        }
+    }
+
     pub(crate) fn as_slice(&self) -> &[Bytes]
         ensures { result.now ≡ slices_of self.now }
     {
