@@ -2,3 +2,4 @@ pub mod Payload
 pub mod Reading
 pub mod Slices
 pub mod Written
+pub mod Loading

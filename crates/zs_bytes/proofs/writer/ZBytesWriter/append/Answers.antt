@@ -1,5 +1,4 @@
-use Rattle.std.proofs.Common.{arith, ◌≡◌, ◌++◌, sym, ◌∙◌, ap, rules}
-use Rattle.zs_bytes.specs.Payload.{one_slice}
+use Rattle.std.proofs.Common.{arith, ◌≡◌, ◌++◌, rules}
 use Rattle.zs_bytes.specs.Written.{Written, slices_written}
 use Rattle.zs_bytes.proofs.Writing.{length-appended}
 use Rattle.zs_bytes.proofs.writer.ZBytesWriter.append.Goals as goal

@@ -1,4 +1,4 @@
-use Rattle.std.proofs.Common.{arith, ◌≡◌, ℕ, List, length, sym, ◌∙◌, ap, rules}
+use Rattle.std.proofs.Common.{◌≡◌, ℕ, List, length, sym, ◌∙◌, ap, rules}
 use Rattle.zs_bytes.specs.Payload.{bytes_of}
 use Rattle.zs_bytes.specs.Written.{Written, slices_written}
 use Rattle.zs_bytes.proofs.Writing.{bytes-written}
