@@ -15,5 +15,7 @@ mod payload;
 mod reader;
 mod slice_iterator;
 mod slices;
+#[cfg(test)]
+mod tests;
 mod text;
 mod writer;

@@ -1,4 +1,7 @@
 //! Payloads made from what holds bytes.
+//!
+//! Each call is handed the allocator first, as every call that takes memory is; some use the one that their argument
+//! brings along.
 
 ghost use Rattle.std.specs.Prelude.{◌≡◌, IfOk, string_bytes};
 ghost use Rattle.zs_bytes.specs.Payload.{one_slice};

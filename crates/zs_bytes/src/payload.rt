@@ -54,6 +54,14 @@ impl Model for ZBytes {
     ghost invariant = { λ z. z.len ≡ length (bytes_of (slices_of z.slices)) };
 }
 
+impl Default for ZBytes {
+    ghost is_default = { λ value. value ≡ [] };
+
+    fn default() -> ZBytes {
+        ZBytes::new()
+    }
+}
+
 impl ZBytes {
     /// No slice and no byte.
     pub const fn new() -> ZBytes

@@ -1,6 +1,6 @@
 //! Reading a payload.
 
-ghost use Rattle.std.specs.Prelude.{◌≡◌, ◌+◌, ◌<◌, ◌≤◌, ◌==◌, [], ◌++◌, length, take, drop, min, pos, ◌+ℤ◌, ◌<ℤ◌, ◌≤ℤ◌, ◌↔◌, Some, IsErr, IsOk, IfOk, IfErr, OnErr, MatchOption};
+ghost use Rattle.std.specs.Prelude.{◌≡◌, ◌+◌, ◌<◌, ◌≤◌, ◌==◌, [], ◌++◌, length, take, drop, min, pos, ◌+ℤ◌, ◌<ℤ◌, ◌≤ℤ◌, ◌↔◌, Some, IsErr, IsOk, IfOk, IfErr, OnOk, OnErr, MatchOption};
 ghost use Rattle.std.specs.Io.{ReadsAtMost};
 ghost use Rattle.std.specs.Io.KnownBytes.{ReadConsumes, Keeps};
 ghost use Rattle.std.specs.IoError.{error_kind};
@@ -229,5 +229,16 @@ impl<'a> io::Seek for ZBytesReader<'a> {
         ensures same { self.new ≡ self.old }
     {
         Ok(self.position as u64)
+    }
+
+    fn seek_relative(&mut self, offset: i64) -> io::Result<()>
+        ensures bytes { Keeps (Some self.old.bytes) (Some self.new.bytes) }
+        ensures refused { IsErr result ↔ ((pos self.old.position +ℤ offset) <ℤ pos 0) }
+        ensures place { OnOk result (pos self.new.position ≡ int_min (pos self.old.position +ℤ offset) (pos (length self.old.bytes))) }
+        ensures same { self.new.bytes ≡ self.old.bytes }
+        ensures kept { OnErr result (self.new ≡ self.old) }
+    {
+        io::Seek::seek(self, SeekFrom::Current(offset))?;
+        Ok(())
     }
 }
