@@ -1,0 +1,4 @@
+pub mod Joining
+pub mod Pieces
+pub mod Writing
+pub mod Comparing

@@ -1,0 +1,5 @@
+pub mod Payload
+pub mod Reading
+pub mod Slices
+pub mod Written
+pub mod Loading
