@@ -43,7 +43,7 @@ abbrev pub allows : Publication → SubRow → Bool
 allows p row = reaches p.local p.destination row.origin && intersects p.sample.key_expr.text row.key.text
 
 -- the sample of a put on this text: the empty encoding is the default, and a priority outside 1 to 7 is Data
-abbrev pub put_sample : List ℕ → List ℕ → List ℕ → QoSType → Bool → SampleFields
+abbrev pub put_sample : List ℕ → List (List ℕ) → List ℕ → QoSType → Bool → SampleFields
 put_sample text payload encoding qos reliable = record {
   key_expr = undeclared text;
   payload = payload;

@@ -73,7 +73,7 @@ text_for w (NetPut key payload encoding qos reliable) = Some (encode_utf8_all ke
 text_for w e = None
 
 -- a put on the text of a key, made here for a destination, or come in
-abbrev pub put_of : Bool → Locality → Option (List ℕ) → List ℕ → List ℕ → QoSType → Bool → Option Publication
+abbrev pub put_of : Bool → Locality → Option (List ℕ) → List (List ℕ) → List ℕ → QoSType → Bool → Option Publication
 put_of local destination None payload encoding qos reliable = None
 put_of local destination (Some text) payload encoding qos reliable =
     Some (record { local = local; destination = destination; sample = put_sample text payload encoding qos reliable })

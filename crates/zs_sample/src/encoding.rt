@@ -2,9 +2,9 @@ ghost use Rattle.std.specs.Prelude.{◌≡◌, IfOk, encode_utf8_all};
 ghost use Rattle.std.specs.Str.{chars};
 ghost use Rattle.zs_sample.specs.Encoding.{encoding_of};
 
-use crate::text::Text;
 use std::alloc::{AllocError, Global};
 use std::marker::Model;
+use zs_bytes::Text;
 
 /// What a payload is: a text such as `application/json`. Contracts see its characters.
 #[derive(Debug, Drop)]

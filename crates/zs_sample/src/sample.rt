@@ -1,10 +1,10 @@
 ghost use Rattle.std.specs.Prelude.{◌≡◌, IfOk};
 
 use crate::encoding::Encoding;
-use crate::payload::ZBytes;
 use crate::quality::{CongestionControl, Priority, Reliability};
 use std::alloc::{AllocError, Global};
 use std::marker::Model;
+use zs_bytes::ZBytes;
 use zs_keys::KeyExpr;
 
 /// Whether a sample brings a value for its key, or says that the key has none any more.

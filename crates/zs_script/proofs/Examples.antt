@@ -40,7 +40,7 @@ a_local_sub : event_of (codes "sub" ++ 9 ∷ codes "local" ++ 9 ∷ codes "") �
 unfolding event_of chars is_utf8 hex_on_literals lib.Utf8.encode
 a_local_sub = refl
 
-a_put : event_of (codes "put" ++ 9 ∷ codes "any" ++ 9 ∷ codes "test/k" ++ 9 ∷ codes "x7a656e6f68") ≡ Some (Put Any (Text (codes "test/k")) (codes "zenoh") (codes "zenoh/bytes") (record { priority = 5; congestion = Drop; express = false }) true)
+a_put : event_of (codes "put" ++ 9 ∷ codes "any" ++ 9 ∷ codes "test/k" ++ 9 ∷ codes "x7a656e6f68") ≡ Some (Put Any (Text (codes "test/k")) (codes "zenoh" ∷ []) (codes "zenoh/bytes") (record { priority = 5; congestion = Drop; express = false }) true)
 unfolding event_of chars is_utf8 hex_on_literals lib.Utf8.encode
 a_put = refl
 
@@ -48,7 +48,7 @@ an_empty_put : event_of (codes "put" ++ 9 ∷ codes "remote" ++ 9 ∷ codes "k" 
 unfolding event_of chars is_utf8 hex_on_literals lib.Utf8.encode
 an_empty_put = refl
 
-upper_digits : event_of (codes "put" ++ 9 ∷ codes "any" ++ 9 ∷ codes "k" ++ 9 ∷ codes "xA0Ff") ≡ Some (Put Any (Text (codes "k")) (160 ∷ 255 ∷ []) (codes "zenoh/bytes") (record { priority = 5; congestion = Drop; express = false }) true)
+upper_digits : event_of (codes "put" ++ 9 ∷ codes "any" ++ 9 ∷ codes "k" ++ 9 ∷ codes "xA0Ff") ≡ Some (Put Any (Text (codes "k")) ((160 ∷ 255 ∷ []) ∷ []) (codes "zenoh/bytes") (record { priority = 5; congestion = Drop; express = false }) true)
 unfolding event_of chars is_utf8 hex_on_literals lib.Utf8.encode
 upper_digits = refl
 
@@ -60,7 +60,7 @@ the_last_number : event_of (codes "undeclare" ++ 9 ∷ codes "sub" ++ 9 ∷ code
 unfolding event_of chars is_utf8 hex_on_literals lib.Utf8.encode
 the_last_number = refl
 
-a_push : event_of (codes "net" ++ 9 ∷ codes "push" ++ 9 ∷ codes "s0:k" ++ 9 ∷ codes "put" ++ 9 ∷ codes "x01") ≡ Some (NetPut (codes "k") (1 ∷ []) (codes "zenoh/bytes") (record { priority = 5; congestion = Drop; express = false }) true)
+a_push : event_of (codes "net" ++ 9 ∷ codes "push" ++ 9 ∷ codes "s0:k" ++ 9 ∷ codes "put" ++ 9 ∷ codes "x01") ≡ Some (NetPut (codes "k") ((1 ∷ []) ∷ []) (codes "zenoh/bytes") (record { priority = 5; congestion = Drop; express = false }) true)
 unfolding event_of chars is_utf8 hex_on_literals lib.Utf8.encode
 a_push = refl
 
@@ -125,7 +125,7 @@ a_hand : turn_text 2 (record {
   answer = accepted None;
   effects = Hand (Sample Subscriber 2 (record {
     key_expr = undeclared (codes "test/k");
-    payload = codes "zenoh";
+    payload = codes "zenoh" ∷ [];
     kind = put_kind;
     encoding = codes "zenoh/bytes";
     express = false;

@@ -20,6 +20,7 @@ use Rattle.zs_core.specs.declared.turn.Refusal.TheVariants.{SessionClosedError, 
 use Rattle.std.specs.List.{list_all}
 use Rattle.zs_script.specs.Lines.{lines}
 use Rattle.zs_script.specs.Printing.{refusal_name, kind_word, sample_word, congestion_word, flag_digit, reliability_digit, option_fields, sample_fields, line, effect_fields, answer_fields}
+use Rattle.zs_bytes.specs.Payload.{bytes_of}
 use Rattle.zs_script.specs.Plain.{is_plain, is_plain_effect}
 use Rattle.zs_script.specs.Laws.{row, AnswersArePlain, EffectsArePlain, TurnsAreFound}
 use Rattle.zs_script.proofs.PlainTexts.{decimal-plain, hex-plain, lines-found}
@@ -79,7 +80,7 @@ pub sample-plain : (sample : SampleFields) → is_plain sample.key_expr.text ≡
     → is_plain (encode_utf8_all sample.encoding) ≡ true → list_all is_plain (sample_fields sample) ≡ true
 sample-plain sample h k =
     and_from _ _ (sample_word-plain sample.kind)
-    (and_from _ _ h (and_from _ _ (hex-plain sample.payload) (options-plain sample k)))
+    (and_from _ _ h (and_from _ _ (hex-plain (bytes_of sample.payload)) (options-plain sample k)))
 
 pub effects-plain : EffectsArePlain
 effects-plain (Hand (Sample kind id sample)) h =

@@ -12,7 +12,7 @@ use Rattle.zs_core.specs.declared.event.KeyArg.TheVariants.{Text}
 use Rattle.zs_core.specs.declared.event.Event.{Event}
 use Rattle.zs_core.specs.declared.event.Event.TheVariants.{Sub, Undeclare, Put, NetPut}
 use Rattle.zs_script.specs.Lines.{fields}
-use Rattle.zs_script.specs.Symbols.{number_of, u32_max, locality_of, is_numbered, key_of, bytes_of, after_prefix, wire_of}
+use Rattle.zs_script.specs.Symbols.{number_of, u32_max, locality_of, is_numbered, key_of, payload_of, after_prefix, wire_of}
 use Rattle.zs_script.specs.Grammar.{default_encoding, default_qos, sub_of, entity_kind_of, undeclare_of, put_of, push_of, net_of, event_of_fields, event_of}
 use Rattle.zs_script.specs.Plain.{has_no_line_feed, is_plain, is_plain_key, is_plain_event}
 use Rattle.zs_script.specs.Laws.{EventsArePlain}
@@ -141,11 +141,11 @@ put-plain (place ∷ []) h = tt
 put-plain (place ∷ key ∷ []) h = tt
 put-plain (place ∷ key ∷ bytes ∷ []) h =
     on-then (λ destination. option_and_then (λ arg. option_map (λ payload.
-    Put destination arg payload default_encoding default_qos true) (bytes_of bytes)) (key_of key)) (λ _. Unit {0}) PlainEvent
+    Put destination arg payload default_encoding default_qos true) (payload_of bytes)) (key_of key)) (λ _. Unit {0}) PlainEvent
     (λ destination _. on-then (λ arg. option_map (λ payload.
-    Put destination arg payload default_encoding default_qos true) (bytes_of bytes)) PlainKey PlainEvent
+    Put destination arg payload default_encoding default_qos true) (payload_of bytes)) PlainKey PlainEvent
     (λ arg k. on-map (λ payload. Put destination arg payload default_encoding default_qos true) (λ _. Unit {0}) PlainEvent
-    (λ payload _. and_from _ _ k default-plain) (bytes_of bytes) (on-any _))
+    (λ payload _. and_from _ _ k default-plain) (payload_of bytes) (on-any _))
     (key_of key) (key-plain key h.1.0))
     (locality_of place) (on-any (locality_of place))
 put-plain (place ∷ key ∷ bytes ∷ more ∷ rest) h = tt
@@ -157,9 +157,9 @@ push-plain (wire ∷ word ∷ []) h = tt
 push-plain (wire ∷ word ∷ bytes ∷ []) h =
     on-choice (bytes_eq word (codes "put")) PlainEvent _ None
     (on-then (λ text. option_map (λ payload.
-    NetPut text payload default_encoding default_qos true) (bytes_of bytes)) PlainChars PlainEvent
+    NetPut text payload default_encoding default_qos true) (payload_of bytes)) PlainChars PlainEvent
     (λ text k. on-map (λ payload. NetPut text payload default_encoding default_qos true) (λ _. Unit {0}) PlainEvent
-    (λ payload _. and_from _ _ k default-plain) (bytes_of bytes) (on-any _))
+    (λ payload _. and_from _ _ k default-plain) (payload_of bytes) (on-any _))
     (wire_of wire) (wire-plain wire h.0))
     tt
 push-plain (wire ∷ word ∷ bytes ∷ more ∷ rest) h = tt

@@ -8,7 +8,7 @@ use Rattle.zs_core.specs.declared.event.Event.TheVariants.{Sub, Undeclare, Put, 
 use Rattle.zs_core.specs.declared.event.EntityKind.{EntityKind}
 use Rattle.zs_core.specs.declared.event.EntityKind.TheVariants.{Sub as sub_kind}
 use Rattle.zs_script.specs.Lines.{fields}
-use Rattle.zs_script.specs.Symbols.{number_of, u32_max, locality_of, key_of, bytes_of, wire_of}
+use Rattle.zs_script.specs.Symbols.{number_of, u32_max, locality_of, key_of, payload_of, wire_of}
 
 -- what a publication has where its line says nothing of it
 abbrev pub default_encoding : List ℕ
@@ -36,7 +36,7 @@ undeclare_of rest = None
 abbrev pub put_of : List (List ℕ) → Option Event
 put_of (place ∷ key ∷ bytes ∷ []) =
     option_and_then (λ destination. option_and_then (λ arg. option_map (λ payload.
-    Put destination arg payload default_encoding default_qos true) (bytes_of bytes)) (key_of key)) (locality_of place)
+    Put destination arg payload default_encoding default_qos true) (payload_of bytes)) (key_of key)) (locality_of place)
 put_of rest = None
 
 -- `push WIRE put BYTES`, behind `net`
@@ -44,7 +44,7 @@ abbrev pub push_of : List (List ℕ) → Option Event
 push_of (wire ∷ word ∷ bytes ∷ []) =
     if bytes_eq word (codes "put") then
     option_and_then (λ text. option_map (λ payload.
-    NetPut text payload default_encoding default_qos true) (bytes_of bytes)) (wire_of wire)
+    NetPut text payload default_encoding default_qos true) (payload_of bytes)) (wire_of wire)
     else None
 push_of rest = None
 

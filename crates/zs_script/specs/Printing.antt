@@ -2,6 +2,7 @@
 use Rattle.std.specs.Prelude.{ℕ, Bool, true, false, List, [], ◌∷◌, ◌++◌, Some, None, codes, decimal, encode_utf8_all}
 use Rattle.std.specs.List.{flat_map}
 use Rattle.hex.specs.Hex.{encode_lower}
+use Rattle.zs_bytes.specs.Payload.{bytes_of}
 use Rattle.zs_sample.specs.Quality.{number_of}
 use Rattle.zs_sample.specs.declared.quality.CongestionControl.{CongestionControl}
 use Rattle.zs_sample.specs.declared.quality.CongestionControl.TheVariants.{Drop, Block}
@@ -91,7 +92,7 @@ option_fields s =
 
 -- a sample: what it does, its key, its payload in hexadecimal, and its options
 abbrev pub sample_fields : SampleFields → List (List ℕ)
-sample_fields s = sample_word s.kind ∷ s.key_expr.text ∷ (codes "x" ++ encode_lower s.payload) ∷ option_fields s
+sample_fields s = sample_word s.kind ∷ s.key_expr.text ∷ (codes "x" ++ encode_lower (bytes_of s.payload)) ∷ option_fields s
 
 -- an effect, behind the event's number
 abbrev pub effect_fields : Effect → List (List ℕ)

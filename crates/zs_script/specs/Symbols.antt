@@ -4,6 +4,7 @@ use Rattle.std.specs.List.{before_first}
 use Rattle.std.specs.Str.{bytes_eq, chars}
 use Rattle.std.specs.Result.{result_ok}
 use Rattle.hex.specs.Hex.{decode_of}
+use Rattle.zs_bytes.specs.Payload.{one_slice}
 use Rattle.zs_sample.specs.declared.locality.Locality.{Locality}
 use Rattle.zs_sample.specs.declared.locality.Locality.TheVariants.{SessionLocal, Remote, Any}
 use Rattle.zs_core.specs.declared.event.KeyArg.{KeyArg}
@@ -47,10 +48,10 @@ is_numbered (b ∷ bs) = b == 35 && is_some (number_of u16_max (before_first (λ
 abbrev pub key_of : List ℕ → Option KeyArg
 key_of field = if is_numbered field then None else Some (Text (chars field))
 
--- bytes: `x` and an even number of hexadecimal digits, of either case
-abbrev pub bytes_of : List ℕ → Option (List ℕ)
-bytes_of [] = None
-bytes_of (b ∷ digits) = if b == 120 then result_ok (decode_of digits) else None
+-- a payload: `x` and an even number of hexadecimal digits, of either case; its bytes lie in one slice
+abbrev pub payload_of : List ℕ → Option (List (List ℕ))
+payload_of [] = None
+payload_of (b ∷ digits) = if b == 120 then option_map one_slice (result_ok (decode_of digits)) else None
 
 -- what stands behind a prefix
 abbrev pub after_prefix : List ℕ → List ℕ → Option (List ℕ)

@@ -6,7 +6,7 @@ ghost use Rattle.zs_script.specs.Lines.{fields};
 ghost use Rattle.zs_script.specs.Fields.{texts};
 
 use crate::reader::Line;
-use crate::symbols::{parse_bytes, parse_key, parse_locality, parse_number, parse_wire};
+use crate::symbols::{parse_key, parse_locality, parse_number, parse_payload, parse_wire};
 use std::alloc::{AllocError, Global};
 use zs_core::{EntityKind, Event};
 use zs_sample::{CongestionControl, QoSType, Text};
@@ -95,7 +95,7 @@ fn parse_put(alloc: Global, rest: &[&str]) -> Result<Option<Event>, AllocError>
     let Some(key) = parse_key(alloc, key)? else {
         return Ok(None);
     };
-    let Some(payload) = parse_bytes(alloc, payload)? else {
+    let Some(payload) = parse_payload(alloc, payload)? else {
         return Ok(None);
     };
     Ok(Some(Event::Put {
@@ -134,7 +134,7 @@ fn parse_push(alloc: Global, rest: &[&str]) -> Result<Option<Event>, AllocError>
     let Some(key) = parse_wire(alloc, wire)? else {
         return Ok(None);
     };
-    let Some(payload) = parse_bytes(alloc, payload)? else {
+    let Some(payload) = parse_payload(alloc, payload)? else {
         return Ok(None);
     };
     Ok(Some(Event::NetPut {

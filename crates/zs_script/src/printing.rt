@@ -104,7 +104,8 @@ fn append_sample(alloc: Global, out: &mut String, sample: &Sample) -> Result<(),
 {
     let word = sample_word(sample.kind());
     let key = sample.key_expr().as_str();
-    let payload = hex::encode(alloc, sample.payload().as_slice())?;
+    let bytes = sample.payload().to_bytes(alloc)?;
+    let payload = hex::encode(alloc, bytes.as_slice())?;
     write!(out, "\t{word}\t{key}\tx{payload}")?;
     append_options(out, sample)
 }

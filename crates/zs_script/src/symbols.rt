@@ -2,7 +2,7 @@
 
 ghost use Rattle.std.specs.Prelude.{◌≡◌, ◌==◌, IfOk, option_map};
 ghost use Rattle.std.specs.List.{before_first};
-ghost use Rattle.zs_script.specs.Symbols.{number_from, number_of, locality_of, is_numbered, key_of, bytes_of, after_prefix, wire_of};
+ghost use Rattle.zs_script.specs.Symbols.{number_from, number_of, locality_of, is_numbered, key_of, payload_of, after_prefix, wire_of};
 
 use crate::bytes::position_of;
 use hex::FromHexError;
@@ -80,8 +80,8 @@ fn before_colon(bytes: &[u8]) -> &[u8]
 }
 
 /// Bytes: `x` and an even number of hexadecimal digits, of either case.
-pub(crate) fn parse_bytes(alloc: Global, field: &str) -> Result<Option<ZBytes>, AllocError>
-    ensures { IfOk result (λ found. found ≡ bytes_of field.now) }
+pub(crate) fn parse_payload(alloc: Global, field: &str) -> Result<Option<ZBytes>, AllocError>
+    ensures { IfOk result (λ found. found ≡ payload_of field.now) }
 {
     let [first, digits @ ..] = field.as_bytes() else {
         return Ok(None);
@@ -90,7 +90,7 @@ pub(crate) fn parse_bytes(alloc: Global, field: &str) -> Result<Option<ZBytes>, 
         return Ok(None);
     }
     match hex::decode(alloc, digits) {
-        Ok(bytes) => Ok(Some(ZBytes::from_vec(bytes))),
+        Ok(bytes) => Ok(Some(ZBytes::from_vec(alloc, bytes)?)),
         Err(FromHexError::OutOfMemory) => Err(AllocError),
         Err(_) => Ok(None),
     }

@@ -42,7 +42,8 @@ fn told(alloc: Global, text: &str) -> Result<String, AllocError> {
             },
         ) => {
             let key = key.as_str();
-            let payload = payload.as_slice();
+            let bytes = payload.to_bytes(alloc)?;
+            let payload = bytes.as_slice();
             let encoding = encoding.as_str();
             let priority = qos.priority;
             format!(in alloc;
@@ -59,7 +60,8 @@ fn told(alloc: Global, text: &str) -> Result<String, AllocError> {
             },
         ) => {
             let key = key.as_str();
-            let payload = payload.as_slice();
+            let bytes = payload.to_bytes(alloc)?;
+            let payload = bytes.as_slice();
             let encoding = encoding.as_str();
             let priority = qos.priority;
             format!(in alloc; "push {key} {payload:?} {encoding} {priority} {reliable}")
