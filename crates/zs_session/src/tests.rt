@@ -318,3 +318,20 @@ fn std_readers_and_writers_fail_in_mid_stream(rt: HostRuntime) -> Result<(), Fai
     assert!(rt; sink.write(b"b").is_err());
     Ok(())
 }
+
+#[test]
+fn errors_are_named_as_in_the_complaints(rt: HostRuntime) -> Result<(), Fail> {
+    let names = [
+        (DriveError::ReadFault, "ReadFault"),
+        (DriveError::WriteFault, "WriteFault"),
+        (DriveError::BadLine(3), "BadLine 3"),
+        (DriveError::LineTooLong(4), "LineTooLong 4"),
+        (DriveError::OutOfTurns, "OutOfTurns"),
+        (DriveError::NoMemory, "NoMemory"),
+    ];
+    for (error, name) in names {
+        let text = format!(in rt.alloc(); "{error}")?;
+        assert_eq!(rt; text.as_str(), name);
+    }
+    Ok(())
+}
