@@ -1,15 +1,21 @@
-use Rattle.std.specs.Prelude.{ℕ, Bool, nat_lt, nat_le, ◌&&◌}
+use Rattle.std.specs.Prelude.{ℕ, Bool, not, nat_lt, nat_le, ◌==◌, ◌&&◌}
 use Rattle.zs_core.specs.declared.settings.Settings.{Settings}
 
 -- the last entity number, which no entity draws
 abbrev pub last_entity : ℕ
 last_entity = 4294967295
 
--- the settings where none are given: the session is entity 1, lines have at most 65536 bytes, and there are
--- 4294967296 reads
+-- the last number of a declared key, which no key draws
+abbrev pub last_key : ℕ
+last_key = 65535
+
+-- the settings where none are given: the session's identifier and tag are 1, it is entity 1, its first key number
+-- is 1, lines have at most 65536 bytes, and there are 4294967296 reads
 abbrev pub default_settings : Settings
-default_settings = record { entity_start = 1; line_max = 65536; turns = 4294967296 }
+default_settings = record { zid = 1; tag = 1; entity_start = 1; key_start = 1; line_max = 65536; turns = 4294967296 }
 
 -- settings that a session can be opened with
 abbrev pub is_valid : Settings → Bool
-is_valid s = nat_lt s.entity_start last_entity && nat_le 1 s.line_max && nat_le s.line_max 1048576 && nat_le 1 s.turns
+is_valid s =
+    not (s.zid == 0) && nat_lt s.entity_start last_entity && nat_le 1 s.key_start
+    && nat_le 1 s.line_max && nat_le s.line_max 1048576 && nat_le 1 s.turns

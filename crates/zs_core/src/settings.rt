@@ -7,8 +7,14 @@ pub const LINE_MAX: u32 = 1 << 20;
 /// What a session is opened with.
 #[derive(Clone, Copy, Debug, PartialEq, Eq, Hash)]
 pub struct Settings {
+    /// The session's own identifier in the network, its ZenohId: not 0.
+    pub zid: u128,
+    /// What the keys that this session declares are marked with, to tell them from those of other sessions.
+    pub tag: u64,
     /// The number of the session itself among the entities: the first one that it declares has the next.
     pub entity_start: u32,
+    /// The number of the first key that it declares: not 0, which no declared key has.
+    pub key_start: u16,
     /// How many bytes a line of a script may have.
     pub line_max: u32,
     /// How many reads of its input a run makes at most.
@@ -16,12 +22,14 @@ pub struct Settings {
 }
 
 impl Settings {
-    /// Whether a session can be opened with them: there is a number left for an entity, lines may have from 1 to
-    /// 1048576 bytes, and there is at least one read.
+    /// Whether a session can be opened with them: the identifier is not 0, there is a number left for an entity, the
+    /// first key number is not 0, lines may have from 1 to 1048576 bytes, and there is at least one read.
     pub fn is_valid(&self) -> bool
         ensures { result ≡ is_valid self.now }
     {
-        self.entity_start < u32::MAX
+        self.zid != 0
+            && self.entity_start < u32::MAX
+            && self.key_start >= 1
             && self.line_max >= 1
             && self.line_max <= LINE_MAX
             && self.turns >= 1
@@ -36,7 +44,10 @@ impl Default for Settings {
 
     fn default() -> Settings {
         Settings {
+            zid: 1,
+            tag: 1,
             entity_start: 1,
+            key_start: 1,
             line_max: 65536,
             turns: 1 << 32,
         }

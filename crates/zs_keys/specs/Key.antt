@@ -7,7 +7,7 @@ use Rattle.zs_keys.specs.declared.declaration.Declared.{Declared}
 use Rattle.zs_keys.specs.declared.key_error.KeyError.{KeyError}
 use Rattle.zs_keys.specs.declared.key_error.KeyError.TheVariants.{BadKeyExpr, ConcatStars, NoMemory}
 
--- the bytes of its text, and how it was declared to a router, if it was
+-- the bytes of its text, and how a session declared it, if one did
 pub record Key : Type 0 where
   pub text : List ℕ
   pub declaration : Option Declared

@@ -8,6 +8,11 @@ pub enum Locality {
 }
 
 impl Default for Locality {
+    ghost use Rattle.std.specs.Prelude.{◌≡◌};
+    ghost use Rattle.zs_sample.specs.declared.locality.Locality.{Locality};
+
+    ghost is_default = { λ l. l ≡ Locality.Any };
+
     fn default() -> Locality {
         Locality::Any
     }

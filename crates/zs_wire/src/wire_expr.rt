@@ -1,0 +1,38 @@
+ghost use Rattle.std.specs.Prelude.{◌≡◌, IfOk};
+
+use std::alloc::{AllocError, Global};
+use zs_bytes::Text;
+
+/// Whose declared numbers a wire expression's scope is of. It is the Zenoh protocol's `Mapping`.
+#[derive(Clone, Copy, Debug, PartialEq, Eq, Hash)]
+pub enum Mapping {
+    /// The sender of the message declared the number.
+    Sender,
+    /// The receiver of the message declared it.
+    Receiver,
+}
+
+/// A key as a message carries it: a declared number, and the text behind what that number stands for. It is the
+/// Zenoh protocol's `WireExpr`.
+#[derive(Debug, Drop)]
+pub struct WireExpr {
+    /// The declared number. 0 is none: then the suffix is the whole text.
+    pub scope: u16,
+    /// The text behind what the number stands for. It may be empty.
+    pub suffix: Text,
+    /// Who declared the number.
+    pub mapping: Mapping,
+}
+
+impl WireExpr {
+    /// The same wire expression in memory of its own.
+    pub fn try_clone(&self, alloc: Global) -> Result<WireExpr, AllocError>
+        ensures { IfOk result (λ copy. copy ≡ self.now) }
+    {
+        Ok(WireExpr {
+            scope: self.scope,
+            suffix: self.suffix.try_clone(alloc)?,
+            mapping: self.mapping,
+        })
+    }
+}
