@@ -3,11 +3,6 @@ use Rattle.std.specs.Prelude.{◌&&◌, filter}
 use Rattle.std.specs.List.{AllByRecursion}
 use Rattle.std.proofs.lemmas.Bool.Decides.{nat_tests}
 
--- tests that agree on each element keep the same ones
-pub filter_alike : {X : Type 0} (p q : X → Bool) (xs : List X) → AllByRecursion (λ x. p x ≡ q x) xs → filter p xs ≡ filter q xs
-filter_alike p q [] all = refl
-filter_alike p q (x ∷ xs) all = grind (arith, nat_tests, all.0, filter_alike p q xs all.1)
-
 -- a filter of what a filter keeps
 pub filter-filter : {X : Type 0} (p q : X → Bool) (xs : List X) → filter (λ x. p x && q x) xs ≡ filter p (filter q xs)
 filter-filter p q [] = refl
@@ -17,11 +12,6 @@ filter-filter p q (x ∷ xs) = grind (arith, nat_tests, filter-filter p q xs)
 pub filter_none : {X : Type 0} (xs : List X) → filter (λ x. false) xs ≡ []
 filter_none [] = refl
 filter_none (x ∷ xs) = filter_none xs
-
--- what holds of every element
-pub all_of : {X : Type 0} (P : X → Type 0) → ((x : X) → P x) → (xs : List X) → AllByRecursion P xs
-all_of P f [] = tt
-all_of P f (x ∷ xs) = (f x, all_of P f xs)
 
 -- what holds of each element, and what follows from it
 pub all_weaker : {X : Type 0} (P Q : X → Type 0) → ((x : X) → P x → Q x) → (xs : List X) → AllByRecursion P xs → AllByRecursion Q xs

@@ -1,3 +1,9 @@
 pub mod Filters
+pub mod Counting
+pub mod Placing
+pub mod Stepping
+pub mod Histories
 pub mod Living
+pub mod Holding
+pub mod Keeping
 pub mod Causing

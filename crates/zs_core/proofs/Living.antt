@@ -5,17 +5,18 @@ use Rattle.std.proofs.lemmas.Bool.Decides.{nat_tests}
 use Rattle.std.proofs.lemmas.List.Folds.{list_any-append}
 use Rattle.std.proofs.lemmas.List.Elements.{filter-append, filter_agree}
 use Rattle.zs_core.specs.declared.event.Event.{Event}
-use Rattle.zs_core.specs.declared.event.Event.TheVariants.{Sub, Undeclare, Put, NetPut, Close}
+use Rattle.zs_core.specs.declared.event.Event.TheVariants.{Sub, Undeclare, Close}
 use Rattle.zs_core.specs.declared.event.EntityKind.TheVariants.{Sub as sub_kind}
-use Rattle.zs_core.specs.declared.event.KeyArg.TheVariants.{Text}
 use Rattle.zs_core.specs.declared.settings.Settings.{Settings}
-use Rattle.zs_core.specs.declared.turn.Refusal.{Refusal}
+use Rattle.zs_core.specs.declared.turn.Refusal.TheVariants.{NotFound}
 use Rattle.zs_core.specs.declared.subscriber.SubRow.{SubRow}
 use Rattle.zs_keys.specs.Key.{undeclared}
 use Rattle.zs_core.specs.Subscribers.{sub_row, subs_left, is_sub}
-use Rattle.zs_core.specs.Turns.{added, cause, number_for, text_for}
-use Rattle.zs_core.specs.Past.{Entry, subs, next_entity, draws_entity, world_of, entry_for, joined, past_of}
+use Rattle.zs_core.specs.Turns.{added, open_cause, number_for, text_for}
+use Rattle.zs_core.specs.Keys.{key_of}
+use Rattle.zs_core.specs.Past.{Entry, subs, next_entity, draws_entity, world_of, past_of}
 use Rattle.zs_core.specs.Live.{declared_subs, drew_sub, ends_sub, drew_unended, is_live_sub, live_subs, Ascend}
+use Rattle.zs_core.proofs.Histories.{along, known_text}
 use Rattle.zs_core.proofs.Filters.{filter-filter, filter_none, all_weaker, all_append}
 
 -- an event that draws an entity number drew the next one, and its key stands for a text
@@ -27,21 +28,13 @@ abbrev pub IsNumbered : Settings → List Entry → Type 0
 IsNumbered s [] = Unit {0}
 IsNumbered s (x ∷ past) = IsDrawn (next_entity s past) x.event x.number x.text × IsNumbered s past
 
-numbered_entry : (s : Settings) (past : List Entry) (e : Event) → IsDrawn (next_entity s past) e (number_for (world_of s past) e) (text_for (world_of s past) e)
-numbered_entry s past (Sub origin (Text text)) d = (refl, refl)
-numbered_entry s past (Undeclare kind id) d = cc
-numbered_entry s past (Put destination key payload encoding qos reliable) d = cc
-numbered_entry s past (NetPut key payload encoding qos reliable) d = cc
-numbered_entry s past Close d = cc
+numbered_entry : (s : Settings) (past : List Entry) (e : Event) → open_cause (world_of s past) e ≡ None
+    → IsDrawn (next_entity s past) e (number_for (world_of s past) e) (text_for (world_of s past) e)
+numbered_entry s past (Sub origin key) c d = (refl, known_text NotFound (key_of (world_of s past) key) _ c)
+numbered_entry s past e c d = cc
 
 pub numbered : (s : Settings) (h : List Event) → IsNumbered s (past_of s h)
-numbered s [] = tt
-numbered s (e ∷ h) = go (cause (world_of s (past_of s h)) e) (world_of s (past_of s h)).closed (numbered s h)
-  where
-    go : (o : Option Refusal) (closed : Bool) → IsNumbered s (past_of s h) → IsNumbered s (joined o closed (entry_for (world_of s (past_of s h)) e) (past_of s h))
-    go (Some refusal) closed n = n
-    go None true n = n
-    go None false n = (numbered_entry s (past_of s h) e, n)
+numbered s h = along s (IsNumbered s) tt (λ past e k c n. (numbered_entry s past e c, n)) h
 
 ended_tests : (a l e r : Bool) → (a && not (l || (e || false)) || (not e && r)) ≡ (not e && (a && not l || r))
 ended_tests true true true r = refl

@@ -1,18 +1,25 @@
 -- When each refusal holds, told by the events before: each cause by itself, in no order.
-use Rattle.std.specs.Prelude.{◌≡◌, Bool, true, false, ◌&&◌, not, List, Option, Some, None}
+use Rattle.std.specs.Prelude.{◌≡◌, Bool, true, false, ◌&&◌, not, if◌then◌else◌, List, Option, Some, None}
 use Rattle.zs_core.specs.declared.event.Event.{Event}
-use Rattle.zs_core.specs.declared.event.Event.TheVariants.{Sub, Undeclare, Put, NetPut}
+use Rattle.zs_core.specs.declared.event.Event.TheVariants.{Key, UndeclareKey, Sub, Undeclare, Put, NetPut}
+use Rattle.zs_core.specs.declared.event.KeyArg.{KeyArg}
+use Rattle.zs_core.specs.declared.event.KeyArg.TheVariants.{Text, Number}
 use Rattle.zs_core.specs.declared.event.EntityKind.TheVariants.{Sub as sub_kind}
 use Rattle.zs_core.specs.declared.settings.Settings.{Settings}
 use Rattle.zs_core.specs.declared.turn.Refusal.{Refusal}
-use Rattle.zs_core.specs.declared.turn.Refusal.TheVariants.{SessionClosedError, NotFound, BadKeyExpr, IdsExhausted, Ignored}
-use Rattle.zs_core.specs.Keys.{is_bad}
-use Rattle.zs_core.specs.Turns.{cause, text_for, is_spent}
-use Rattle.zs_core.specs.Past.{Entry, is_closed, next_entity, draws_entity, world_of, past_of}
+use Rattle.zs_core.specs.declared.turn.Refusal.TheVariants.{SessionClosedError, NotFound, BadKeyExpr, NotDeclared, IdsExhausted, Ignored}
+use Rattle.zs_core.specs.Keys.{is_bad, is_whole}
+use Rattle.zs_core.specs.DeclaredKeys.{draws_key}
+use Rattle.zs_core.specs.Settings.{last_entity, last_key}
+use Rattle.zs_core.specs.Turns.{cause, is_spent}
+use Rattle.zs_core.specs.Past.{Entry, is_closed, next_entity, draws_entity, own, next_key, world_of, past_of}
 use Rattle.zs_core.specs.Live.{is_live_sub}
+use Rattle.zs_core.specs.Held.{is_held, named_text}
 
--- an application's event that wants an open session: it declares, or it publishes
+-- an application's event that wants an open session: it declares, it publishes, or it gives a key back
 abbrev pub needs_open : Event → Bool
+needs_open (Key key) = true
+needs_open (UndeclareKey key) = true
 needs_open (Sub origin key) = true
 needs_open (Put destination key payload encoding qos reliable) = true
 needs_open e = false
@@ -22,26 +29,44 @@ abbrev pub is_net : Event → Bool
 is_net (NetPut key payload encoding qos reliable) = true
 is_net e = false
 
+-- a key by a number that is not held
+abbrev pub names_no_key : List Entry → KeyArg → Bool
+names_no_key past (Text text) = false
+names_no_key past (Number number suffix) = not (is_held number past)
+
 -- an event that names a number which nothing live has
 abbrev pub names_nothing : List Entry → Event → Bool
+names_nothing past (Key key) = names_no_key past key
+names_nothing past (UndeclareKey key) = names_no_key past key
+names_nothing past (Sub origin key) = names_no_key past key
 names_nothing past (Undeclare sub_kind id) = not (is_live_sub id past)
+names_nothing past (Put destination key payload encoding qos reliable) = names_no_key past key
 names_nothing past e = false
 
 -- an event with a key whose text is no canonical key expression
-abbrev pub has_bad_key : Settings → List Entry → Event → Bool
-has_bad_key s past e = is_bad (text_for (world_of s past) e)
+abbrev pub has_bad_key : List Entry → Event → Bool
+has_bad_key past e = is_bad (named_text past e)
 
--- an event that would draw an entity number where none is left
+-- an event that gives back a key which is not a declared number by itself
+abbrev pub names_undeclared : Event → Bool
+names_undeclared (UndeclareKey key) = not (is_whole key)
+names_undeclared e = false
+
+-- an event that would draw a number from a counter which has none left
 abbrev pub lacks_number : Settings → List Entry → Event → Bool
-lacks_number s past e = draws_entity e && is_spent (next_entity s past)
+lacks_number s past e =
+    if draws_entity e then is_spent last_entity (next_entity s past)
+    else draws_key e (named_text past e) (own past) && is_spent last_key (next_key s past)
 
 -- whether a refusal's cause holds of an event, behind these accepted events
 abbrev pub has_cause : Settings → List Entry → Event → Refusal → Bool
 has_cause s past e SessionClosedError = is_closed past && needs_open e
 has_cause s past e NotFound = not (is_closed past) && names_nothing past e
-has_cause s past e BadKeyExpr = not (is_closed past) && has_bad_key s past e
+has_cause s past e BadKeyExpr = not (is_closed past) && has_bad_key past e
+has_cause s past e NotDeclared = not (is_closed past) && names_undeclared e
 has_cause s past e IdsExhausted =
-    not (is_closed past) && not (names_nothing past e) && not (has_bad_key s past e) && lacks_number s past e
+    not (is_closed past) && not (names_nothing past e) && not (has_bad_key past e) && not (names_undeclared e)
+    && lacks_number s past e
 has_cause s past e Ignored = is_closed past && is_net e
 has_cause s past e refusal = false
 

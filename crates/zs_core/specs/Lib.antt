@@ -1,7 +1,8 @@
 pub mod Settings
 pub mod Turn
-pub mod Keys
 pub mod World
+pub mod DeclaredKeys
+pub mod Keys
 pub mod Subscribers
 pub mod Publications
 pub mod Turns
@@ -9,4 +10,5 @@ pub mod After
 pub mod Past
 pub mod Stands
 pub mod Live
+pub mod Held
 pub mod Causes

@@ -5,11 +5,14 @@ use Rattle.zs_core.specs.declared.event.Event.TheVariants.{Sub, Close}
 use Rattle.zs_core.specs.declared.settings.Settings.{Settings}
 use Rattle.zs_core.specs.declared.turn.Refusal.{Refusal}
 use Rattle.zs_core.specs.declared.subscriber.SubRow.{SubRow}
+use Rattle.zs_core.specs.declared.declared_key.NumberedKey.{NumberedKey}
+use Rattle.zs_core.specs.declared.declared_key.KeyHolders.{KeyHolders}
 use Rattle.zs_core.specs.World.{World}
+use Rattle.zs_core.specs.DeclaredKeys.{draws_key, own_new, own_left, all_placed, holders_after}
 use Rattle.zs_core.specs.Subscribers.{sub_row, subs_left}
 use Rattle.zs_core.specs.Turns.{cause, number_for, text_for, added}
 
--- an accepted event as it stands in the past: the number that it drew, and the text that its key stood for
+-- an accepted event as it stands in the past: the number that it answered, and the text that its key stood for
 pub record Entry : Type 0 where
   pub number : Option ℕ
   pub text : Option (List ℕ)
@@ -39,13 +42,29 @@ abbrev pub subs : List Entry → List SubRow
 subs [] = []
 subs (x ∷ past) = added (subs_left x.event (subs past)) (sub_row x.event x.number x.text)
 
+-- how many hold each declared number
+abbrev pub holders : List Entry → List KeyHolders
+holders [] = []
+holders (x ∷ past) = holders_after x.event x.number (holders past)
+
+-- the numbers that stand for a key, as event after event leaves and adds them
+abbrev pub own : List Entry → List NumberedKey
+own [] = []
+own (x ∷ past) = all_placed (own_new x.event x.number x.text (own past)) (own_left x.event (holders past) (own past))
+
+-- the next key number: the first one of the settings, one more for each event that drew one
+abbrev pub next_key : Settings → List Entry → ℕ
+next_key s [] = s.key_start
+next_key s (x ∷ past) = if draws_key x.event x.text (own past) then next_key s past + 1 else next_key s past
+
 -- what a session is after these accepted events, the newest first
 abbrev pub world_of : Settings → List Entry → World
 world_of s past = record {
   settings = s;
   closed = is_closed past;
-  counters = record { entity = next_entity s past };
+  counters = record { entity = next_entity s past; key = next_key s past };
   entities = record { subs = subs past };
+  keys = record { own = own past; holders = holders past };
 }
 
 -- an event with what is resolved at its moment

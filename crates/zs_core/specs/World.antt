@@ -1,14 +1,22 @@
 use Rattle.std.specs.Prelude.{ℕ, Bool, List}
 use Rattle.zs_core.specs.declared.settings.Settings.{Settings}
 use Rattle.zs_core.specs.declared.subscriber.SubRow.{SubRow}
+use Rattle.zs_core.specs.declared.declared_key.NumberedKey.{NumberedKey}
+use Rattle.zs_core.specs.declared.declared_key.KeyHolders.{KeyHolders}
 
 -- the next number of each sort
 pub record Counters : Type 0 where
   pub entity : ℕ
+  pub key : ℕ
 
 -- what the application has declared and not ended, ascending by number
 pub record Entities : Type 0 where
   pub subs : List SubRow
+
+-- the keys that numbers stand for: those that this session declared, and how many hold each of them
+pub record DeclaredKeys : Type 0 where
+  pub own : List NumberedKey
+  pub holders : List KeyHolders
 
 -- all that a session is at a moment, as plain lists and counters
 pub record World : Type 0 where
@@ -16,3 +24,4 @@ pub record World : Type 0 where
   pub closed : Bool
   pub counters : Counters
   pub entities : Entities
+  pub keys : DeclaredKeys

@@ -5,6 +5,12 @@ use zs_sample::{Locality, QoSType, Text, ZBytes};
 pub enum KeyArg {
     /// A text, not tested yet.
     Text(Text),
+    /// A number that this session declared for a key, and a text behind that key.
+    Number {
+        number: u16,
+        /// It may be empty: then it is the declared key itself.
+        suffix: Text,
+    },
 }
 
 /// The sorts of entities that an application can undeclare.
@@ -16,6 +22,14 @@ pub enum EntityKind {
 /// What can happen to a session.
 #[derive(Debug, Drop)]
 pub enum Event {
+    /// The application declares a key, which is from then on held under a number.
+    Key {
+        key: KeyArg,
+    },
+    /// The application gives a declared key back. Its number ends when it was given back as often as it was declared.
+    UndeclareKey {
+        key: KeyArg,
+    },
     /// The application declares a subscriber, which takes publications of this origin.
     Sub {
         origin: Locality,

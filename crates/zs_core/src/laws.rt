@@ -1,6 +1,7 @@
 //! Laws over the definitions: each is the contract of a function that does nothing.
 
 ghost use Rattle.zs_core.specs.Live.{TableIsLive, SubscribersAscend};
+ghost use Rattle.zs_core.specs.Held.{KeysAreHeld, TextsAreNamed, HeldTextsKeepNumbers, KeyNumbersAreNew};
 ghost use Rattle.zs_core.specs.Causes.{RefusalsHaveCauses};
 
 /// After any history the table of subscribers holds those that were declared and not ended since, and no others.
@@ -16,4 +17,25 @@ pub fn subscribers_ascend()
 /// Behind any history an event is refused exactly where one of the causes holds, and the refusal names one that holds.
 pub fn refusals_have_causes()
     ensures { RefusalsHaveCauses }
+{}
+
+/// After any history the table of declared keys has each number that was given back less often than it was declared,
+/// with the text of the event that drew it, and no others.
+pub fn keys_are_held()
+    ensures { KeysAreHeld }
+{}
+
+/// The text that an event's key stands for, by the tables, is the one that the events before it tell.
+pub fn texts_are_named()
+    ensures { TextsAreNamed }
+{}
+
+/// A text that is held keeps its number where it is declared again.
+pub fn held_texts_keep_numbers()
+    ensures { HeldTextsKeepNumbers }
+{}
+
+/// A declaration that isn't answered a held number is answered one that none was answered before.
+pub fn key_numbers_are_new()
+    ensures { KeyNumbersAreNew }
 {}

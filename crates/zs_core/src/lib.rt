@@ -2,13 +2,18 @@
 //! Nothing here waits, prints or calls a handler: whoever steps the state carries the effects out.
 #![tactic(auto)]
 
+pub use declared_key::{KeyHolders, NumberedKey};
 pub use event::{EntityKind, Event, KeyArg};
-pub use laws::{refusals_have_causes, subscribers_ascend, table_is_live};
+pub use laws::{
+    held_texts_keep_numbers, key_numbers_are_new, keys_are_held, refusals_have_causes,
+    subscribers_ascend, table_is_live, texts_are_named,
+};
 pub use settings::Settings;
 pub use state::SessionState;
 pub use subscriber::SubRow;
 pub use turn::{Answer, Effect, Effects, HandOver, Kind, Refusal, Turn};
 
+mod declared_key;
 mod event;
 mod laws;
 mod settings;

@@ -3,6 +3,7 @@ ghost use Rattle.zs_core.specs.Turn.{answered};
 ghost use Rattle.zs_core.specs.Turns.{turn_of, open_cause, closed_cause};
 ghost use Rattle.zs_core.specs.After.{after};
 
+use crate::declared_key::{KeyHolders, NumberedKey};
 use crate::event::{EntityKind, Event};
 use crate::settings::Settings;
 use crate::subscriber::SubRow;
@@ -10,6 +11,7 @@ use crate::turn::{Refusal, Turn};
 use std::alloc::{AllocError, Global};
 use std::marker::Model;
 
+mod declared_keys;
 mod keys;
 mod publications;
 mod stepping;
@@ -23,7 +25,10 @@ pub struct SessionState {
     settings: Settings,
     closed: bool,
     next_entity: u32,
+    next_key: u16,
     subs: Vec<SubRow>,
+    own: Vec<NumberedKey>,
+    holders: Vec<KeyHolders>,
 }
 
 impl Model for SessionState {
@@ -34,8 +39,9 @@ impl Model for SessionState {
     ghost view = { λ s. record {
       settings = s.settings;
       closed = s.closed;
-      counters = record { entity = s.next_entity };
+      counters = record { entity = s.next_entity; key = s.next_key };
       entities = record { subs = s.subs.items };
+      keys = record { own = s.own.items; holders = s.holders.items };
     } };
 }
 
@@ -55,7 +61,9 @@ impl SessionState {
             return Ok(closed_turn(self.alloc, event));
         }
         match event {
-            Event::Sub { origin: _, key } => Ok(self.preview_sub(key)),
+            Event::Key { key } => self.preview_key(key),
+            Event::UndeclareKey { key } => self.preview_undeclare_key(key),
+            Event::Sub { origin: _, key } => self.preview_sub(key),
             Event::Undeclare {
                 kind: EntityKind::Sub,
                 id,
@@ -87,6 +95,11 @@ impl SessionState {
         ensures err { OnErr result (self.new ≡ self.old) }
     {
         match event {
+            Event::Key { key } => self.change_key(key),
+            Event::UndeclareKey { key } => {
+                self.change_undeclare_key(key);
+                Ok(())
+            }
             Event::Sub { origin, key } => self.change_sub(*origin, key),
             Event::Undeclare {
                 kind: EntityKind::Sub,
@@ -111,6 +124,8 @@ fn closed_turn(alloc: Global, event: &Event) -> Turn
     match event {
         Event::Undeclare { .. } | Event::Close => Turn::quiet(alloc, None),
         Event::NetPut { .. } => Turn::refused(alloc, Refusal::Ignored),
-        Event::Sub { .. } | Event::Put { .. } => Turn::refused(alloc, Refusal::SessionClosedError),
+        Event::Key { .. } | Event::UndeclareKey { .. } | Event::Sub { .. } | Event::Put { .. } => {
+            Turn::refused(alloc, Refusal::SessionClosedError)
+        }
     }
 }

@@ -9,8 +9,8 @@ use Rattle.zs_sample.specs.declared.quality.Priority.TheVariants.{Data}
 use Rattle.zs_sample.specs.declared.quality.Reliability.TheVariants.{Reliable}
 use Rattle.zs_sample.specs.declared.sample.SampleKind.TheVariants.{Put as put_kind}
 use Rattle.zs_sample.specs.declared.locality.Locality.TheVariants.{SessionLocal, Remote, Any}
-use Rattle.zs_core.specs.declared.event.KeyArg.TheVariants.{Text}
-use Rattle.zs_core.specs.declared.event.Event.TheVariants.{Sub, Undeclare, Put, NetPut}
+use Rattle.zs_core.specs.declared.event.KeyArg.TheVariants.{Text, Number}
+use Rattle.zs_core.specs.declared.event.Event.TheVariants.{Key, UndeclareKey, Sub, Undeclare, Put, NetPut, Close}
 use Rattle.zs_core.specs.declared.event.EntityKind.TheVariants.{Sub as sub_kind}
 use Rattle.zs_core.specs.declared.turn.Answer.TheVariants.{Ok as accepted, Refused}
 use Rattle.zs_core.specs.declared.turn.Effect.TheVariants.{Hand, End}
@@ -72,15 +72,15 @@ leading_zero : event_of (codes "undeclare" ++ 9 ∷ codes "sub" ++ 9 ∷ codes "
 unfolding event_of chars is_utf8 hex_on_literals lib.Utf8.encode
 leading_zero = refl
 
-numbered : event_of (codes "sub" ++ 9 ∷ codes "any" ++ 9 ∷ codes "#1") ≡ None
+numbered : event_of (codes "sub" ++ 9 ∷ codes "any" ++ 9 ∷ codes "#1") ≡ Some (Sub Any (Number 1 []))
 unfolding event_of chars is_utf8 hex_on_literals lib.Utf8.encode
 numbered = refl
 
-numbered_suffix : event_of (codes "sub" ++ 9 ∷ codes "any" ++ 9 ∷ codes "#1:x") ≡ None
+numbered_suffix : event_of (codes "sub" ++ 9 ∷ codes "any" ++ 9 ∷ codes "#1:x") ≡ Some (Sub Any (Number 1 (codes "x")))
 unfolding event_of chars is_utf8 hex_on_literals lib.Utf8.encode
 numbered_suffix = refl
 
-numbered_colon : event_of (codes "sub" ++ 9 ∷ codes "any" ++ 9 ∷ codes "#1:") ≡ None
+numbered_colon : event_of (codes "sub" ++ 9 ∷ codes "any" ++ 9 ∷ codes "#1:") ≡ Some (Sub Any (Number 1 []))
 unfolding event_of chars is_utf8 hex_on_literals lib.Utf8.encode
 numbered_colon = refl
 
@@ -95,6 +95,22 @@ number_too_great = refl
 number_zero : event_of (codes "sub" ++ 9 ∷ codes "any" ++ 9 ∷ codes "#01") ≡ Some (Sub Any (Text (codes "#01")))
 unfolding event_of chars is_utf8 hex_on_literals lib.Utf8.encode
 number_zero = refl
+
+a_key : event_of (codes "key" ++ 9 ∷ codes "#65535:/b:c") ≡ Some (Key (Number 65535 (codes "/b:c")))
+unfolding event_of chars is_utf8 hex_on_literals lib.Utf8.encode
+a_key = refl
+
+a_key_given_back : event_of (codes "undeclare" ++ 9 ∷ codes "key" ++ 9 ∷ codes "k") ≡ Some (UndeclareKey (Text (codes "k")))
+unfolding event_of chars is_utf8 hex_on_literals lib.Utf8.encode
+a_key_given_back = refl
+
+a_close : event_of (codes "close") ≡ Some Close
+unfolding event_of chars is_utf8 hex_on_literals lib.Utf8.encode
+a_close = refl
+
+no_close : event_of (codes "close" ++ 9 ∷ []) ≡ None
+unfolding event_of chars is_utf8 hex_on_literals lib.Utf8.encode
+no_close = refl
 
 odd_digits : event_of (codes "put" ++ 9 ∷ codes "any" ++ 9 ∷ codes "k" ++ 9 ∷ codes "x1") ≡ None
 unfolding event_of chars is_utf8 hex_on_literals lib.Utf8.encode

@@ -3,6 +3,7 @@ pub mod FirstLine
 pub mod ReadingFields
 pub mod Pieces
 pub mod Examples
+pub mod Numbers
 pub mod PlainTexts
 pub mod PlainEffects
 pub mod PlainEvents

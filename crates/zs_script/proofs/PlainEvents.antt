@@ -1,19 +1,20 @@
 -- The events of lines without line feeds are plain.
-use Rattle.std.proofs.Common.{ℕ, zero, suc, ◌≡◌, ◌+◌, ◌<◌, ◌≤◌, ◌==◌, Bool, true, false, not, nat_lt, List, [], ◌∷◌, length, get_or, drop, Option, Some, None, IfSome, refl, subst, ap, ◌∙◌, arith, cond, codes, inl, inr, option_map, option_and_then, encode_utf8_all}
-use Rattle.std.specs.List.{list_all, position_or_len, onto_first, AllByRecursion}
+use Rattle.std.proofs.Common.{ℕ, zero, suc, ◌≡◌, ◌+◌, ◌<◌, ◌≤◌, ◌==◌, Bool, true, false, not, nat_lt, List, [], ◌∷◌, length, get_or, drop, Option, Some, None, IfSome, refl, subst, ap, ◌∙◌, arith, cond, codes, inl, inr, option_map, option_and_then, unwrap_or, encode_utf8_all}
+use Rattle.std.specs.List.{list_all, position_or_len, before_first, after_first, onto_first, AllByRecursion}
 use Rattle.std.specs.Str.{IsUtf8, is_utf8, chars, bytes_eq}
 use Rattle.std.proofs.lemmas.Bool.{and_parts, and_from, cases_lt, eqb-true, ltb-true}
 use Rattle.std.proofs.lemmas.List.Splits.{slice_split_first}
 use Rattle.std.proofs.lemmas.List.Sums.{passes_at_first}
 use Rattle.std.proofs.lemmas.List.{length-drop}
+use Rattle.std.proofs.Math.ListN.{drop_of_length-le}
 use Rattle.std.proofs.lemmas.Str.{IsUtf8-nil, IsUtf8-take, IsUtf8-drop, IsCharBoundary-before_ascii, IsCharBoundary-after_ascii, IsUtf8-from_is_utf8, encodes-chars}
 use Rattle.zs_core.specs.declared.event.KeyArg.{KeyArg}
-use Rattle.zs_core.specs.declared.event.KeyArg.TheVariants.{Text}
+use Rattle.zs_core.specs.declared.event.KeyArg.TheVariants.{Text, Number}
 use Rattle.zs_core.specs.declared.event.Event.{Event}
-use Rattle.zs_core.specs.declared.event.Event.TheVariants.{Sub, Undeclare, Put, NetPut}
+use Rattle.zs_core.specs.declared.event.Event.TheVariants.{Key, UndeclareKey, Sub, Undeclare, Put, NetPut, Close}
 use Rattle.zs_script.specs.Lines.{fields}
-use Rattle.zs_script.specs.Symbols.{number_of, u32_max, locality_of, is_numbered, key_of, payload_of, after_prefix, wire_of}
-use Rattle.zs_script.specs.Grammar.{default_encoding, default_qos, sub_of, entity_kind_of, undeclare_of, put_of, push_of, net_of, event_of_fields, event_of}
+use Rattle.zs_script.specs.Symbols.{number_of, u16_max, u32_max, locality_of, is_colon, numbered_of, key_of, payload_of, after_prefix, wire_of}
+use Rattle.zs_script.specs.Grammar.{default_encoding, default_qos, declare_of, close_of, sub_of, entity_kind_of, undeclare_of, put_of, push_of, net_of, event_of_fields, event_of}
 use Rattle.zs_script.specs.Plain.{has_no_line_feed, is_plain, is_plain_key, is_plain_event}
 use Rattle.zs_script.specs.Laws.{EventsArePlain}
 use Rattle.zs_script.proofs.PlainTexts.{fields-plain}
@@ -86,9 +87,6 @@ PlainEvent event = is_plain_event event ≡ true
 chars-plain : (field : List ℕ) → IsText field → PlainChars (chars field)
 chars-plain field h = ap is_plain (encodes-chars field h.1) ∙ h.0
 
-key-plain : (field : List ℕ) → IsText field → IfSome (key_of field) PlainKey
-key-plain field h = on-choice (is_numbered field) PlainKey None (Some (Text (chars field))) tt (chars-plain field h)
-
 behind-text : (b : ℕ) (bs : List ℕ) → b < 128 → IsText (b ∷ bs) → IsText bs
 behind-text b bs small h = (
   (and_parts _ (is_plain bs) h.0).1,
@@ -108,6 +106,40 @@ prefix-text (p ∷ ps) (b ∷ bs) small h =
       | false ↦ λ e. tt
     ] refl
 
+plain-drop : (n : ℕ) (text : List ℕ) → is_plain text ≡ true → is_plain (drop n text) ≡ true
+plain-drop zero text h = h
+plain-drop (suc n) [] h = refl
+plain-drop (suc n) (b ∷ bs) h = plain-drop n bs (and_parts _ (is_plain bs) h).1
+
+-- what stands behind the first colon of a text is a text
+behind-colon : (text : List ℕ) → IsText text → IsText (after_first is_colon text)
+behind-colon text h =
+    elim (cases_lt (position_or_len is_colon text) (length text)) [
+      | inl lt ↦
+          let is : get_or text (position_or_len is_colon text) 0 ≡ 58 = eqb-true _ _ (passes_at_first is_colon text 0 lt) in (
+            plain-drop (position_or_len is_colon text + 1) text h.0,
+            IsUtf8-drop text (position_or_len is_colon text + 1) h.1 (IsCharBoundary-after_ascii text (position_or_len is_colon text) h.1 lt (omega (arith, is))),
+          )
+      | inr ge ↦
+          let none : after_first is_colon text ≡ [] = drop_of_length-le text (omega (arith, ge)) in
+          rw none (refl, IsUtf8-nil)
+    ]
+
+numbered-plain : (field : List ℕ) → IsText field → IfSome (numbered_of field) PlainKey
+numbered-plain field h =
+    on-then (λ rest. option_map (λ number. Number number (chars (after_first is_colon rest))) (number_of u16_max (before_first is_colon rest)))
+    IsText PlainKey
+    (λ rest k. on-map (λ number. Number number (chars (after_first is_colon rest))) (λ _. Unit {0}) PlainKey
+    (λ number _. chars-plain (after_first is_colon rest) (behind-colon rest k)) (number_of u16_max (before_first is_colon rest)) (on-any _))
+    (after_prefix (codes "#") field) (prefix-text (codes "#") field refl h)
+
+key-plain : (field : List ℕ) → IsText field → PlainKey (key_of field)
+key-plain field h = go (numbered_of field) (numbered-plain field h)
+  where
+    go : (o : Option KeyArg) → IfSome o PlainKey → PlainKey (unwrap_or o (Text (chars field)))
+    go None k = chars-plain field h
+    go (Some key) k = k
+
 wire-plain : (field : List ℕ) → IsText field → IfSome (wire_of field) PlainChars
 wire-plain field h =
     on-map chars IsText PlainChars chars-plain (after_prefix (codes "s0:") field) (prefix-text (codes "s0:") field refl h)
@@ -117,38 +149,43 @@ unfolding lib.Utf8.encode
 default-plain = refl
 
 -- the forms of lines
+declare-plain : (rest : List (List ℕ)) → AllByRecursion IsText rest → IfSome (declare_of rest) PlainEvent
+declare-plain [] h = tt
+declare-plain (key ∷ []) h = key-plain key h.0
+declare-plain (key ∷ more ∷ rest) h = tt
+
 sub-plain : (rest : List (List ℕ)) → AllByRecursion IsText rest → IfSome (sub_of rest) PlainEvent
 sub-plain [] h = tt
 sub-plain (place ∷ []) h = tt
 sub-plain (place ∷ key ∷ []) h =
-    on-then (λ origin. option_map (λ arg. Sub origin arg) (key_of key)) (λ _. Unit {0}) PlainEvent
-    (λ origin _. on-map (λ arg. Sub origin arg) PlainKey PlainEvent (λ arg k. k) (key_of key) (key-plain key h.1.0))
-    (locality_of place) (on-any (locality_of place))
+    on-map (λ origin. Sub origin (key_of key)) (λ _. Unit {0}) PlainEvent (λ origin _. key-plain key h.1.0) (locality_of place) (on-any (locality_of place))
 sub-plain (place ∷ key ∷ more ∷ rest) h = tt
 
-undeclare-plain : (rest : List (List ℕ)) → IfSome (undeclare_of rest) PlainEvent
-undeclare-plain [] = tt
-undeclare-plain (kind ∷ []) = tt
-undeclare-plain (kind ∷ number ∷ []) =
-    on-then (λ k. option_map (λ id. Undeclare k id) (number_of u32_max number)) (λ _. Unit {0}) PlainEvent
-    (λ k _. on-map (λ id. Undeclare k id) (λ _. Unit {0}) PlainEvent (λ id _. refl) (number_of u32_max number) (on-any _))
-    (entity_kind_of kind) (on-any (entity_kind_of kind))
-undeclare-plain (kind ∷ number ∷ more ∷ rest) = tt
+undeclare-plain : (rest : List (List ℕ)) → AllByRecursion IsText rest → IfSome (undeclare_of rest) PlainEvent
+undeclare-plain [] h = tt
+undeclare-plain (kind ∷ []) h = tt
+undeclare-plain (kind ∷ what ∷ []) h =
+    on-choice (bytes_eq kind (codes "key")) PlainEvent (Some (UndeclareKey (key_of what))) _ (key-plain what h.1.0)
+    (on-then (λ k. option_map (λ id. Undeclare k id) (number_of u32_max what)) (λ _. Unit {0}) PlainEvent
+    (λ k _. on-map (λ id. Undeclare k id) (λ _. Unit {0}) PlainEvent (λ id _. refl) (number_of u32_max what) (on-any _))
+    (entity_kind_of kind) (on-any (entity_kind_of kind)))
+undeclare-plain (kind ∷ what ∷ more ∷ rest) h = tt
 
 put-plain : (rest : List (List ℕ)) → AllByRecursion IsText rest → IfSome (put_of rest) PlainEvent
 put-plain [] h = tt
 put-plain (place ∷ []) h = tt
 put-plain (place ∷ key ∷ []) h = tt
 put-plain (place ∷ key ∷ bytes ∷ []) h =
-    on-then (λ destination. option_and_then (λ arg. option_map (λ payload.
-    Put destination arg payload default_encoding default_qos true) (payload_of bytes)) (key_of key)) (λ _. Unit {0}) PlainEvent
-    (λ destination _. on-then (λ arg. option_map (λ payload.
-    Put destination arg payload default_encoding default_qos true) (payload_of bytes)) PlainKey PlainEvent
-    (λ arg k. on-map (λ payload. Put destination arg payload default_encoding default_qos true) (λ _. Unit {0}) PlainEvent
-    (λ payload _. and_from _ _ k default-plain) (payload_of bytes) (on-any _))
-    (key_of key) (key-plain key h.1.0))
+    on-then (λ destination. option_map (λ payload. Put destination (key_of key) payload default_encoding default_qos true) (payload_of bytes))
+    (λ _. Unit {0}) PlainEvent
+    (λ destination _. on-map (λ payload. Put destination (key_of key) payload default_encoding default_qos true) (λ _. Unit {0}) PlainEvent
+    (λ payload _. and_from _ _ (key-plain key h.1.0) default-plain) (payload_of bytes) (on-any _))
     (locality_of place) (on-any (locality_of place))
 put-plain (place ∷ key ∷ bytes ∷ more ∷ rest) h = tt
+
+close-plain : (rest : List (List ℕ)) → IfSome (close_of rest) PlainEvent
+close-plain [] = refl
+close-plain (field ∷ rest) = tt
 
 push-plain : (rest : List (List ℕ)) → AllByRecursion IsText rest → IfSome (push_of rest) PlainEvent
 push-plain [] h = tt
@@ -171,10 +208,12 @@ net-plain (word ∷ rest) h = on-choice (bytes_eq word (codes "push")) PlainEven
 fields-event : (parts : List (List ℕ)) → AllByRecursion IsText parts → IfSome (event_of_fields parts) PlainEvent
 fields-event [] h = tt
 fields-event (word ∷ rest) h =
-    on-choice (bytes_eq word (codes "sub")) PlainEvent (sub_of rest) _ (sub-plain rest h.1)
-    (on-choice (bytes_eq word (codes "undeclare")) PlainEvent (undeclare_of rest) _ (undeclare-plain rest)
+    on-choice (bytes_eq word (codes "key")) PlainEvent (declare_of rest) _ (declare-plain rest h.1)
+    (on-choice (bytes_eq word (codes "sub")) PlainEvent (sub_of rest) _ (sub-plain rest h.1)
+    (on-choice (bytes_eq word (codes "undeclare")) PlainEvent (undeclare_of rest) _ (undeclare-plain rest h.1)
     (on-choice (bytes_eq word (codes "put")) PlainEvent (put_of rest) _ (put-plain rest h.1)
-    (on-choice (bytes_eq word (codes "net")) PlainEvent (net_of rest) None (net-plain rest h.1) tt)))
+    (on-choice (bytes_eq word (codes "close")) PlainEvent (close_of rest) _ (close-plain rest)
+    (on-choice (bytes_eq word (codes "net")) PlainEvent (net_of rest) None (net-plain rest h.1) tt)))))
 
 line-event : (bytes : List ℕ) → has_no_line_feed bytes ≡ true → IfSome (event_of bytes) PlainEvent
 unfolding event_of

@@ -2,9 +2,9 @@
 use Rattle.std.specs.Prelude.{ℕ, Bool, true, ◌==◌, not, ◌&&◌, List, encode_utf8_all}
 use Rattle.std.specs.List.{list_all}
 use Rattle.zs_core.specs.declared.event.KeyArg.{KeyArg}
-use Rattle.zs_core.specs.declared.event.KeyArg.TheVariants.{Text}
+use Rattle.zs_core.specs.declared.event.KeyArg.TheVariants.{Text, Number}
 use Rattle.zs_core.specs.declared.event.Event.{Event}
-use Rattle.zs_core.specs.declared.event.Event.TheVariants.{Sub, Undeclare, Put, NetPut, Close}
+use Rattle.zs_core.specs.declared.event.Event.TheVariants.{Key, UndeclareKey, Sub, Undeclare, Put, NetPut, Close}
 use Rattle.zs_core.specs.declared.turn.Effect.{Effect}
 use Rattle.zs_core.specs.declared.turn.Effect.TheVariants.{Hand, End}
 use Rattle.zs_core.specs.declared.turn.HandOver.TheVariants.{Sample}
@@ -20,9 +20,12 @@ has_no_line_feed line = list_all (λ b. not (b == 10)) line
 -- a key with such a text
 abbrev pub is_plain_key : KeyArg → Bool
 is_plain_key (Text text) = is_plain (encode_utf8_all text)
+is_plain_key (Number number suffix) = is_plain (encode_utf8_all suffix)
 
 -- an event all of whose texts are such
 abbrev pub is_plain_event : Event → Bool
+is_plain_event (Key key) = is_plain_key key
+is_plain_event (UndeclareKey key) = is_plain_key key
 is_plain_event (Sub origin key) = is_plain_key key
 is_plain_event (Undeclare kind id) = true
 is_plain_event (Put destination key payload encoding qos reliable) = is_plain_key key && is_plain (encode_utf8_all encoding)

@@ -1,6 +1,6 @@
 -- The symbols that the forms of lines are made of, each read from one field.
-use Rattle.std.specs.Prelude.{ℕ, ◌+◌, ◌*◌, ◌-◌, Bool, false, nat_le, ◌==◌, ◌&&◌, is_some, List, [], ◌∷◌, Option, Some, None, option_map, codes, if◌then◌else◌}
-use Rattle.std.specs.List.{before_first}
+use Rattle.std.specs.Prelude.{ℕ, ◌+◌, ◌*◌, ◌-◌, Bool, false, nat_le, ◌==◌, ◌&&◌, List, [], ◌∷◌, Option, Some, None, option_map, option_and_then, unwrap_or, codes, if◌then◌else◌}
+use Rattle.std.specs.List.{before_first, after_first}
 use Rattle.std.specs.Str.{bytes_eq, chars}
 use Rattle.std.specs.Result.{result_ok}
 use Rattle.hex.specs.Hex.{decode_of}
@@ -8,7 +8,7 @@ use Rattle.zs_bytes.specs.Payload.{one_slice}
 use Rattle.zs_sample.specs.declared.locality.Locality.{Locality}
 use Rattle.zs_sample.specs.declared.locality.Locality.TheVariants.{SessionLocal, Remote, Any}
 use Rattle.zs_core.specs.declared.event.KeyArg.{KeyArg}
-use Rattle.zs_core.specs.declared.event.KeyArg.TheVariants.{Text}
+use Rattle.zs_core.specs.declared.event.KeyArg.TheVariants.{Text, Number}
 
 -- a decimal digit
 abbrev pub is_digit : ℕ → Bool
@@ -39,25 +39,30 @@ locality_of field =
     if bytes_eq field (codes "local") then Some SessionLocal else
     if bytes_eq field (codes "remote") then Some Remote else None
 
--- the form of a declared number, with or without a suffix: `#` and a number, then nothing or `:` and any text
-abbrev pub is_numbered : List ℕ → Bool
-is_numbered [] = false
-is_numbered (b ∷ bs) = b == 35 && is_some (number_of u16_max (before_first (λ c. c == 58) bs))
-
--- a key: a text, which need not be canonical. Declared numbers have no event yet
-abbrev pub key_of : List ℕ → Option KeyArg
-key_of field = if is_numbered field then None else Some (Text (chars field))
-
--- a payload: `x` and an even number of hexadecimal digits, of either case; its bytes lie in one slice
-abbrev pub payload_of : List ℕ → Option (List (List ℕ))
-payload_of [] = None
-payload_of (b ∷ digits) = if b == 120 then option_map one_slice (result_ok (decode_of digits)) else None
-
 -- what stands behind a prefix
 abbrev pub after_prefix : List ℕ → List ℕ → Option (List ℕ)
 after_prefix [] field = Some field
 after_prefix (p ∷ ps) [] = None
 after_prefix (p ∷ ps) (b ∷ bs) = if p == b then after_prefix ps bs else None
+
+-- the colon that ends a number
+abbrev pub is_colon : ℕ → Bool
+is_colon b = b == 58
+
+-- a declared number, and behind a colon the text of a suffix: `#N` or `#N:TEXT`
+abbrev pub numbered_of : List ℕ → Option KeyArg
+numbered_of field =
+    option_and_then (λ rest. option_map (λ number. Number number (chars (after_first is_colon rest)))
+    (number_of u16_max (before_first is_colon rest))) (after_prefix (codes "#") field)
+
+-- a key: a declared number where the field has that form, and else a text, which need not be canonical
+abbrev pub key_of : List ℕ → KeyArg
+key_of field = unwrap_or (numbered_of field) (Text (chars field))
+
+-- a payload: `x` and an even number of hexadecimal digits, of either case; its bytes lie in one slice
+abbrev pub payload_of : List ℕ → Option (List (List ℕ))
+payload_of [] = None
+payload_of (b ∷ digits) = if b == 120 then option_map one_slice (result_ok (decode_of digits)) else None
 
 -- a wire expression: the mapping and the scope `s0`, `:`, and the text. Other scopes have no event yet
 abbrev pub wire_of : List ℕ → Option (List ℕ)

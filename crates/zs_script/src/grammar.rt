@@ -1,7 +1,7 @@
 //! The forms of lines, each read from the fields behind its word.
 
 ghost use Rattle.std.specs.Prelude.{◌≡◌, IfOk};
-ghost use Rattle.zs_script.specs.Grammar.{event_of, event_of_fields, sub_of, undeclare_of, entity_kind_of, put_of, net_of, push_of, default_encoding, default_qos};
+ghost use Rattle.zs_script.specs.Grammar.{event_of, event_of_fields, declare_of, sub_of, undeclare_of, entity_kind_of, put_of, close_of, net_of, push_of, default_encoding, default_qos};
 ghost use Rattle.zs_script.specs.Lines.{fields};
 ghost use Rattle.zs_script.specs.Fields.{texts};
 
@@ -37,12 +37,25 @@ fn parse_fields(alloc: Global, fields: &[&str]) -> Result<Option<Event>, AllocEr
         return Ok(None);
     };
     match *word {
+        "key" => parse_declare(alloc, rest),
         "sub" => parse_sub(alloc, rest),
-        "undeclare" => Ok(parse_undeclare(rest)),
+        "undeclare" => parse_undeclare(alloc, rest),
         "put" => parse_put(alloc, rest),
+        "close" => Ok(parse_close(rest)),
         "net" => parse_net(alloc, rest),
         _ => Ok(None),
     }
+}
+
+/// `key KEY`
+fn parse_declare(alloc: Global, rest: &[&str]) -> Result<Option<Event>, AllocError>
+    ensures { IfOk result (λ found. found ≡ declare_of (texts rest.now)) }
+{
+    let [key] = rest else {
+        return Ok(None);
+    };
+    let key = parse_key(alloc, key)?;
+    Ok(Some(Event::Key { key }))
 }
 
 /// `sub LOC KEY`
@@ -55,22 +68,28 @@ fn parse_sub(alloc: Global, rest: &[&str]) -> Result<Option<Event>, AllocError>
     let Some(origin) = parse_locality(origin) else {
         return Ok(None);
     };
-    let Some(key) = parse_key(alloc, key)? else {
-        return Ok(None);
-    };
+    let key = parse_key(alloc, key)?;
     Ok(Some(Event::Sub { origin, key }))
 }
 
-/// `undeclare KIND N`
-fn parse_undeclare(rest: &[&str]) -> Option<Event>
-    ensures { result ≡ undeclare_of (texts rest.now) }
+/// `undeclare key KEY`, or `undeclare KIND N`
+fn parse_undeclare(alloc: Global, rest: &[&str]) -> Result<Option<Event>, AllocError>
+    ensures { IfOk result (λ found. found ≡ undeclare_of (texts rest.now)) }
 {
-    let [kind, id] = rest else {
-        return None;
+    let [kind, what] = rest else {
+        return Ok(None);
     };
-    let kind = parse_entity_kind(kind)?;
-    let id = parse_number(u32::MAX, id.as_bytes())?;
-    Some(Event::Undeclare { kind, id })
+    if *kind == "key" {
+        let key = parse_key(alloc, what)?;
+        return Ok(Some(Event::UndeclareKey { key }));
+    }
+    let Some(kind) = parse_entity_kind(kind) else {
+        return Ok(None);
+    };
+    let Some(id) = parse_number(u32::MAX, what.as_bytes()) else {
+        return Ok(None);
+    };
+    Ok(Some(Event::Undeclare { kind, id }))
 }
 
 fn parse_entity_kind(field: &str) -> Option<EntityKind>
@@ -92,12 +111,10 @@ fn parse_put(alloc: Global, rest: &[&str]) -> Result<Option<Event>, AllocError>
     let Some(destination) = parse_locality(destination) else {
         return Ok(None);
     };
-    let Some(key) = parse_key(alloc, key)? else {
-        return Ok(None);
-    };
     let Some(payload) = parse_payload(alloc, payload)? else {
         return Ok(None);
     };
+    let key = parse_key(alloc, key)?;
     Ok(Some(Event::Put {
         destination,
         key,
@@ -106,6 +123,16 @@ fn parse_put(alloc: Global, rest: &[&str]) -> Result<Option<Event>, AllocError>
         qos: absent_qos(),
         reliable: true,
     }))
+}
+
+/// `close`
+fn parse_close(rest: &[&str]) -> Option<Event>
+    ensures { result ≡ close_of (texts rest.now) }
+{
+    if !rest.is_empty() {
+        return None;
+    }
+    Some(Event::Close)
 }
 
 /// `net MESSAGE`

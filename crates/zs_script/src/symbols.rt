@@ -1,10 +1,9 @@
 //! The symbols that the forms of lines are made of, each read from one field.
 
-ghost use Rattle.std.specs.Prelude.{◌≡◌, ◌==◌, IfOk, option_map};
-ghost use Rattle.std.specs.List.{before_first};
-ghost use Rattle.zs_script.specs.Symbols.{number_from, number_of, locality_of, is_numbered, key_of, payload_of, after_prefix, wire_of};
+ghost use Rattle.std.specs.Prelude.{◌≡◌, IfOk, option_map};
+ghost use Rattle.std.specs.List.{before_first, after_first};
+ghost use Rattle.zs_script.specs.Symbols.{number_from, number_of, u16_max, locality_of, is_colon, numbered_of, key_of, payload_of, after_prefix, wire_of};
 
-use crate::bytes::position_of;
 use hex::FromHexError;
 use std::alloc::{AllocError, Global};
 use zs_core::KeyArg;
@@ -49,33 +48,51 @@ pub(crate) fn parse_locality(field: &str) -> Option<Locality>
     }
 }
 
-/// A key: any text but a declared number, which has no event yet.
-pub(crate) fn parse_key(alloc: Global, field: &str) -> Result<Option<KeyArg>, AllocError>
-    ensures { IfOk result (λ found. found ≡ key_of field.now) }
+/// A key: a declared number where the field has that form, and else a text.
+pub(crate) fn parse_key(alloc: Global, field: &str) -> Result<KeyArg, AllocError>
+    ensures { IfOk result (λ key. key ≡ key_of field.now) }
 {
-    if is_numbered(field.as_bytes()) {
-        return Ok(None);
+    if let Some(key) = parse_numbered(alloc, field)? {
+        return Ok(key);
     }
-    Ok(Some(KeyArg::Text(Text::of(alloc, field)?)))
+    Ok(KeyArg::Text(Text::of(alloc, field)?))
 }
 
-/// Whether a field has the form of a declared number, with or without a suffix.
-fn is_numbered(field: &[u8]) -> bool
-    ensures { result ≡ is_numbered field.now }
+/// `#N` or `#N:TEXT`
+fn parse_numbered(alloc: Global, field: &str) -> Result<Option<KeyArg>, AllocError>
+    ensures { IfOk result (λ found. found ≡ numbered_of field.now) }
 {
-    let [first, rest @ ..] = field else {
-        return false;
+    let Some(rest) = after_prefix(field, "#") else {
+        return Ok(None);
     };
-    *first == b'#' && parse_number(u32::from(u16::MAX), before_colon(rest)).is_some()
+    let (digits, suffix) = cut_at_colon(rest);
+    let Some(number) = parse_key_number(digits) else {
+        return Ok(None);
+    };
+    Ok(Some(KeyArg::Number {
+        number,
+        suffix: Text::of(alloc, suffix)?,
+    }))
 }
 
-/// What stands before the first colon, or all where there is none.
-fn before_colon(bytes: &[u8]) -> &[u8]
-    ensures { result.now ≡ before_first (λ b. b == 58) bytes.now }
+/// The number of a declared key.
+fn parse_key_number(digits: &str) -> Option<u16>
+    ensures { result ≡ number_of u16_max digits.now }
 {
-    match position_of(bytes, b':') {
-        Some(place) => &bytes[..place],
-        None => bytes,
+    match parse_number(u16::MAX.into(), digits.as_bytes()) {
+        Some(number) => Some(number as u16),
+        None => None,
+    }
+}
+
+/// What stands before the first colon, and what behind it; all and nothing where there is none.
+fn cut_at_colon(text: &str) -> (&str, &str)
+    ensures before { result.0.now ≡ before_first is_colon text.now }
+    ensures behind { result.1.now ≡ after_first is_colon text.now }
+{
+    match text.split_once(':') {
+        Some((before, behind)) => (before, behind),
+        None => (text, ""),
     }
 }
 

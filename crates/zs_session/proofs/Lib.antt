@@ -1,4 +1,5 @@
 pub mod Cutting
+pub mod PlainKeys
 pub mod Telling
 pub mod Stepping
 pub mod Scripts

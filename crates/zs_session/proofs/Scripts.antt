@@ -33,4 +33,4 @@ plain_script input =
 
 -- the text of every script tells it
 pub script_told : (s : Settings) (input : List ℕ) → Told s (script input) (told (text s (script input)))
-script_told s input = text_told s [] (script input) (plain_script input)
+script_told s input = text_told s [] (script input) tt (plain_script input)

@@ -1,15 +1,18 @@
-use Rattle.std.proofs.Common.{◌≡◌, ◌+◌, List, [], ◌∷◌, ◌++◌, length, Bool, true, false, Option, Some, None, refl, sym, ◌∙◌, ap, inl, inr}
+use Rattle.std.proofs.Common.{◌≡◌, ◌+◌, List, [], ◌∷◌, ◌++◌, length, Bool, true, false, Option, Some, None, IfSome, refl, sym, ◌∙◌, ap, inl, inr}
 use Rattle.std.specs.Prelude.{ℕ, if◌then◌else◌, encode_utf8_all, map, filter}
 use Rattle.std.specs.List.{AllByRecursion, flat_map}
 use Rattle.std.proofs.lemmas.List.Elements.{filter-append}
 use Rattle.zs_core.specs.declared.event.Event.{Event}
-use Rattle.zs_core.specs.declared.event.Event.TheVariants.{Sub, Undeclare, Put, NetPut, Close}
+use Rattle.zs_core.specs.declared.event.Event.TheVariants.{Key, UndeclareKey, Sub, Undeclare, Put, NetPut, Close}
 use Rattle.zs_core.specs.declared.event.EntityKind.TheVariants.{Sub as sub_kind}
 use Rattle.zs_core.specs.declared.settings.Settings.{Settings}
 use Rattle.zs_core.specs.declared.subscriber.SubRow.{SubRow}
 use Rattle.zs_core.specs.declared.turn.Answer.TheVariants.{Ok as accepted, Refused}
 use Rattle.zs_core.specs.declared.turn.Answer.{Answer}
-use Rattle.zs_core.specs.declared.event.KeyArg.TheVariants.{Text}
+use Rattle.zs_core.specs.Keys.{key_of}
+use Rattle.zs_sample.specs.declared.locality.Locality.{Locality}
+use Rattle.zs_sample.specs.declared.quality.QoSType.{QoSType}
+use Rattle.zs_core.specs.World.{World}
 use Rattle.zs_sample.specs.declared.sample.SampleFields.{SampleFields}
 use Rattle.zs_sample.specs.declared.locality.Locality.TheVariants.{Any}
 use Rattle.zs_sample.specs.Encoding.{encoding_of}
@@ -22,20 +25,22 @@ use Rattle.zs_core.specs.declared.turn.Turn.{Turn}
 use Rattle.zs_core.specs.Turn.{answered}
 use Rattle.zs_core.specs.Subscribers.{sub_ends}
 use Rattle.zs_core.specs.Publications.{Publication, allows, put_sample}
-use Rattle.zs_core.specs.Turns.{closed_cause, open_cause, number_for, effects_of, hands_for}
-use Rattle.zs_core.specs.Past.{Entry, past_of, world_of, is_closed, subs}
+use Rattle.zs_core.specs.Turns.{closed_cause, open_cause, number_for, text_for, publication_of, effects_of, put_of, hands_for}
+use Rattle.zs_core.specs.Past.{Entry, past_of, world_of, is_closed, subs, own}
 use Rattle.zs_core.specs.Live.{live_subs}
 use Rattle.zs_core.specs.Causes.{has_cause, Names}
 use Rattle.zs_core.specs.Stands.{effects}
 use Rattle.zs_core.proofs.Living.{numbered, table_is_live}
+use Rattle.zs_core.proofs.Holding.{AreDeclared, declared, texts_are_named}
 use Rattle.zs_core.proofs.Causing.{refusals_have_causes}
 use Rattle.zs_script.specs.Lines.{lines}
 use Rattle.zs_script.specs.Printing.{line, turn_text, answer_fields, effect_fields}
-use Rattle.zs_script.specs.Plain.{is_plain, is_plain_event}
+use Rattle.zs_script.specs.Plain.{is_plain, is_plain_key, is_plain_event}
 use Rattle.zs_script.proofs.PlainTexts.{fields-found}
 use Rattle.zs_script.proofs.PlainEffects.{answers-plain, effects-plain}
 use Rattle.zs_session.specs.Script.{text_after}
 use Rattle.zs_session.specs.Telling.{plain_line, tells, tells_behind, is_telling, told, published, hand_lines, Tells, ToldAfter}
+use Rattle.zs_session.proofs.PlainKeys.{IsPlain, PlainRow, PlainEvents, plain_text, plain_keys}
 use Rattle.zs_session.proofs.Cutting.{ArePlain, both, lines_all}
 
 -- the fields of each line of a turn
@@ -80,16 +85,24 @@ publication_told s past n (Some p) live =
     hands_tell n p (filter (allows p) (subs past))
     ∙ ap (λ (rows : List SubRow). map (λ row. plain_line n (effect_fields (Hand (Sample Subscriber row.id p.sample)))) (filter (allows p) rows)) live
 
+-- the publication that an event is, by the tables as by the events alone
+published_is : (s : Settings) (past : List Entry) (e : Event) → AreDeclared s past → publication_of (text_for (world_of s past) e) e ≡ published past e
+published_is s past e d = ap (λ (text : Option (List ℕ)). publication_of text e) (texts_are_named s past e d)
+
 -- the effects of an accepted event tell its hand-overs
-effects_told : (s : Settings) (past : List Entry) (n : ℕ) (e : Event) → subs past ≡ live_subs past
-    → map (plain_line n) (filter tells (map effect_fields (effects_of (world_of s past) e))) ≡ hand_lines past n (published s past e)
-effects_told s past n (Sub origin key) live = refl
-effects_told s past n (Undeclare sub_kind id) live = refl
-effects_told s past n (Put destination key payload encoding qos reliable) live =
-    publication_told s past n (published s past (Put destination key payload encoding qos reliable)) live
-effects_told s past n (NetPut key payload encoding qos reliable) live =
-    publication_told s past n (published s past (NetPut key payload encoding qos reliable)) live
-effects_told s past n Close live = ap (map (plain_line n)) (ends_tell (subs past))
+effects_told : (s : Settings) (past : List Entry) (n : ℕ) (e : Event) → subs past ≡ live_subs past → AreDeclared s past
+    → map (plain_line n) (filter tells (map effect_fields (effects_of (world_of s past) e))) ≡ hand_lines past n (published past e)
+effects_told s past n (Key key) live d = refl
+effects_told s past n (UndeclareKey key) live d = refl
+effects_told s past n (Sub origin key) live d = refl
+effects_told s past n (Undeclare sub_kind id) live d = refl
+effects_told s past n (Put destination key payload encoding qos reliable) live d =
+    publication_told s past n (publication_of (key_of (world_of s past) key) (Put destination key payload encoding qos reliable)) live
+    ∙ ap (hand_lines past n) (published_is s past (Put destination key payload encoding qos reliable) d)
+effects_told s past n (NetPut key payload encoding qos reliable) live d =
+    publication_told s past n (publication_of (Some (encode_utf8_all key)) (NetPut key payload encoding qos reliable)) live
+    ∙ ap (hand_lines past n) (published_is s past (NetPut key payload encoding qos reliable) d)
+effects_told s past n Close live d = ap (map (plain_line n)) (ends_tell (subs past))
 
 -- a refused turn tells its refusal
 refused_told : (s : Settings) (past : List Entry) (n : ℕ) (e : Event) (refusal : Refusal) (number : Option ℕ) (fx : List Effect)
@@ -97,12 +110,10 @@ refused_told : (s : Settings) (past : List Entry) (n : ℕ) (e : Event) (refusal
 refused_told s past n e refusal number fx holds = inl (refusal, holds, refl)
 
 -- a closed session that accepts an event publishes nothing
-shut_quiet : (s : Settings) (past : List Entry) (n : ℕ) (e : Event) → closed_cause e ≡ None → hand_lines past n (published s past e) ≡ []
-shut_quiet s past n (Sub origin key) c = cc
-shut_quiet s past n (Undeclare kind id) c = refl
-shut_quiet s past n (Put destination key payload encoding qos reliable) c = cc
-shut_quiet s past n (NetPut key payload encoding qos reliable) c = cc
-shut_quiet s past n Close c = refl
+shut_quiet : (past : List Entry) (n : ℕ) (e : Event) → closed_cause e ≡ None → hand_lines past n (published past e) ≡ []
+shut_quiet past n (Put destination key payload encoding qos reliable) c = cc
+shut_quiet past n (NetPut key payload encoding qos reliable) c = cc
+shut_quiet past n e c = refl
 
 -- an accepted turn tells what its effects tell
 answer_quiet : (n : ℕ) (number : Option ℕ) (fx : List Effect)
@@ -117,7 +128,7 @@ event_told s h n e = go (is_closed (past_of s h)) (refusals_have_causes s h e)
     by_closed : (o : Option Refusal) → closed_cause e ≡ o → Names (has_cause s (past_of s h) e) o
         → Tells s (past_of s h) n e (map (plain_line n) (filter tells (turn_rows (answered o None []))))
     by_closed (Some refusal) c named = refused_told s (past_of s h) n e refusal None [] named
-    by_closed None c named = inr (named, sym (shut_quiet s (past_of s h) n e c))
+    by_closed None c named = inr (named, sym (shut_quiet (past_of s h) n e c))
 
     by_open : (o : Option Refusal) → Names (has_cause s (past_of s h) e) o
         → Tells s (past_of s h) n e (map (plain_line n) (filter tells (turn_rows (answered o (number_for (world_of s (past_of s h)) e) (effects_of (world_of s (past_of s h)) e)))))
@@ -126,7 +137,7 @@ event_told s h n e = go (is_closed (past_of s h)) (refusals_have_causes s h e)
     by_open None named = inr (
       named,
       ap (map (plain_line n)) (answer_quiet n (number_for (world_of s (past_of s h)) e) (effects_of (world_of s (past_of s h)) e))
-          ∙ effects_told s (past_of s h) n e (table_is_live s (past_of s h) (numbered s h)),
+          ∙ effects_told s (past_of s h) n e (table_is_live s (past_of s h) (numbered s h)) (declared s h),
     )
 
     go : (closed : Bool) → Names (has_cause s (past_of s h) e) (if closed then closed_cause e else open_cause (world_of s (past_of s h)) e)
@@ -160,23 +171,31 @@ unfolding lib.Utf8.encode
 plain_encoding [] plain = refl
 plain_encoding (c ∷ cs) plain = plain
 
-plain_effects : (s : Settings) (past : List Entry) (e : Event) → is_plain_event e ≡ true
+plain_put : (local : Bool) (destination : Locality) (text : Option (List ℕ)) (payload : List (List ℕ)) (encoding : List ℕ) (qos : QoSType) (reliable : Bool) (w : World)
+    → IfSome text IsPlain → is_plain (encode_utf8_all encoding) ≡ true
+    → AllByRecursion ArePlain (map effect_fields (hands_for w (put_of local destination text payload encoding qos reliable)))
+plain_put local destination None payload encoding qos reliable w key plain = tt
+plain_put local destination (Some text) payload encoding qos reliable w key plain =
+    plain_hands (record { local = local; destination = destination; sample = put_sample text payload encoding qos reliable })
+    _ key (plain_encoding encoding plain)
+
+plain_effects : (s : Settings) (past : List Entry) (e : Event) → AllByRecursion PlainRow (own past) → is_plain_event e ≡ true
     → AllByRecursion ArePlain (map effect_fields (effects_of (world_of s past) e))
-plain_effects s past (Sub origin key) plain = tt
-plain_effects s past (Undeclare sub_kind id) plain = (plain_end id, tt)
-plain_effects s past (Put destination (Text key) payload encoding qos reliable) plain =
+plain_effects s past (Key key) rows plain = tt
+plain_effects s past (UndeclareKey key) rows plain = tt
+plain_effects s past (Sub origin key) rows plain = tt
+plain_effects s past (Undeclare sub_kind id) rows plain = (plain_end id, tt)
+plain_effects s past (Put destination key payload encoding qos reliable) rows plain =
+    let h = both (is_plain_key key) (is_plain (encode_utf8_all encoding)) plain in
+    plain_put true destination (key_of (world_of s past) key) payload encoding qos reliable (world_of s past) (plain_text s past key rows h.0) h.1
+plain_effects s past (NetPut key payload encoding qos reliable) rows plain =
     let h = both (is_plain (encode_utf8_all key)) (is_plain (encode_utf8_all encoding)) plain in
-    plain_hands (record { local = true; destination = destination; sample = put_sample (encode_utf8_all key) payload encoding qos reliable })
-    _ h.0 (plain_encoding encoding h.1)
-plain_effects s past (NetPut key payload encoding qos reliable) plain =
-    let h = both (is_plain (encode_utf8_all key)) (is_plain (encode_utf8_all encoding)) plain in
-    plain_hands (record { local = false; destination = Any; sample = put_sample (encode_utf8_all key) payload encoding qos reliable })
-    _ h.0 (plain_encoding encoding h.1)
-plain_effects s past Close plain = plain_ends (subs past)
+    plain_put false Any (Some (encode_utf8_all key)) payload encoding qos reliable (world_of s past) h.0 h.1
+plain_effects s past Close rows plain = plain_ends (subs past)
 
 -- the texts of the turn of a plain event are plain
-plain_turn : (s : Settings) (h : List Event) (e : Event) → is_plain_event e ≡ true → AllByRecursion ArePlain (turn_rows (effects s h e))
-plain_turn s h e plain = go (is_closed (past_of s h))
+plain_turn : (s : Settings) (h : List Event) (e : Event) → PlainEvents h → is_plain_event e ≡ true → AllByRecursion ArePlain (turn_rows (effects s h e))
+plain_turn s h e past plain = go (is_closed (past_of s h))
   where
     answer : (o : Option Refusal) (number : Option ℕ) (fx : List Effect) → AllByRecursion ArePlain (map effect_fields fx)
         → AllByRecursion ArePlain (turn_rows (answered o number fx))
@@ -187,7 +206,7 @@ plain_turn s h e plain = go (is_closed (past_of s h))
         (if closed then answered (closed_cause e) None []
         else answered (open_cause (world_of s (past_of s h)) e) (number_for (world_of s (past_of s h)) e) (effects_of (world_of s (past_of s h)) e)))
     go true = answer (closed_cause e) None [] tt
-    go false = answer (open_cause (world_of s (past_of s h)) e) (number_for (world_of s (past_of s h)) e) (effects_of (world_of s (past_of s h)) e) (plain_effects s (past_of s h) e plain)
+    go false = answer (open_cause (world_of s (past_of s h)) e) (number_for (world_of s (past_of s h)) e) (effects_of (world_of s (past_of s h)) e) (plain_effects s (past_of s h) e (plain_keys s h past) plain)
 
 -- the first lines of an output that begins with a turn
 told_turn : (n : ℕ) (turn : Turn) (rest : List ℕ) → AllByRecursion ArePlain (turn_rows turn)
@@ -199,14 +218,13 @@ told_turn n turn rest all =
     ∙ ap (λ (rows : List (List ℕ)). rows ++ told rest) (telling_rows n (turn_rows turn) all)
 
 -- the whole text of plain events tells them
-pub text_told : (s : Settings) (h : List Event) (es : List Event) → AllByRecursion (λ e. is_plain_event e ≡ true) es
-    → ToldAfter s h es (told (text_after s h es))
-text_told s h [] all = refl
-text_told s h (e ∷ es) all =
+pub text_told : (s : Settings) (h : List Event) (es : List Event) → PlainEvents h → PlainEvents es → ToldAfter s h es (told (text_after s h es))
+text_told s h [] past all = refl
+text_told s h (e ∷ es) past all =
     let n = length h + 1 in (
       map (plain_line n) (filter tells (turn_rows (effects s h e))),
       told (text_after s (e ∷ h) es),
-      told_turn n (effects s h e) (text_after s (e ∷ h) es) (plain_turn s h e all.0),
+      told_turn n (effects s h e) (text_after s (e ∷ h) es) (plain_turn s h e past all.0),
       event_told s h n e,
-      text_told s (e ∷ h) es all.1,
+      text_told s (e ∷ h) es (all.0, past) all.1,
     )

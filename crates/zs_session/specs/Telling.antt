@@ -8,9 +8,10 @@ use Rattle.zs_core.specs.declared.turn.HandOver.TheVariants.{Sample}
 use Rattle.zs_core.specs.declared.turn.Kind.TheVariants.{Subscriber}
 use Rattle.zs_core.specs.declared.turn.Refusal.{Refusal}
 use Rattle.zs_core.specs.Publications.{Publication, allows}
-use Rattle.zs_core.specs.Turns.{text_for, publication_of}
-use Rattle.zs_core.specs.Past.{Entry, past_of, world_of}
+use Rattle.zs_core.specs.Turns.{publication_of}
+use Rattle.zs_core.specs.Past.{Entry, past_of}
 use Rattle.zs_core.specs.Live.{live_subs}
+use Rattle.zs_core.specs.Held.{named_text}
 use Rattle.zs_core.specs.Causes.{has_cause}
 use Rattle.zs_script.specs.Lines.{lines, fields}
 use Rattle.zs_script.specs.Printing.{answer_fields, effect_fields}
@@ -43,8 +44,8 @@ abbrev pub told : List ℕ → List (List ℕ)
 told output = filter is_telling (lines output)
 
 -- the publication that an event is at its moment, if it is one
-abbrev pub published : Settings → List Entry → Event → Option Publication
-published s past e = publication_of (text_for (world_of s past) e) e
+abbrev pub published : List Entry → Event → Option Publication
+published past e = publication_of (named_text past e) e
 
 -- one line for each live subscriber whose locality and key allow the publication, in ascending number
 abbrev pub hand_lines : List Entry → ℕ → Option Publication → List (List ℕ)
@@ -57,7 +58,7 @@ hand_lines past number (Some p) =
 abbrev pub Tells : Settings → List Entry → ℕ → Event → List (List ℕ) → Type 0
 Tells s past number e told_lines =
     ((refusal : Refusal) × (has_cause s past e refusal ≡ true) × (told_lines ≡ plain_line number (answer_fields (Refused refusal)) ∷ []))
-    ⊎ (((refusal : Refusal) → has_cause s past e refusal ≡ false) × (told_lines ≡ hand_lines past number (published s past e)))
+    ⊎ (((refusal : Refusal) → has_cause s past e refusal ≡ false) × (told_lines ≡ hand_lines past number (published past e)))
 
 -- the lines tell these events behind a history, one event after the other
 abbrev pub ToldAfter : Settings → List Event → List Event → List (List ℕ) → Type 0

@@ -19,7 +19,7 @@ const FIRST: &str = "sub any test/k\nput any test/k x7a656e6f68\n";
 const FIRST_TEXT: &str = "1 ok 2\n2 ok\n2 hand sub 2 put test/k x7a656e6f68 Q\n3 ok\n3 end sub 2\n";
 
 /// Scripts and what they print, with spaces for tabs and `Q` for the options of a plain put.
-const RUNS: [(&str, &str); 9] = [
+const RUNS: [(&str, &str); 14] = [
     ("", "1 ok\n"),
     (FIRST, FIRST_TEXT),
     (
@@ -53,6 +53,36 @@ const RUNS: [(&str, &str); 9] = [
     (
         "sub any **\nput remote k x01\nundeclare sub 3\n",
         "1 ok 2\n2 ok\n3 refused NotFound\n4 ok\n4 end sub 2\n",
+    ),
+    // A declared key with and without a suffix.
+    (
+        "key k\nsub any k\nput any #1 x01\nundeclare sub 2\nput any #1 x01\nsub any #1:/*\nput any #1:/b x\nput any #1:// x\n\
+         sub any #1:\nput any #1 x\n",
+        "1 ok 1\n2 ok 2\n3 ok\n3 hand sub 2 put k x01 Q\n4 ok\n4 end sub 2\n5 ok\n6 ok 3\n7 ok\n7 hand sub 3 put k/b x Q\n\
+         8 refused BadKeyExpr\n9 ok 4\n10 ok\n10 hand sub 4 put k x Q\n11 ok\n11 end sub 3\n11 end sub 4\n",
+    ),
+    // A key that is declared twice ends where it was given back twice, and its number is not drawn again.
+    (
+        "key k\nkey k\nsub any k\nundeclare key #1\nput any #1 x01\nundeclare key #1\nput any #1 x01\nundeclare key k\nkey k\n",
+        "1 ok 1\n2 ok 1\n3 ok 2\n4 ok\n5 ok\n5 hand sub 2 put k x01 Q\n6 ok\n7 refused NotFound\n8 refused NotDeclared\n\
+         9 ok 2\n10 ok\n10 end sub 2\n",
+    ),
+    // What can't be given back: a text, a number with a suffix, one that is not held, and keys that are none.
+    (
+        "key a\nundeclare key #1:/b\nundeclare key #2:/b\nundeclare key #1://\nundeclare key a//b\nkey #1:/b\nkey #3\nkey a//b\n\
+         undeclare key #2\nkey #2\n",
+        "1 ok 1\n2 refused NotDeclared\n3 refused NotFound\n4 refused BadKeyExpr\n5 refused BadKeyExpr\n6 ok 2\n\
+         7 refused NotFound\n8 refused BadKeyExpr\n9 ok\n10 refused NotFound\n11 ok\n",
+    ),
+    // Behind a close.
+    (
+        "sub any k\nclose\nput any k x01\nundeclare sub 2\nnet push s0:k put x01\nput any a//b x01\n",
+        "1 ok 2\n2 ok\n2 end sub 2\n3 refused SessionClosedError\n4 ok\n5 refused Ignored\n\
+         6 refused SessionClosedError\n7 ok\n",
+    ),
+    (
+        "key k\nclose\nundeclare key #1\nkey k\nput any #1 x\nclose",
+        "1 ok 1\n2 ok\n3 refused SessionClosedError\n4 refused SessionClosedError\n5 refused SessionClosedError\n6 ok\n7 ok\n",
     ),
 ];
 
@@ -140,6 +170,28 @@ fn last_number_is_drawn_once(rt: HostRuntime) -> Result<(), Fail> {
 }
 
 #[test]
+fn last_key_number_is_drawn_once(rt: HostRuntime) -> Result<(), Fail> {
+    let settings = Settings {
+        key_start: 65534,
+        ..Settings::default()
+    };
+    let mut sink = sink(rt.alloc(), 4096, 0)?;
+    let script = "key a\nkey b\nkey a\n";
+    drive(
+        rt.alloc(),
+        &mut source(rt.alloc(), script, 4096, 0)?,
+        &mut sink,
+        &settings,
+    )?;
+    let wanted = spelled(
+        rt.alloc(),
+        "1 ok 65534\n2 refused IdsExhausted\n3 ok 65534\n4 ok\n",
+    )?;
+    assert_eq!(rt; sink.bytes(), wanted.as_slice());
+    Ok(())
+}
+
+#[test]
 fn preview_is_the_step_to_come(rt: HostRuntime) -> Result<(), Fail> {
     let mut state = SessionState::new(rt.alloc(), &Settings::default())?;
     let mut reader = LineReader::new(rt.alloc(), 100, 100);
@@ -192,7 +244,7 @@ fn each_failing_write_is_a_write_fault(rt: HostRuntime) -> Result<(), Fail> {
 }
 
 /// Scripts that no run gets through: the settings' line length and reads, what stops it, and what is printed before.
-const STOPS: [(&str, u32, u64, DriveError, &str); 8] = [
+const STOPS: [(&str, u32, u64, DriveError, &str); 7] = [
     (
         "sub any k\nput any k x01\nputt any k x\n",
         100,
@@ -207,8 +259,7 @@ const STOPS: [(&str, u32, u64, DriveError, &str); 8] = [
         DriveError::BadLine(2),
         "1 ok 2\n",
     ),
-    ("sub any #1\n", 100, 9, DriveError::BadLine(1), ""),
-    ("sub any #1:x\n", 100, 9, DriveError::BadLine(1), ""),
+    ("close now\n", 100, 9, DriveError::BadLine(1), ""),
     ("net push s1:k put x\n", 100, 9, DriveError::BadLine(1), ""),
     ("undeclare sub 02\n", 100, 9, DriveError::BadLine(1), ""),
     (

@@ -1,32 +1,57 @@
-ghost use Rattle.std.specs.Prelude.{◌≡◌, false, Some, IfOk};
-ghost use Rattle.zs_core.specs.Keys.{key_of, is_bad};
-ghost use Rattle.zs_keys.specs.Key.{undeclared};
+ghost use Rattle.std.specs.Prelude.{◌≡◌, ◌++◌, None, Some, IfOk, option_map};
+ghost use Rattle.zs_core.specs.Keys.{key_of, resolved};
+ghost use Rattle.zs_core.specs.DeclaredKeys.{key_at};
 
 use super::SessionState;
+use crate::declared_key::NumberedKey;
 use crate::event::KeyArg;
+use crate::turn::Refusal;
 use std::alloc::{AllocError, Global};
-use zs_keys::KeyExpr;
+use zs_keys::{KeyError, KeyExpr};
 
 impl SessionState {
-    /// The text that a key stands for.
-    pub(super) fn text_of<'a>(&self, key: &'a KeyArg) -> &'a str
-        ensures { key_of self.now key.now ≡ Some result.now }
+    /// The key that an application's argument stands for, or why it is refused.
+    pub(super) fn resolve<'a>(
+        &'a self,
+        key: &'a KeyArg,
+    ) -> Result<Result<KeyExpr<'a>, Refusal>, AllocError>
+        ensures { IfOk result (λ found. found ≡ resolved Refusal.NotFound (key_of self.now key.now)) }
     {
         match key {
-            KeyArg::Text(text) => text.as_str(),
+            KeyArg::Text(text) => Ok(canonical(text.as_str())),
+            KeyArg::Number { number, suffix } => {
+                let Some(known) = key_at(*number, &self.own) else {
+                    return Ok(Err(Refusal::NotFound));
+                };
+                with_suffix(self.alloc, known, suffix.as_str())
+            }
         }
     }
 }
 
-/// A canonical text as a key of its own memory.
-pub(super) fn own_key(alloc: Global, text: &str) -> Result<KeyExpr<'static>, AllocError>
-    requires { is_bad (Some text.now) ≡ false }
-    ensures { IfOk result (λ key. key ≡ undeclared text.now) }
+/// A text as a key.
+pub(super) fn canonical(text: &str) -> Result<KeyExpr<'_>, Refusal>
+    ensures { result ≡ resolved Refusal.NotFound (Some text.now) }
 {
-    let Ok(key) = KeyExpr::new(text) else {
-        unreachable!();
-    };
-    own(alloc, key)
+    match KeyExpr::new(text) {
+        Ok(key) => Ok(key),
+        Err(_) => Err(Refusal::BadKeyExpr),
+    }
+}
+
+/// A key with a text behind it.
+fn with_suffix<'a>(
+    alloc: Global,
+    key: &'a KeyExpr<'static>,
+    suffix: &str,
+) -> Result<Result<KeyExpr<'a>, Refusal>, AllocError>
+    ensures { IfOk result (λ found. found ≡ resolved Refusal.NotFound (Some (key.now.text ++ suffix.now))) }
+{
+    match key.with_suffix(alloc, suffix) {
+        Ok(key) => Ok(Ok(key.without_declaration())),
+        Err(KeyError::NoMemory) => Err(AllocError),
+        Err(_) => Ok(Err(Refusal::BadKeyExpr)),
+    }
 }
 
 /// A key in memory of its own.
@@ -37,4 +62,16 @@ pub(super) fn own(alloc: Global, key: KeyExpr<'_>) -> Result<KeyExpr<'static>, A
         Ok(owned) => Ok(owned),
         Err(_) => Err(AllocError),
     }
+}
+
+/// The key that a number stands for.
+fn key_at(number: u16, rows: &[NumberedKey]) -> Option<&KeyExpr<'static>>
+    ensures { option_map (λ key. key.now) result ≡ key_at number rows.now }
+{
+    for row in rows {
+        if row.number == number {
+            return Some(&row.key);
+        }
+    }
+    None
 }

@@ -1,7 +1,7 @@
 ghost use Rattle.std.specs.Prelude.{◌≡◌, Some, None, true, false, IfOk, encode_utf8_all};
 ghost use Rattle.zs_core.specs.Turn.{answered};
 ghost use Rattle.zs_core.specs.Keys.{key_of};
-ghost use Rattle.zs_core.specs.Turns.{publication_cause, put_of, hands_for};
+ghost use Rattle.zs_core.specs.Turns.{key_cause, put_of, hands_for};
 ghost use Rattle.zs_core.specs.Publications.{has_session, has_network, reaches, put_sample, hands};
 ghost use Rattle.zs_keys.specs.Key.{undeclared};
 
@@ -27,11 +27,12 @@ impl SessionState {
         qos: QoSType,
         reliable: bool,
     ) -> Result<Turn, AllocError>
-        ensures { IfOk result (λ turn. turn ≡ answered (publication_cause (key_of self.now key.now)) None
+        ensures { IfOk result (λ turn. turn ≡ answered (key_cause Refusal.NotFound (key_of self.now key.now) None) None
             (hands_for self.now (put_of true destination (key_of self.now key.now) payload.now encoding.now qos reliable))) }
     {
-        let Ok(key) = KeyExpr::new(self.text_of(key)) else {
-            return Ok(Turn::refused(self.alloc, Refusal::BadKeyExpr));
+        let key = match self.resolve(key)? {
+            Ok(key) => key,
+            Err(refusal) => return Ok(Turn::refused(self.alloc, refusal)),
         };
         let sample = sample_of_put(self.alloc, key, payload, encoding, qos, reliable)?;
         Ok(Turn::of(hand_over(self.alloc, true, destination, &sample, &self.subs)?))
@@ -45,7 +46,7 @@ impl SessionState {
         qos: QoSType,
         reliable: bool,
     ) -> Result<Turn, AllocError>
-        ensures { IfOk result (λ turn. turn ≡ answered (publication_cause (Some (encode_utf8_all key.now))) None
+        ensures { IfOk result (λ turn. turn ≡ answered (key_cause Refusal.UnknownScope (Some (encode_utf8_all key.now)) None) None
             (hands_for self.now (put_of false Locality.Any (Some (encode_utf8_all key.now)) payload.now encoding.now qos reliable))) }
     {
         let Ok(key) = KeyExpr::new(key.as_str()) else {

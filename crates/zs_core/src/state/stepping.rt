@@ -20,7 +20,10 @@ impl SessionState {
             settings: *settings,
             closed: false,
             next_entity: settings.entity_start + 1,
+            next_key: settings.key_start,
             subs: Vec::new(alloc),
+            own: Vec::new(alloc),
+            holders: Vec::new(alloc),
         })
     }
 
@@ -31,6 +34,7 @@ impl SessionState {
         self.turn_for(event)
     }
 
+    #[tactic(auto, using(crate::proofs::Stepping::steps_closed, crate::proofs::Stepping::steps_refused, crate::proofs::Stepping::steps_on))]
     /// Takes one event: gives its turn, and changes the session as the event says. What takes memory comes
     /// first, so at an `Err` the session is as it was.
     pub fn step(&mut self, event: &Event) -> Result<Turn, AllocError>

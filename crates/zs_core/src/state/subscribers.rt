@@ -5,25 +5,24 @@ ghost use Rattle.zs_core.specs.Subscribers.{is_sub, sub_ends};
 ghost use Rattle.zs_core.specs.After.{after};
 
 use super::SessionState;
-use super::keys::own_key;
+use super::keys::own;
 use crate::event::{EntityKind, Event, KeyArg};
 use crate::subscriber::SubRow;
 use crate::turn::{Effect, Effects, Kind, Refusal, Turn};
 use std::alloc::{AllocError, Global};
-use zs_keys::KeyExpr;
 use zs_sample::Locality;
 
 impl SessionState {
-    pub(super) fn preview_sub(&self, key: &KeyArg) -> Turn
-        ensures { result ≡ answered (sub_cause self.now key.now) (Some self.now.counters.entity) [] }
+    pub(super) fn preview_sub(&self, key: &KeyArg) -> Result<Turn, AllocError>
+        ensures { IfOk result (λ turn. turn ≡ answered (sub_cause self.now key.now) (Some self.now.counters.entity) []) }
     {
-        if KeyExpr::new(self.text_of(key)).is_err() {
-            return Turn::refused(self.alloc, Refusal::BadKeyExpr);
+        if let Err(refusal) = self.resolve(key)? {
+            return Ok(Turn::refused(self.alloc, refusal));
         }
         if u32::MAX - self.next_entity < 1 {
-            return Turn::refused(self.alloc, Refusal::IdsExhausted);
+            return Ok(Turn::refused(self.alloc, Refusal::IdsExhausted));
         }
-        Turn::quiet(self.alloc, Some(self.next_entity))
+        Ok(Turn::quiet(self.alloc, Some(self.next_entity)))
     }
 
     pub(super) fn change_sub(&mut self, origin: Locality, key: &KeyArg) -> Result<(), AllocError>
@@ -31,11 +30,13 @@ impl SessionState {
         ensures ok { OnOk result (self.new ≡ after self.old (Event.Sub origin key.now)) }
         ensures err { OnErr result (self.new ≡ self.old) }
     {
-        let text = self.text_of(key);
+        let Ok(key) = self.resolve(key)? else {
+            unreachable!();
+        };
         let row = SubRow {
             id: self.next_entity,
             origin,
-            key: own_key(self.alloc, text)?,
+            key: own(self.alloc, key)?,
         };
         self.subs.push(row)?;
         self.next_entity += 1;
@@ -74,6 +75,8 @@ impl SessionState {
     {
         self.closed = true;
         self.subs.clear();
+        self.own.clear();
+        self.holders.clear();
     }
 }
 
