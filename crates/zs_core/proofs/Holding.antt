@@ -6,19 +6,23 @@ use Rattle.std.proofs.lemmas.Bool.{eqb-true}
 use Rattle.std.proofs.lemmas.Bool.Decides.{nat_tests}
 use Rattle.zs_keys.specs.Key.{Key as a_key, undeclared}
 use Rattle.zs_core.specs.declared.event.Event.{Event}
-use Rattle.zs_core.specs.declared.event.Event.TheVariants.{Key, UndeclareKey, Sub, Put, Close}
+use Rattle.zs_core.specs.declared.event.Event.TheVariants.{Key, UndeclareKey, Sub, Put, NetKeyExpr, NetPut, Close}
 use Rattle.zs_core.specs.declared.event.KeyArg.{KeyArg}
 use Rattle.zs_core.specs.declared.event.KeyArg.TheVariants.{Text, Number}
 use Rattle.zs_core.specs.declared.settings.Settings.{Settings}
-use Rattle.zs_core.specs.declared.turn.Refusal.TheVariants.{NotFound}
+use Rattle.zs_core.specs.declared.turn.Refusal.TheVariants.{NotFound, UnknownScope}
 use Rattle.zs_core.specs.declared.declared_key.NumberedKey.{NumberedKey}
 use Rattle.zs_core.specs.declared.declared_key.KeyHolders.{KeyHolders}
-use Rattle.zs_core.specs.Keys.{key_of, suffixed}
-use Rattle.zs_core.specs.DeclaredKeys.{key_at, number_at, placed, all_placed, without, holders_of, has_holder, one_more, one_less, raised, is_last, lowered, draws_key, own_new, own_left, holders_after}
-use Rattle.zs_core.specs.Turns.{open_cause, key_number, number_for, text_for}
-use Rattle.zs_core.specs.Past.{Entry, is_close, is_closed, own, holders, next_key, world_of, past_of}
-use Rattle.zs_core.specs.Held.{gives, takes, given, taken, is_held, first_of, drawn_text, held_text, key_text, named_text}
-use Rattle.zs_core.specs.Causes.{names_no_key}
+use Rattle.zs_wire.specs.declared.wire_expr.Mapping.{Mapping}
+use Rattle.zs_wire.specs.declared.wire_expr.Mapping.TheVariants.{Sender, Receiver}
+use Rattle.zs_wire.specs.declared.wire_expr.WireExpr.{WireExpr}
+use Rattle.zs_core.specs.World.{World}
+use Rattle.zs_core.specs.Keys.{key_of, suffixed, numbers_for, wire_of}
+use Rattle.zs_core.specs.DeclaredKeys.{key_at, number_at, placed, all_placed, without, holders_of, has_holder, one_more, one_less, raised, is_last, lowered, draws_key, own_new, own_left, holders_after, told_after}
+use Rattle.zs_core.specs.Turns.{refused_if, key_cause, open_cause, key_number, number_for, text_for, tell_key_cause}
+use Rattle.zs_core.specs.Past.{Entry, is_close, is_closed, own, holders, told, next_key, world_of, entry_for, past_of}
+use Rattle.zs_core.specs.Held.{gives, takes, given, taken, is_held, first_of, drawn_text, held_text, told_text, mapped_text, key_text, wire_text, named_text}
+use Rattle.zs_core.specs.Causes.{names_no_key, has_unknown_scope}
 use Rattle.zs_core.proofs.Histories.{along, known_text}
 
 -- what an accepted event says of the declared keys: a declaration is answered the number of its text, or the next one,
@@ -399,15 +403,20 @@ known_held s past n d = by_closed (is_closed past) refl
     by_closed true shut = rw (own_closed s past d shut, shut) refl
     by_closed false opened = ap (option_map (λ (key : a_key). key.text)) refl ∙ by_key (key_at n (own past)) refl opened
 
+-- a known key with a suffix
+suffixed_is : (suffix : List ℕ) (key : Option a_key) (text : Option (List ℕ)) → option_map (λ (k : a_key). k.text) key ≡ text
+    → option_map (λ (t : List ℕ). t ++ encode_utf8_all suffix) text ≡ suffixed suffix key
+suffixed_is suffix key text is = ap (option_map (λ (t : List ℕ). t ++ encode_utf8_all suffix)) (sym is) ∙ go key
+  where
+    go : (o : Option a_key) → option_map (λ (t : List ℕ). t ++ encode_utf8_all suffix) (option_map (λ (k : a_key). k.text) o) ≡ suffixed suffix o
+    go None = refl
+    go (Some key) = refl
+
 -- the text of a key is told by the events alone
 pub key_text_is : (s : Settings) (past : List Entry) (key : KeyArg) → AreDeclared s past → key_text past key ≡ key_of (world_of s past) key
 key_text_is s past (Text text) d = refl
 key_text_is s past (Number n suffix) d =
-    ap (option_map (λ (text : List ℕ). text ++ encode_utf8_all suffix)) (sym (known_held s past n d)) ∙ go (key_at n (own past))
-  where
-    go : (o : Option a_key) → option_map (λ (text : List ℕ). text ++ encode_utf8_all suffix) (option_map (λ (key : a_key). key.text) o) ≡ suffixed suffix o
-    go None = refl
-    go (Some key) = refl
+    suffixed_is suffix (key_at n (own past)) (held_text n past) (known_held s past n d)
 
 -- in an open session, a number that is not held stands for no text
 pub names_no_key_is : (s : Settings) (past : List Entry) (key : KeyArg) → AreDeclared s past → is_closed past ≡ false → names_no_key past key ≡ is_none (key_of (world_of s past) key)
@@ -418,12 +427,71 @@ names_no_key_is s past (Number n suffix) d o = ap not (sym (held_by s past n d o
     go None = refl
     go (Some key) = refl
 
-pub texts_are_named : (s : Settings) (past : List Entry) (e : Event) → AreDeclared s past → text_for (world_of s past) e ≡ named_text past e
-texts_are_named s past (Key key) d = sym (key_text_is s past key d)
-texts_are_named s past (UndeclareKey key) d = sym (key_text_is s past key d)
-texts_are_named s past (Sub origin key) d = sym (key_text_is s past key d)
-texts_are_named s past (Put destination key payload encoding qos reliable) d = sym (key_text_is s past key d)
-texts_are_named s past e d = refl
+-- the table of told keys is told by the events alone
+abbrev pub IsTold : List Entry → Type 0
+IsTold past = (n : ℕ) → option_map (λ (key : a_key). key.text) (key_at n (told past)) ≡ told_text n past
+
+told_step : (n m : ℕ) (text : Option (List ℕ)) (rows : List NumberedKey) (wire : WireExpr) (was : Option (List ℕ)) → is_some text ≡ true
+    → option_map (λ (key : a_key). key.text) (key_at n rows) ≡ was
+    → option_map (λ (key : a_key). key.text) (key_at n (told_after (NetKeyExpr m wire) text rows)) ≡ (if m == n then text else was)
+told_step n m None rows wire was known ih = cc
+told_step n m (Some text) rows wire was known ih =
+    ap (option_map (λ (key : a_key). key.text)) (key_at-placed n (record { number = m; key = undeclared text }) rows) ∙ go (m == n)
+  where
+    go : (b : Bool) → option_map (λ (key : a_key). key.text) (if b then Some (undeclared text) else key_at n rows) ≡ (if b then Some text else was)
+    go true = refl
+    go false = ih
+
+pub known_told : (s : Settings) (h : List Event) → IsTold (past_of s h)
+known_told s h = along s IsTold (λ n. refl) step h
+  where
+    known : (w : World) (m : ℕ) (wire : WireExpr) → tell_key_cause w m wire ≡ None → is_some (wire_of w wire) ≡ true
+    known w m wire c = go (m == 0) c
+      where
+        go : (b : Bool) → refused_if b UnknownScope (key_cause UnknownScope (wire_of w wire) None) ≡ None → is_some (wire_of w wire) ≡ true
+        go true c = cc
+        go false c = known_text UnknownScope (wire_of w wire) None c
+
+    step : (past : List Entry) (e : Event) → is_closed past ≡ false → open_cause (world_of s past) e ≡ None → IsTold past → IsTold (entry_for (world_of s past) e ∷ past)
+    step past (NetKeyExpr m wire) o c ih n = told_step n m (wire_of (world_of s past) wire) (told past) wire (told_text n past) (known (world_of s past) m wire c) (ih n)
+    step past e o c ih n = ih n
+
+mapped_is : (s : Settings) (past : List Entry) (mapping : Mapping) (n : ℕ) → AreDeclared s past → IsTold past
+    → option_map (λ (k : a_key). k.text) (key_at n (numbers_for mapping (world_of s past))) ≡ mapped_text mapping n past
+mapped_is s past Sender n d t = t n
+mapped_is s past Receiver n d t = known_held s past n d
+
+-- the text of a wire expression is told by the events alone
+pub wire_text_is : (s : Settings) (past : List Entry) (wire : WireExpr) → AreDeclared s past → IsTold past → wire_text past wire ≡ wire_of (world_of s past) wire
+wire_text_is s past wire d t = go (wire.scope == 0)
+  where
+    go : (b : Bool) → (if b then Some (encode_utf8_all wire.suffix) else option_map (λ (text : List ℕ). text ++ encode_utf8_all wire.suffix) (mapped_text wire.mapping wire.scope past))
+        ≡ (if b then Some (encode_utf8_all wire.suffix) else suffixed wire.suffix (key_at wire.scope (numbers_for wire.mapping (world_of s past))))
+    go true = refl
+    go false = suffixed_is wire.suffix (key_at wire.scope (numbers_for wire.mapping (world_of s past))) (mapped_text wire.mapping wire.scope past) (mapped_is s past wire.mapping wire.scope d t)
+
+-- a wire expression with an unknown number stands for no text
+pub has_unknown_scope_is : (s : Settings) (past : List Entry) (wire : WireExpr) → AreDeclared s past → IsTold past
+    → has_unknown_scope past wire ≡ is_none (wire_of (world_of s past) wire)
+has_unknown_scope_is s past wire d t = ap (λ (o : Option (List ℕ)). not (wire.scope == 0) && is_none o) (sym (mapped_is s past wire.mapping wire.scope d t)) ∙ go (wire.scope == 0)
+  where
+    none : (o : Option a_key) → is_none (option_map (λ (k : a_key). k.text) o) ≡ is_none (suffixed wire.suffix o)
+    none None = refl
+    none (Some key) = refl
+
+    go : (b : Bool) → (not b && is_none (option_map (λ (k : a_key). k.text) (key_at wire.scope (numbers_for wire.mapping (world_of s past)))))
+        ≡ is_none (if b then Some (encode_utf8_all wire.suffix) else suffixed wire.suffix (key_at wire.scope (numbers_for wire.mapping (world_of s past))))
+    go true = refl
+    go false = none (key_at wire.scope (numbers_for wire.mapping (world_of s past)))
+
+pub texts_are_named : (s : Settings) (past : List Entry) (e : Event) → AreDeclared s past → IsTold past → text_for (world_of s past) e ≡ named_text past e
+texts_are_named s past (Key key) d t = sym (key_text_is s past key d)
+texts_are_named s past (UndeclareKey key) d t = sym (key_text_is s past key d)
+texts_are_named s past (Sub origin key) d t = sym (key_text_is s past key d)
+texts_are_named s past (Put destination key payload encoding qos reliable) d t = sym (key_text_is s past key d)
+texts_are_named s past (NetKeyExpr number wire) d t = sym (wire_text_is s past wire d t)
+texts_are_named s past (NetPut wire payload encoding qos reliable) d t = sym (wire_text_is s past wire d t)
+texts_are_named s past e d t = refl
 
 -- a number that a declaration is answered is held, or new
 pub answers_new : (s : Settings) (past : List Entry) (n : ℕ) (text : Option (List ℕ)) → AreDeclared s past → is_closed past ≡ false

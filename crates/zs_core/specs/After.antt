@@ -1,8 +1,8 @@
 use Rattle.std.specs.Prelude.{true, ◌+◌, [], if◌then◌else◌}
 use Rattle.zs_core.specs.declared.event.Event.{Event}
-use Rattle.zs_core.specs.declared.event.Event.TheVariants.{Key, UndeclareKey, Sub, Undeclare, Close}
+use Rattle.zs_core.specs.declared.event.Event.TheVariants.{Key, UndeclareKey, Sub, Undeclare, NetKeyExpr, Close}
 use Rattle.zs_core.specs.World.{World}
-use Rattle.zs_core.specs.DeclaredKeys.{draws_key, own_new, own_left, all_placed, holders_after}
+use Rattle.zs_core.specs.DeclaredKeys.{draws_key, own_new, own_left, all_placed, holders_after, told_after}
 use Rattle.zs_core.specs.Subscribers.{sub_row, subs_left}
 use Rattle.zs_core.specs.Turns.{added, number_for, text_for}
 
@@ -30,6 +30,9 @@ after w (Sub origin key) = record w {
   };
 }
 after w (Undeclare kind id) = record w { entities = record w.entities { subs = subs_left (Undeclare kind id) w.entities.subs } }
+after w (NetKeyExpr number wire) = record w {
+  keys = record w.keys { told = told_after (NetKeyExpr number wire) (text_for w (NetKeyExpr number wire)) w.keys.told };
+}
 after w Close = record w {
   closed = true;
   entities = record w.entities { subs = [] };

@@ -3,7 +3,7 @@ use Rattle.std.specs.List.{list_any}
 use Rattle.std.specs.Str.{bytes_eq}
 use Rattle.zs_keys.specs.Key.{Key, undeclared}
 use Rattle.zs_core.specs.declared.event.Event.{Event}
-use Rattle.zs_core.specs.declared.event.Event.TheVariants.{Key as key_event, UndeclareKey, Close}
+use Rattle.zs_core.specs.declared.event.Event.TheVariants.{Key as key_event, UndeclareKey, NetKeyExpr, Close}
 use Rattle.zs_core.specs.declared.event.KeyArg.TheVariants.{Number}
 use Rattle.zs_core.specs.declared.declared_key.NumberedKey.{NumberedKey}
 use Rattle.zs_core.specs.declared.declared_key.KeyHolders.{KeyHolders}
@@ -90,3 +90,8 @@ holders_after (key_event key) (Some number) rows = raised number rows
 holders_after (UndeclareKey (Number number suffix)) answered rows = lowered number rows
 holders_after Close answered rows = []
 holders_after e answered rows = rows
+
+-- the numbers that the network told behind an event, given the text of its key
+abbrev pub told_after : Event → Option (List ℕ) → List NumberedKey → List NumberedKey
+told_after (NetKeyExpr number wire) (Some text) rows = placed (record { number = number; key = undeclared text }) rows
+told_after e text rows = rows

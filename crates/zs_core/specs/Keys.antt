@@ -1,8 +1,12 @@
-use Rattle.std.specs.Prelude.{ℕ, Bool, true, false, not, List, [], ◌++◌, Option, Some, None, option_map, Result, Ok, Err, if◌then◌else◌, encode_utf8_all}
+use Rattle.std.specs.Prelude.{ℕ, Bool, true, false, not, ◌==◌, List, [], ◌++◌, Option, Some, None, option_map, Result, Ok, Err, if◌then◌else◌, encode_utf8_all}
 use Rattle.zs_keys.specs.Key.{Key, undeclared}
 use Rattle.zs_keys.specs.Text.{is_canonical}
 use Rattle.zs_core.specs.declared.event.KeyArg.{KeyArg}
 use Rattle.zs_core.specs.declared.event.KeyArg.TheVariants.{Text, Number}
+use Rattle.zs_core.specs.declared.declared_key.NumberedKey.{NumberedKey}
+use Rattle.zs_wire.specs.declared.wire_expr.Mapping.{Mapping}
+use Rattle.zs_wire.specs.declared.wire_expr.Mapping.TheVariants.{Sender, Receiver}
+use Rattle.zs_wire.specs.declared.wire_expr.WireExpr.{WireExpr}
 use Rattle.zs_core.specs.declared.turn.Refusal.{Refusal}
 use Rattle.zs_core.specs.declared.turn.Refusal.TheVariants.{BadKeyExpr}
 use Rattle.zs_core.specs.World.{World}
@@ -16,6 +20,17 @@ suffixed suffix key = option_map (λ k. k.text ++ encode_utf8_all suffix) key
 abbrev pub key_of : World → KeyArg → Option (List ℕ)
 key_of w (Text text) = Some (encode_utf8_all text)
 key_of w (Number number suffix) = suffixed suffix (key_at number w.keys.own)
+
+-- the numbers of the side that a wire expression's mapping names: the network's, or this session's
+abbrev pub numbers_for : Mapping → World → List NumberedKey
+numbers_for Sender w = w.keys.told
+numbers_for Receiver w = w.keys.own
+
+-- the text that a wire expression stands for, if it stands for one: number 0 is no number
+abbrev pub wire_of : World → WireExpr → Option (List ℕ)
+wire_of w wire =
+    if wire.scope == 0 then Some (encode_utf8_all wire.suffix)
+    else suffixed wire.suffix (key_at wire.scope (numbers_for wire.mapping w))
 
 -- a key that stands for a text which is no canonical key expression
 abbrev pub is_bad : Option (List ℕ) → Bool

@@ -8,7 +8,7 @@ use Rattle.zs_core.specs.declared.subscriber.SubRow.{SubRow}
 use Rattle.zs_core.specs.declared.declared_key.NumberedKey.{NumberedKey}
 use Rattle.zs_core.specs.declared.declared_key.KeyHolders.{KeyHolders}
 use Rattle.zs_core.specs.World.{World}
-use Rattle.zs_core.specs.DeclaredKeys.{draws_key, own_new, own_left, all_placed, holders_after}
+use Rattle.zs_core.specs.DeclaredKeys.{draws_key, own_new, own_left, all_placed, holders_after, told_after}
 use Rattle.zs_core.specs.Subscribers.{sub_row, subs_left}
 use Rattle.zs_core.specs.Turns.{cause, number_for, text_for, added}
 
@@ -52,6 +52,11 @@ abbrev pub own : List Entry → List NumberedKey
 own [] = []
 own (x ∷ past) = all_placed (own_new x.event x.number x.text (own past)) (own_left x.event (holders past) (own past))
 
+-- the numbers that the network told, each with its last key
+abbrev pub told : List Entry → List NumberedKey
+told [] = []
+told (x ∷ past) = told_after x.event x.text (told past)
+
 -- the next key number: the first one of the settings, one more for each event that drew one
 abbrev pub next_key : Settings → List Entry → ℕ
 next_key s [] = s.key_start
@@ -64,7 +69,7 @@ world_of s past = record {
   closed = is_closed past;
   counters = record { entity = next_entity s past; key = next_key s past };
   entities = record { subs = subs past };
-  keys = record { own = own past; holders = holders past };
+  keys = record { own = own past; holders = holders past; told = told past };
 }
 
 -- an event with what is resolved at its moment

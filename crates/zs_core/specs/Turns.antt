@@ -1,13 +1,14 @@
-use Rattle.std.specs.Prelude.{ℕ, Bool, true, false, not, ◌&&◌, is_none, unwrap_or, nat_lt, ◌-◌, List, [], ◌∷◌, ◌++◌, Option, Some, None, if◌then◌else◌, encode_utf8_all}
+use Rattle.std.specs.Prelude.{ℕ, Bool, true, false, not, ◌&&◌, is_none, unwrap_or, nat_lt, ◌-◌, List, [], ◌∷◌, ◌++◌, Option, Some, None, ◌==◌, if◌then◌else◌}
 use Rattle.zs_sample.specs.declared.locality.Locality.{Locality}
 use Rattle.zs_sample.specs.declared.locality.Locality.TheVariants.{Any}
 use Rattle.zs_sample.specs.declared.quality.QoSType.{QoSType}
 use Rattle.zs_core.specs.declared.event.Event.{Event}
-use Rattle.zs_core.specs.declared.event.Event.TheVariants.{Key, UndeclareKey, Sub, Undeclare, Put, NetPut, Close}
+use Rattle.zs_core.specs.declared.event.Event.TheVariants.{Key, UndeclareKey, Sub, Undeclare, Put, NetKeyExpr, NetUndeclareKeyExpr, NetPut, NetClose, Close}
 use Rattle.zs_core.specs.declared.event.EntityKind.TheVariants.{Sub as sub_kind}
 use Rattle.zs_core.specs.declared.turn.Effect.TheVariants.{End}
 use Rattle.zs_core.specs.declared.turn.Kind.TheVariants.{Subscriber}
 use Rattle.zs_core.specs.declared.event.KeyArg.{KeyArg}
+use Rattle.zs_wire.specs.declared.wire_expr.WireExpr.{WireExpr}
 use Rattle.zs_core.specs.declared.turn.Effect.{Effect}
 use Rattle.zs_core.specs.declared.turn.Refusal.{Refusal}
 use Rattle.zs_core.specs.declared.turn.Refusal.TheVariants.{SessionClosedError, NotFound, UnknownScope, BadKeyExpr, NotDeclared, IdsExhausted, Ignored}
@@ -15,7 +16,7 @@ use Rattle.zs_core.specs.declared.turn.Turn.{Turn}
 use Rattle.zs_core.specs.Settings.{last_entity, last_key}
 use Rattle.zs_core.specs.Turn.{answered}
 use Rattle.zs_core.specs.World.{World}
-use Rattle.zs_core.specs.Keys.{key_of, is_bad, is_whole}
+use Rattle.zs_core.specs.Keys.{key_of, wire_of, is_bad, is_whole}
 use Rattle.zs_core.specs.DeclaredKeys.{number_at, draws_key}
 use Rattle.zs_core.specs.Subscribers.{is_sub, sub_ends}
 use Rattle.zs_core.specs.Publications.{Publication, put_sample, hands}
@@ -32,7 +33,10 @@ is_spent last next = nat_lt (last - next) 1
 -- what a closed session refuses: whatever declares or publishes, and whatever comes in
 abbrev pub closed_cause : Event → Option Refusal
 closed_cause (Undeclare kind id) = None
-closed_cause (NetPut key payload encoding qos reliable) = Some Ignored
+closed_cause (NetKeyExpr number wire) = Some Ignored
+closed_cause (NetUndeclareKeyExpr number) = Some Ignored
+closed_cause (NetPut wire payload encoding qos reliable) = Some Ignored
+closed_cause NetClose = Some Ignored
 closed_cause Close = None
 closed_cause e = Some SessionClosedError
 
@@ -57,6 +61,10 @@ sub_cause w key = key_cause NotFound (key_of w key) (refused_if (is_spent last_e
 abbrev pub undeclare_sub_cause : World → ℕ → Option Refusal
 undeclare_sub_cause w id = refused_if (not (is_sub id w.entities.subs)) NotFound None
 
+-- why what the network tells of a number is refused: number 0 stands for no key, and the key may be unknown or bad
+abbrev pub tell_key_cause : World → ℕ → WireExpr → Option Refusal
+tell_key_cause w number wire = refused_if (number == 0) UnknownScope (key_cause UnknownScope (wire_of w wire) None)
+
 -- why an open session refuses an event, the first cause in the order of `Refusal`
 abbrev pub open_cause : World → Event → Option Refusal
 open_cause w (Key key) = declare_key_cause w (key_of w key) (Key key)
@@ -64,7 +72,10 @@ open_cause w (UndeclareKey key) = undeclare_key_cause w key
 open_cause w (Sub origin key) = sub_cause w key
 open_cause w (Undeclare sub_kind id) = undeclare_sub_cause w id
 open_cause w (Put destination key payload encoding qos reliable) = key_cause NotFound (key_of w key) None
-open_cause w (NetPut key payload encoding qos reliable) = key_cause UnknownScope (Some (encode_utf8_all key)) None
+open_cause w (NetKeyExpr number wire) = tell_key_cause w number wire
+open_cause w (NetUndeclareKeyExpr number) = None
+open_cause w (NetPut wire payload encoding qos reliable) = key_cause UnknownScope (wire_of w wire) None
+open_cause w NetClose = None
 open_cause w Close = None
 
 -- why an event is refused, if it is
@@ -88,7 +99,8 @@ text_for w (Key key) = key_of w key
 text_for w (UndeclareKey key) = key_of w key
 text_for w (Sub origin key) = key_of w key
 text_for w (Put destination key payload encoding qos reliable) = key_of w key
-text_for w (NetPut key payload encoding qos reliable) = Some (encode_utf8_all key)
+text_for w (NetKeyExpr number wire) = wire_of w wire
+text_for w (NetPut wire payload encoding qos reliable) = wire_of w wire
 text_for w e = None
 
 -- a put on the text of a key, made here for a destination, or come in
@@ -100,7 +112,7 @@ put_of local destination (Some text) payload encoding qos reliable =
 -- the publication that an event is, given the text of its key
 abbrev pub publication_of : Option (List ℕ) → Event → Option Publication
 publication_of text (Put destination key payload encoding qos reliable) = put_of true destination text payload encoding qos reliable
-publication_of text (NetPut key payload encoding qos reliable) = put_of false Any text payload encoding qos reliable
+publication_of text (NetPut wire payload encoding qos reliable) = put_of false Any text payload encoding qos reliable
 publication_of text e = None
 
 -- what a publication brings about
@@ -113,8 +125,8 @@ abbrev pub effects_of : World → Event → List Effect
 effects_of w (Undeclare sub_kind id) = End Subscriber id ∷ []
 effects_of w (Put destination key payload encoding qos reliable) =
     hands_for w (put_of true destination (key_of w key) payload encoding qos reliable)
-effects_of w (NetPut key payload encoding qos reliable) =
-    hands_for w (put_of false Any (Some (encode_utf8_all key)) payload encoding qos reliable)
+effects_of w (NetPut wire payload encoding qos reliable) =
+    hands_for w (put_of false Any (wire_of w wire) payload encoding qos reliable)
 effects_of w Close = sub_ends w.entities.subs
 effects_of w e = []
 

@@ -13,10 +13,12 @@ pub record Counters : Type 0 where
 pub record Entities : Type 0 where
   pub subs : List SubRow
 
--- the keys that numbers stand for: those that this session declared, and how many hold each of them
+-- the keys that numbers stand for: those that this session declared, how many hold each of them, and those that the
+-- network told
 pub record DeclaredKeys : Type 0 where
   pub own : List NumberedKey
   pub holders : List KeyHolders
+  pub told : List NumberedKey
 
 -- all that a session is at a moment, as plain lists and counters
 pub record World : Type 0 where

@@ -1,4 +1,5 @@
 use zs_sample::{Locality, QoSType, Text, ZBytes};
+use zs_wire::WireExpr;
 
 /// The key of an event, as the application gave it.
 #[derive(Debug, Drop)]
@@ -50,15 +51,26 @@ pub enum Event {
         qos: QoSType,
         reliable: bool,
     },
+    /// The network declares what a number of its own stands for from now on.
+    NetKeyExpr {
+        number: u16,
+        wire: WireExpr,
+    },
+    /// The network gives a number back. It changes nothing: the number stands for its text until it is declared again.
+    NetUndeclareKeyExpr {
+        number: u16,
+    },
     /// A put comes in from the network, on a key that is no canonical key expression perhaps.
     NetPut {
-        key: Text,
+        wire: WireExpr,
         payload: ZBytes,
         /// The empty text is the default encoding.
         encoding: Text,
         qos: QoSType,
         reliable: bool,
     },
+    /// The network tells that the other side closed. It changes nothing.
+    NetClose,
     /// The application closes the session.
     Close,
 }

@@ -1,7 +1,7 @@
 //! Laws over the definitions: each is the contract of a function that does nothing.
 
 ghost use Rattle.zs_core.specs.Live.{TableIsLive, SubscribersAscend};
-ghost use Rattle.zs_core.specs.Held.{KeysAreHeld, TextsAreNamed, HeldTextsKeepNumbers, KeyNumbersAreNew};
+ghost use Rattle.zs_core.specs.Held.{KeysAreHeld, KeysAreTold, TextsAreNamed, HeldTextsKeepNumbers, KeyNumbersAreNew};
 ghost use Rattle.zs_core.specs.Causes.{RefusalsHaveCauses};
 
 /// After any history the table of subscribers holds those that were declared and not ended since, and no others.
@@ -23,6 +23,11 @@ pub fn refusals_have_causes()
 /// with the text of the event that drew it, and no others.
 pub fn keys_are_held()
     ensures { KeysAreHeld }
+{}
+
+/// After any history the table of told keys has each number that the network told, with the text that it told last.
+pub fn keys_are_told()
+    ensures { KeysAreTold }
 {}
 
 /// The text that an event's key stands for, by the tables, is the one that the events before it tell.

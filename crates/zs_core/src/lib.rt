@@ -5,8 +5,8 @@
 pub use declared_key::{KeyHolders, NumberedKey};
 pub use event::{EntityKind, Event, KeyArg};
 pub use laws::{
-    held_texts_keep_numbers, key_numbers_are_new, keys_are_held, refusals_have_causes,
-    subscribers_ascend, table_is_live, texts_are_named,
+    held_texts_keep_numbers, key_numbers_are_new, keys_are_held, keys_are_told,
+    refusals_have_causes, subscribers_ascend, table_is_live, texts_are_named,
 };
 pub use settings::Settings;
 pub use state::SessionState;

@@ -29,6 +29,7 @@ pub struct SessionState {
     subs: Vec<SubRow>,
     own: Vec<NumberedKey>,
     holders: Vec<KeyHolders>,
+    told: Vec<NumberedKey>,
 }
 
 impl Model for SessionState {
@@ -41,7 +42,7 @@ impl Model for SessionState {
       closed = s.closed;
       counters = record { entity = s.next_entity; key = s.next_key };
       entities = record { subs = s.subs.items };
-      keys = record { own = s.own.items; holders = s.holders.items };
+      keys = record { own = s.own.items; holders = s.holders.items; told = s.told.items };
     } };
 }
 
@@ -76,13 +77,17 @@ impl SessionState {
                 qos,
                 reliable,
             } => self.preview_put(*destination, key, payload, encoding, *qos, *reliable),
+            Event::NetKeyExpr { number, wire } => self.preview_net_key_expr(*number, wire),
+            Event::NetUndeclareKeyExpr { .. } | Event::NetClose => {
+                Ok(Turn::quiet(self.alloc, None))
+            }
             Event::NetPut {
-                key,
+                wire,
                 payload,
                 encoding,
                 qos,
                 reliable,
-            } => self.preview_net_put(key, payload, encoding, *qos, *reliable),
+            } => self.preview_net_put(wire, payload, encoding, *qos, *reliable),
             Event::Close => self.preview_close(),
         }
     }
@@ -108,7 +113,11 @@ impl SessionState {
                 self.change_undeclare_sub(*id);
                 Ok(())
             }
-            Event::Put { .. } | Event::NetPut { .. } => Ok(()),
+            Event::NetKeyExpr { number, wire } => self.change_net_key_expr(*number, wire),
+            Event::Put { .. }
+            | Event::NetUndeclareKeyExpr { .. }
+            | Event::NetPut { .. }
+            | Event::NetClose => Ok(()),
             Event::Close => {
                 self.change_close();
                 Ok(())
@@ -123,7 +132,10 @@ fn closed_turn(alloc: Global, event: &Event) -> Turn
 {
     match event {
         Event::Undeclare { .. } | Event::Close => Turn::quiet(alloc, None),
-        Event::NetPut { .. } => Turn::refused(alloc, Refusal::Ignored),
+        Event::NetKeyExpr { .. }
+        | Event::NetUndeclareKeyExpr { .. }
+        | Event::NetPut { .. }
+        | Event::NetClose => Turn::refused(alloc, Refusal::Ignored),
         Event::Key { .. } | Event::UndeclareKey { .. } | Event::Sub { .. } | Event::Put { .. } => {
             Turn::refused(alloc, Refusal::SessionClosedError)
         }

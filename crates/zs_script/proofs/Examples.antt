@@ -10,7 +10,8 @@ use Rattle.zs_sample.specs.declared.quality.Reliability.TheVariants.{Reliable}
 use Rattle.zs_sample.specs.declared.sample.SampleKind.TheVariants.{Put as put_kind}
 use Rattle.zs_sample.specs.declared.locality.Locality.TheVariants.{SessionLocal, Remote, Any}
 use Rattle.zs_core.specs.declared.event.KeyArg.TheVariants.{Text, Number}
-use Rattle.zs_core.specs.declared.event.Event.TheVariants.{Key, UndeclareKey, Sub, Undeclare, Put, NetPut, Close}
+use Rattle.zs_core.specs.declared.event.Event.TheVariants.{Key, UndeclareKey, Sub, Undeclare, Put, NetKeyExpr, NetUndeclareKeyExpr, NetPut, Close}
+use Rattle.zs_wire.specs.declared.wire_expr.Mapping.TheVariants.{Sender, Receiver}
 use Rattle.zs_core.specs.declared.event.EntityKind.TheVariants.{Sub as sub_kind}
 use Rattle.zs_core.specs.declared.turn.Answer.TheVariants.{Ok as accepted, Refused}
 use Rattle.zs_core.specs.declared.turn.Effect.TheVariants.{Hand, End}
@@ -60,9 +61,21 @@ the_last_number : event_of (codes "undeclare" ++ 9 ∷ codes "sub" ++ 9 ∷ code
 unfolding event_of chars is_utf8 hex_on_literals lib.Utf8.encode
 the_last_number = refl
 
-a_push : event_of (codes "net" ++ 9 ∷ codes "push" ++ 9 ∷ codes "s0:k" ++ 9 ∷ codes "put" ++ 9 ∷ codes "x01") ≡ Some (NetPut (codes "k") ((1 ∷ []) ∷ []) (codes "zenoh/bytes") (record { priority = 5; congestion = Drop; express = false }) true)
+a_push : event_of (codes "net" ++ 9 ∷ codes "push" ++ 9 ∷ codes "s0:k" ++ 9 ∷ codes "put" ++ 9 ∷ codes "x01") ≡ Some (NetPut (record { scope = 0; suffix = codes "k"; mapping = Sender }) ((1 ∷ []) ∷ []) (codes "zenoh/bytes") (record { priority = 5; congestion = Drop; express = false }) true)
 unfolding event_of chars is_utf8 hex_on_literals lib.Utf8.encode
 a_push = refl
+
+a_told_number : event_of (codes "net" ++ 9 ∷ codes "keyexpr" ++ 9 ∷ codes "7" ++ 9 ∷ codes "r1:/b") ≡ Some (NetKeyExpr 7 (record { scope = 1; suffix = codes "/b"; mapping = Receiver }))
+unfolding event_of chars is_utf8 hex_on_literals lib.Utf8.encode
+a_told_number = refl
+
+a_number_given_up : event_of (codes "net" ++ 9 ∷ codes "unkeyexpr" ++ 9 ∷ codes "7") ≡ Some (NetUndeclareKeyExpr 7)
+unfolding event_of chars is_utf8 hex_on_literals lib.Utf8.encode
+a_number_given_up = refl
+
+no_colon : event_of (codes "net" ++ 9 ∷ codes "keyexpr" ++ 9 ∷ codes "7" ++ 9 ∷ codes "s0") ≡ None
+unfolding event_of chars is_utf8 hex_on_literals lib.Utf8.encode
+no_colon = refl
 
 too_great : event_of (codes "undeclare" ++ 9 ∷ codes "sub" ++ 9 ∷ codes "4294967296") ≡ None
 unfolding event_of chars is_utf8 hex_on_literals lib.Utf8.encode
@@ -124,11 +137,11 @@ one_field_more : event_of (codes "sub" ++ 9 ∷ codes "any" ++ 9 ∷ codes "k" +
 unfolding event_of chars is_utf8 hex_on_literals lib.Utf8.encode
 one_field_more = refl
 
-other_scope : event_of (codes "net" ++ 9 ∷ codes "push" ++ 9 ∷ codes "s1:k" ++ 9 ∷ codes "put" ++ 9 ∷ codes "x01") ≡ None
+other_scope : event_of (codes "net" ++ 9 ∷ codes "push" ++ 9 ∷ codes "s1:k" ++ 9 ∷ codes "put" ++ 9 ∷ codes "x") ≡ Some (NetPut (record { scope = 1; suffix = codes "k"; mapping = Sender }) ([]) (codes "zenoh/bytes") (record { priority = 5; congestion = Drop; express = false }) true)
 unfolding event_of chars is_utf8 hex_on_literals lib.Utf8.encode
 other_scope = refl
 
-other_mapping : event_of (codes "net" ++ 9 ∷ codes "push" ++ 9 ∷ codes "r0:k" ++ 9 ∷ codes "put" ++ 9 ∷ codes "x01") ≡ None
+other_mapping : event_of (codes "net" ++ 9 ∷ codes "push" ++ 9 ∷ codes "r0:k" ++ 9 ∷ codes "put" ++ 9 ∷ codes "x") ≡ Some (NetPut (record { scope = 0; suffix = codes "k"; mapping = Receiver }) ([]) (codes "zenoh/bytes") (record { priority = 5; congestion = Drop; express = false }) true)
 unfolding event_of chars is_utf8 hex_on_literals lib.Utf8.encode
 other_mapping = refl
 

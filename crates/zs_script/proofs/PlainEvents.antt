@@ -1,6 +1,6 @@
 -- The events of lines without line feeds are plain.
-use Rattle.std.proofs.Common.{ℕ, zero, suc, ◌≡◌, ◌+◌, ◌<◌, ◌≤◌, ◌==◌, Bool, true, false, not, nat_lt, List, [], ◌∷◌, length, get_or, drop, Option, Some, None, IfSome, refl, subst, ap, ◌∙◌, arith, cond, codes, inl, inr, option_map, option_and_then, unwrap_or, encode_utf8_all}
-use Rattle.std.specs.List.{list_all, position_or_len, before_first, after_first, onto_first, AllByRecursion}
+use Rattle.std.proofs.Common.{ℕ, zero, suc, ◌≡◌, ◌+◌, ◌<◌, ◌≤◌, ◌==◌, Bool, true, false, not, nat_lt, List, [], ◌∷◌, length, get_or, take, drop, Option, Some, None, IfSome, refl, subst, ap, ◌∙◌, arith, cond, codes, inl, inr, option_map, option_and_then, unwrap_or, encode_utf8_all}
+use Rattle.std.specs.List.{list_all, position, position_or_len, before_first, after_first, onto_first, AllByRecursion}
 use Rattle.std.specs.Str.{IsUtf8, is_utf8, chars, bytes_eq}
 use Rattle.std.proofs.lemmas.Bool.{and_parts, and_from, cases_lt, eqb-true, ltb-true}
 use Rattle.std.proofs.lemmas.List.Splits.{slice_split_first}
@@ -8,13 +8,17 @@ use Rattle.std.proofs.lemmas.List.Sums.{passes_at_first}
 use Rattle.std.proofs.lemmas.List.{length-drop}
 use Rattle.std.proofs.Math.ListN.{drop_of_length-le}
 use Rattle.std.proofs.lemmas.Str.{IsUtf8-nil, IsUtf8-take, IsUtf8-drop, IsCharBoundary-before_ascii, IsCharBoundary-after_ascii, IsUtf8-from_is_utf8, encodes-chars}
+use Rattle.std.proofs.lemmas.List.Quantifiers.{position-Some}
+use Rattle.zs_wire.specs.declared.wire_expr.Mapping.{Mapping}
+use Rattle.zs_wire.specs.declared.wire_expr.Mapping.TheVariants.{Sender, Receiver}
+use Rattle.zs_wire.specs.declared.wire_expr.WireExpr.{WireExpr}
 use Rattle.zs_core.specs.declared.event.KeyArg.{KeyArg}
 use Rattle.zs_core.specs.declared.event.KeyArg.TheVariants.{Text, Number}
 use Rattle.zs_core.specs.declared.event.Event.{Event}
-use Rattle.zs_core.specs.declared.event.Event.TheVariants.{Key, UndeclareKey, Sub, Undeclare, Put, NetPut, Close}
+use Rattle.zs_core.specs.declared.event.Event.TheVariants.{Key, UndeclareKey, Sub, Undeclare, Put, NetKeyExpr, NetUndeclareKeyExpr, NetPut, NetClose, Close}
 use Rattle.zs_script.specs.Lines.{fields}
-use Rattle.zs_script.specs.Symbols.{number_of, u16_max, u32_max, locality_of, is_colon, numbered_of, key_of, payload_of, after_prefix, wire_of}
-use Rattle.zs_script.specs.Grammar.{default_encoding, default_qos, declare_of, close_of, sub_of, entity_kind_of, undeclare_of, put_of, push_of, net_of, event_of_fields, event_of}
+use Rattle.zs_script.specs.Symbols.{number_of, u16_max, u32_max, locality_of, is_colon, numbered_of, key_of, payload_of, after_prefix, scoped_of, scoped_in, wire_of}
+use Rattle.zs_script.specs.Grammar.{default_encoding, default_qos, declare_of, close_of, sub_of, entity_kind_of, undeclare_of, put_of, push_of, key_expr_of, unkey_expr_of, net_close_of, net_of, event_of_fields, event_of}
 use Rattle.zs_script.specs.Plain.{has_no_line_feed, is_plain, is_plain_key, is_plain_event}
 use Rattle.zs_script.specs.Laws.{EventsArePlain}
 use Rattle.zs_script.proofs.PlainTexts.{fields-plain}
@@ -140,9 +144,37 @@ key-plain field h = go (numbered_of field) (numbered-plain field h)
     go None k = chars-plain field h
     go (Some key) k = k
 
-wire-plain : (field : List ℕ) → IsText field → IfSome (wire_of field) PlainChars
+-- what stands behind an ASCII character of a text is a text
+behind-text-at : (place : ℕ) (text : List ℕ) → position is_colon text ≡ Some place → IsText text → IsText (drop (place + 1) text)
+behind-text-at place text found h =
+    let at = position-Some is_colon text place 0 found in
+    let colon : get_or text place 0 ≡ 58 = eqb-true _ _ at.1 in (
+      plain-drop (place + 1) text h.0,
+      IsUtf8-drop text (place + 1) h.1 (IsCharBoundary-after_ascii text place h.1 at.0 (omega (arith, colon))),
+    )
+
+abbrev PlainWire : WireExpr → Type 0
+PlainWire wire = PlainChars wire.suffix
+
+scoped-plain : (mapping : Mapping) (rest : List ℕ) → IsText rest → IfSome (scoped_of mapping rest) PlainWire
+scoped-plain mapping rest h = go (position is_colon rest) refl
+  where
+    go : (o : Option ℕ) → position is_colon rest ≡ o
+        → IfSome (option_and_then (λ place. option_map (λ scope. record { scope = scope; suffix = chars (drop (place + 1) rest); mapping = mapping })
+        (number_of u16_max (take place rest))) o) PlainWire
+    go None found = tt
+    go (Some place) found =
+        on-map (λ scope. record { scope = scope; suffix = chars (drop (place + 1) rest); mapping = mapping }) (λ _. Unit {0}) PlainWire
+        (λ scope _. chars-plain (drop (place + 1) rest) (behind-text-at place rest found h)) (number_of u16_max (take place rest)) (on-any _)
+
+scoped-in-plain : (mapping : Mapping) (rest : Option (List ℕ)) (other : Option WireExpr) → IfSome rest IsText → IfSome other PlainWire → IfSome (scoped_in mapping rest other) PlainWire
+scoped-in-plain mapping None other h k = k
+scoped-in-plain mapping (Some rest) other h k = scoped-plain mapping rest h
+
+wire-plain : (field : List ℕ) → IsText field → IfSome (wire_of field) PlainWire
 wire-plain field h =
-    on-map chars IsText PlainChars chars-plain (after_prefix (codes "s0:") field) (prefix-text (codes "s0:") field refl h)
+    scoped-in-plain Sender (after_prefix (codes "s") field) (scoped_in Receiver (after_prefix (codes "r") field) None) (prefix-text (codes "s") field refl h)
+    (scoped-in-plain Receiver (after_prefix (codes "r") field) None (prefix-text (codes "r") field refl h) tt)
 
 default-plain : PlainChars default_encoding
 unfolding lib.Utf8.encode
@@ -193,17 +225,39 @@ push-plain (wire ∷ []) h = tt
 push-plain (wire ∷ word ∷ []) h = tt
 push-plain (wire ∷ word ∷ bytes ∷ []) h =
     on-choice (bytes_eq word (codes "put")) PlainEvent _ None
-    (on-then (λ text. option_map (λ payload.
-    NetPut text payload default_encoding default_qos true) (payload_of bytes)) PlainChars PlainEvent
-    (λ text k. on-map (λ payload. NetPut text payload default_encoding default_qos true) (λ _. Unit {0}) PlainEvent
+    (on-then (λ key. option_map (λ payload.
+    NetPut key payload default_encoding default_qos true) (payload_of bytes)) PlainWire PlainEvent
+    (λ key k. on-map (λ payload. NetPut key payload default_encoding default_qos true) (λ _. Unit {0}) PlainEvent
     (λ payload _. and_from _ _ k default-plain) (payload_of bytes) (on-any _))
     (wire_of wire) (wire-plain wire h.0))
     tt
 push-plain (wire ∷ word ∷ bytes ∷ more ∷ rest) h = tt
 
+key-expr-plain : (rest : List (List ℕ)) → AllByRecursion IsText rest → IfSome (key_expr_of rest) PlainEvent
+key-expr-plain [] h = tt
+key-expr-plain (number ∷ []) h = tt
+key-expr-plain (number ∷ wire ∷ []) h =
+    on-then (λ n. option_map (λ key. NetKeyExpr n key) (wire_of wire)) (λ _. Unit {0}) PlainEvent
+    (λ n _. on-map (λ key. NetKeyExpr n key) PlainWire PlainEvent (λ key k. k) (wire_of wire) (wire-plain wire h.1.0))
+    (number_of u16_max number) (on-any _)
+key-expr-plain (number ∷ wire ∷ more ∷ rest) h = tt
+
+unkey-expr-plain : (rest : List (List ℕ)) → IfSome (unkey_expr_of rest) PlainEvent
+unkey-expr-plain [] = tt
+unkey-expr-plain (number ∷ []) = on-map (λ n. NetUndeclareKeyExpr n) (λ _. Unit {0}) PlainEvent (λ n _. refl) (number_of u16_max number) (on-any _)
+unkey-expr-plain (number ∷ more ∷ rest) = tt
+
+net-close-plain : (rest : List (List ℕ)) → IfSome (net_close_of rest) PlainEvent
+net-close-plain [] = refl
+net-close-plain (field ∷ rest) = tt
+
 net-plain : (rest : List (List ℕ)) → AllByRecursion IsText rest → IfSome (net_of rest) PlainEvent
 net-plain [] h = tt
-net-plain (word ∷ rest) h = on-choice (bytes_eq word (codes "push")) PlainEvent (push_of rest) None (push-plain rest h.1) tt
+net-plain (word ∷ rest) h =
+    on-choice (bytes_eq word (codes "keyexpr")) PlainEvent (key_expr_of rest) _ (key-expr-plain rest h.1)
+    (on-choice (bytes_eq word (codes "unkeyexpr")) PlainEvent (unkey_expr_of rest) _ (unkey-expr-plain rest)
+    (on-choice (bytes_eq word (codes "push")) PlainEvent (push_of rest) _ (push-plain rest h.1)
+    (on-choice (bytes_eq word (codes "close")) PlainEvent (net_close_of rest) None (net-close-plain rest) tt)))
 
 fields-event : (parts : List (List ℕ)) → AllByRecursion IsText parts → IfSome (event_of_fields parts) PlainEvent
 fields-event [] h = tt

@@ -4,11 +4,11 @@ use Rattle.std.specs.Str.{bytes_eq, is_utf8}
 use Rattle.zs_sample.specs.declared.quality.QoSType.{QoSType}
 use Rattle.zs_sample.specs.declared.quality.CongestionControl.TheVariants.{Drop}
 use Rattle.zs_core.specs.declared.event.Event.{Event}
-use Rattle.zs_core.specs.declared.event.Event.TheVariants.{Key, UndeclareKey, Sub, Undeclare, Put, NetPut, Close}
+use Rattle.zs_core.specs.declared.event.Event.TheVariants.{Key, UndeclareKey, Sub, Undeclare, Put, NetKeyExpr, NetUndeclareKeyExpr, NetPut, NetClose, Close}
 use Rattle.zs_core.specs.declared.event.EntityKind.{EntityKind}
 use Rattle.zs_core.specs.declared.event.EntityKind.TheVariants.{Sub as sub_kind}
 use Rattle.zs_script.specs.Lines.{fields}
-use Rattle.zs_script.specs.Symbols.{number_of, u32_max, locality_of, key_of, payload_of, wire_of}
+use Rattle.zs_script.specs.Symbols.{number_of, u16_max, u32_max, locality_of, key_of, payload_of, wire_of}
 
 -- what a publication has where its line says nothing of it
 abbrev pub default_encoding : List ℕ
@@ -54,15 +54,35 @@ close_of rest = None
 abbrev pub push_of : List (List ℕ) → Option Event
 push_of (wire ∷ word ∷ bytes ∷ []) =
     if bytes_eq word (codes "put") then
-    option_and_then (λ text. option_map (λ payload.
-    NetPut text payload default_encoding default_qos true) (payload_of bytes)) (wire_of wire)
+    option_and_then (λ key. option_map (λ payload.
+    NetPut key payload default_encoding default_qos true) (payload_of bytes)) (wire_of wire)
     else None
 push_of rest = None
+
+-- `keyexpr N WIRE`, behind `net`
+abbrev pub key_expr_of : List (List ℕ) → Option Event
+key_expr_of (number ∷ wire ∷ []) =
+    option_and_then (λ n. option_map (λ key. NetKeyExpr n key) (wire_of wire)) (number_of u16_max number)
+key_expr_of rest = None
+
+-- `unkeyexpr N`, behind `net`
+abbrev pub unkey_expr_of : List (List ℕ) → Option Event
+unkey_expr_of (number ∷ []) = option_map (λ n. NetUndeclareKeyExpr n) (number_of u16_max number)
+unkey_expr_of rest = None
+
+-- `close`, behind `net`
+abbrev pub net_close_of : List (List ℕ) → Option Event
+net_close_of [] = Some NetClose
+net_close_of rest = None
 
 -- `net MESSAGE`: a message that comes in
 abbrev pub net_of : List (List ℕ) → Option Event
 net_of [] = None
-net_of (word ∷ rest) = if bytes_eq word (codes "push") then push_of rest else None
+net_of (word ∷ rest) =
+    if bytes_eq word (codes "keyexpr") then key_expr_of rest else
+    if bytes_eq word (codes "unkeyexpr") then unkey_expr_of rest else
+    if bytes_eq word (codes "push") then push_of rest else
+    if bytes_eq word (codes "close") then net_close_of rest else None
 
 -- an event by the first field of its line
 abbrev pub event_of_fields : List (List ℕ) → Option Event

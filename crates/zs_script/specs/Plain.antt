@@ -4,7 +4,7 @@ use Rattle.std.specs.List.{list_all}
 use Rattle.zs_core.specs.declared.event.KeyArg.{KeyArg}
 use Rattle.zs_core.specs.declared.event.KeyArg.TheVariants.{Text, Number}
 use Rattle.zs_core.specs.declared.event.Event.{Event}
-use Rattle.zs_core.specs.declared.event.Event.TheVariants.{Key, UndeclareKey, Sub, Undeclare, Put, NetPut, Close}
+use Rattle.zs_core.specs.declared.event.Event.TheVariants.{Key, UndeclareKey, Sub, Undeclare, Put, NetKeyExpr, NetUndeclareKeyExpr, NetPut, NetClose, Close}
 use Rattle.zs_core.specs.declared.turn.Effect.{Effect}
 use Rattle.zs_core.specs.declared.turn.Effect.TheVariants.{Hand, End}
 use Rattle.zs_core.specs.declared.turn.HandOver.TheVariants.{Sample}
@@ -29,7 +29,10 @@ is_plain_event (UndeclareKey key) = is_plain_key key
 is_plain_event (Sub origin key) = is_plain_key key
 is_plain_event (Undeclare kind id) = true
 is_plain_event (Put destination key payload encoding qos reliable) = is_plain_key key && is_plain (encode_utf8_all encoding)
-is_plain_event (NetPut key payload encoding qos reliable) = is_plain (encode_utf8_all key) && is_plain (encode_utf8_all encoding)
+is_plain_event (NetKeyExpr number wire) = is_plain (encode_utf8_all wire.suffix)
+is_plain_event (NetUndeclareKeyExpr number) = true
+is_plain_event (NetPut wire payload encoding qos reliable) = is_plain (encode_utf8_all wire.suffix) && is_plain (encode_utf8_all encoding)
+is_plain_event NetClose = true
 is_plain_event Close = true
 
 -- an effect all of whose texts are such

@@ -1,12 +1,15 @@
 -- The symbols that the forms of lines are made of, each read from one field.
-use Rattle.std.specs.Prelude.{ℕ, ◌+◌, ◌*◌, ◌-◌, Bool, false, nat_le, ◌==◌, ◌&&◌, List, [], ◌∷◌, Option, Some, None, option_map, option_and_then, unwrap_or, codes, if◌then◌else◌}
-use Rattle.std.specs.List.{before_first, after_first}
+use Rattle.std.specs.Prelude.{ℕ, ◌+◌, ◌*◌, ◌-◌, Bool, false, nat_le, ◌==◌, ◌&&◌, List, [], ◌∷◌, take, drop, Option, Some, None, option_map, option_and_then, unwrap_or, codes, if◌then◌else◌}
+use Rattle.std.specs.List.{position, before_first, after_first}
 use Rattle.std.specs.Str.{bytes_eq, chars}
 use Rattle.std.specs.Result.{result_ok}
 use Rattle.hex.specs.Hex.{decode_of}
 use Rattle.zs_bytes.specs.Payload.{one_slice}
 use Rattle.zs_sample.specs.declared.locality.Locality.{Locality}
 use Rattle.zs_sample.specs.declared.locality.Locality.TheVariants.{SessionLocal, Remote, Any}
+use Rattle.zs_wire.specs.declared.wire_expr.Mapping.{Mapping}
+use Rattle.zs_wire.specs.declared.wire_expr.Mapping.TheVariants.{Sender, Receiver}
+use Rattle.zs_wire.specs.declared.wire_expr.WireExpr.{WireExpr}
 use Rattle.zs_core.specs.declared.event.KeyArg.{KeyArg}
 use Rattle.zs_core.specs.declared.event.KeyArg.TheVariants.{Text, Number}
 
@@ -64,6 +67,18 @@ abbrev pub payload_of : List ℕ → Option (List (List ℕ))
 payload_of [] = None
 payload_of (b ∷ digits) = if b == 120 then option_map one_slice (result_ok (decode_of digits)) else None
 
--- a wire expression: the mapping and the scope `s0`, `:`, and the text. Other scopes have no event yet
-abbrev pub wire_of : List ℕ → Option (List ℕ)
-wire_of field = option_map chars (after_prefix (codes "s0:") field)
+-- a wire expression behind its mapping: a number, `:`, and a text, which may be empty
+abbrev pub scoped_of : Mapping → List ℕ → Option WireExpr
+scoped_of mapping rest =
+    option_and_then (λ place. option_map (λ scope. record { scope = scope; suffix = chars (drop (place + 1) rest); mapping = mapping })
+    (number_of u16_max (take place rest))) (position is_colon rest)
+
+-- the same where there is such a rest, else another one
+abbrev pub scoped_in : Mapping → Option (List ℕ) → Option WireExpr → Option WireExpr
+scoped_in mapping None other = other
+scoped_in mapping (Some rest) other = scoped_of mapping rest
+
+-- a wire expression: `s` for the sender's numbers or `r` for the receiver's, and the rest
+abbrev pub wire_of : List ℕ → Option WireExpr
+wire_of field =
+    scoped_in Sender (after_prefix (codes "s") field) (scoped_in Receiver (after_prefix (codes "r") field) None)

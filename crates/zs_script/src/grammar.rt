@@ -1,12 +1,14 @@
 //! The forms of lines, each read from the fields behind its word.
 
 ghost use Rattle.std.specs.Prelude.{◌≡◌, IfOk};
-ghost use Rattle.zs_script.specs.Grammar.{event_of, event_of_fields, declare_of, sub_of, undeclare_of, entity_kind_of, put_of, close_of, net_of, push_of, default_encoding, default_qos};
+ghost use Rattle.zs_script.specs.Grammar.{event_of, event_of_fields, declare_of, sub_of, undeclare_of, entity_kind_of, put_of, close_of, net_close_of, key_expr_of, unkey_expr_of, net_of, push_of, default_encoding, default_qos};
 ghost use Rattle.zs_script.specs.Lines.{fields};
 ghost use Rattle.zs_script.specs.Fields.{texts};
 
 use crate::reader::Line;
-use crate::symbols::{parse_key, parse_locality, parse_number, parse_payload, parse_wire};
+use crate::symbols::{
+    parse_key, parse_key_number, parse_locality, parse_number, parse_payload, parse_wire,
+};
 use std::alloc::{AllocError, Global};
 use zs_core::{EntityKind, Event};
 use zs_sample::{CongestionControl, QoSType, Text};
@@ -129,10 +131,10 @@ fn parse_put(alloc: Global, rest: &[&str]) -> Result<Option<Event>, AllocError>
 fn parse_close(rest: &[&str]) -> Option<Event>
     ensures { result ≡ close_of (texts rest.now) }
 {
-    if !rest.is_empty() {
-        return None;
+    match rest {
+        [] => Some(Event::Close),
+        _ => None,
     }
-    Some(Event::Close)
 }
 
 /// `net MESSAGE`
@@ -143,8 +145,48 @@ fn parse_net(alloc: Global, rest: &[&str]) -> Result<Option<Event>, AllocError>
         return Ok(None);
     };
     match *word {
+        "keyexpr" => parse_key_expr(alloc, rest),
+        "unkeyexpr" => Ok(parse_unkey_expr(rest)),
         "push" => parse_push(alloc, rest),
+        "close" => Ok(parse_net_close(rest)),
         _ => Ok(None),
+    }
+}
+
+/// `keyexpr N WIRE`
+fn parse_key_expr(alloc: Global, rest: &[&str]) -> Result<Option<Event>, AllocError>
+    ensures { IfOk result (λ found. found ≡ key_expr_of (texts rest.now)) }
+{
+    let [number, wire] = rest else {
+        return Ok(None);
+    };
+    let Some(number) = parse_key_number(number) else {
+        return Ok(None);
+    };
+    let Some(wire) = parse_wire(alloc, wire)? else {
+        return Ok(None);
+    };
+    Ok(Some(Event::NetKeyExpr { number, wire }))
+}
+
+/// `unkeyexpr N`
+fn parse_unkey_expr(rest: &[&str]) -> Option<Event>
+    ensures { result ≡ unkey_expr_of (texts rest.now) }
+{
+    let [number] = rest else {
+        return None;
+    };
+    let number = parse_key_number(number)?;
+    Some(Event::NetUndeclareKeyExpr { number })
+}
+
+/// `close`, behind `net`
+fn parse_net_close(rest: &[&str]) -> Option<Event>
+    ensures { result ≡ net_close_of (texts rest.now) }
+{
+    match rest {
+        [] => Some(Event::NetClose),
+        _ => None,
     }
 }
 
@@ -158,14 +200,14 @@ fn parse_push(alloc: Global, rest: &[&str]) -> Result<Option<Event>, AllocError>
     if *word != "put" {
         return Ok(None);
     }
-    let Some(key) = parse_wire(alloc, wire)? else {
+    let Some(wire) = parse_wire(alloc, wire)? else {
         return Ok(None);
     };
     let Some(payload) = parse_payload(alloc, payload)? else {
         return Ok(None);
     };
     Ok(Some(Event::NetPut {
-        key,
+        wire,
         payload,
         encoding: absent_encoding(alloc)?,
         qos: absent_qos(),

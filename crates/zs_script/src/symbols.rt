@@ -2,12 +2,13 @@
 
 ghost use Rattle.std.specs.Prelude.{◌≡◌, IfOk, option_map};
 ghost use Rattle.std.specs.List.{before_first, after_first};
-ghost use Rattle.zs_script.specs.Symbols.{number_from, number_of, u16_max, locality_of, is_colon, numbered_of, key_of, payload_of, after_prefix, wire_of};
+ghost use Rattle.zs_script.specs.Symbols.{number_from, number_of, u16_max, locality_of, is_colon, numbered_of, key_of, payload_of, after_prefix, scoped_of, wire_of};
 
 use hex::FromHexError;
 use std::alloc::{AllocError, Global};
 use zs_core::KeyArg;
 use zs_sample::{Locality, Text, ZBytes};
+use zs_wire::{Mapping, WireExpr};
 
 /// A number in decimal digits, at most `max`. It has no sign and does not begin with a zero that could go.
 pub(crate) fn parse_number(max: u32, field: &[u8]) -> Option<u32>
@@ -76,7 +77,7 @@ fn parse_numbered(alloc: Global, field: &str) -> Result<Option<KeyArg>, AllocErr
 }
 
 /// The number of a declared key.
-fn parse_key_number(digits: &str) -> Option<u16>
+pub(crate) fn parse_key_number(digits: &str) -> Option<u16>
     ensures { result ≡ number_of u16_max digits.now }
 {
     match parse_number(u16::MAX.into(), digits.as_bytes()) {
@@ -113,14 +114,34 @@ pub(crate) fn parse_payload(alloc: Global, field: &str) -> Result<Option<ZBytes>
     }
 }
 
-/// A wire expression of the scope 0, which is a text. Other scopes have no event yet.
-pub(crate) fn parse_wire(alloc: Global, field: &str) -> Result<Option<Text>, AllocError>
+/// A wire expression: `s` or `r`, and the rest.
+pub(crate) fn parse_wire(alloc: Global, field: &str) -> Result<Option<WireExpr>, AllocError>
     ensures { IfOk result (λ found. found ≡ wire_of field.now) }
 {
-    let Some(text) = after_prefix(field, "s0:") else {
+    if let Some(rest) = after_prefix(field, "s") {
+        return parse_scoped(alloc, Mapping::Sender, rest);
+    }
+    if let Some(rest) = after_prefix(field, "r") {
+        return parse_scoped(alloc, Mapping::Receiver, rest);
+    }
+    Ok(None)
+}
+
+/// `N:TEXT`, behind the mapping.
+fn parse_scoped(alloc: Global, mapping: Mapping, rest: &str) -> Result<Option<WireExpr>, AllocError>
+    ensures { IfOk result (λ found. found ≡ scoped_of mapping rest.now) }
+{
+    let Some((digits, suffix)) = rest.split_once(':') else {
         return Ok(None);
     };
-    Ok(Some(Text::of(alloc, text)?))
+    let Some(scope) = parse_key_number(digits) else {
+        return Ok(None);
+    };
+    Ok(Some(WireExpr {
+        scope,
+        suffix: Text::of(alloc, suffix)?,
+        mapping,
+    }))
 }
 
 /// What stands behind a prefix.

@@ -7,6 +7,7 @@ use std::alloc::{AllocError, Global};
 use std::test::Fail;
 use zs_core::{EntityKind, Event, KeyArg};
 use zs_keys::{MemorySink, MemorySource, Source, SteadySource};
+use zs_wire::WireExpr;
 
 /// What a line is, in a few words.
 fn told(alloc: Global, text: &str) -> Result<String, AllocError> {
@@ -16,13 +17,16 @@ fn told(alloc: Global, text: &str) -> Result<String, AllocError> {
     };
     let found = parse_event(alloc, &line)?;
     match &found {
-        Some(
-            Event::Sub {
-                origin,
-                key: KeyArg::Text(key),
-            },
-        ) => {
-            let key = key.as_str();
+        Some(Event::Key { key }) => {
+            let key = key_told(alloc, &key)?;
+            format!(in alloc; "key {key}")
+        }
+        Some(Event::UndeclareKey { key }) => {
+            let key = key_told(alloc, &key)?;
+            format!(in alloc; "undeclare key {key}")
+        }
+        Some(Event::Sub { origin, key }) => {
+            let key = key_told(alloc, &key)?;
             format!(in alloc; "sub {origin:?} {key}")
         }
         Some(
@@ -34,14 +38,14 @@ fn told(alloc: Global, text: &str) -> Result<String, AllocError> {
         Some(
             Event::Put {
                 destination,
-                key: KeyArg::Text(key),
+                key,
                 payload,
                 encoding,
                 qos,
                 reliable,
             },
         ) => {
-            let key = key.as_str();
+            let key = key_told(alloc, &key)?;
             let bytes = payload.to_bytes(alloc)?;
             let payload = bytes.as_slice();
             let encoding = encoding.as_str();
@@ -50,25 +54,48 @@ fn told(alloc: Global, text: &str) -> Result<String, AllocError> {
                 "put {destination:?} {key} {payload:?} {encoding} {priority} {reliable}"
             )
         }
+        Some(Event::NetKeyExpr { number, wire }) => {
+            let wire = wire_told(alloc, &wire)?;
+            format!(in alloc; "keyexpr {number} {wire}")
+        }
+        Some(Event::NetUndeclareKeyExpr { number }) => format!(in alloc; "unkeyexpr {number}"),
         Some(
             Event::NetPut {
-                key,
+                wire,
                 payload,
                 encoding,
                 qos,
                 reliable,
             },
         ) => {
-            let key = key.as_str();
+            let wire = wire_told(alloc, &wire)?;
             let bytes = payload.to_bytes(alloc)?;
             let payload = bytes.as_slice();
             let encoding = encoding.as_str();
             let priority = qos.priority;
-            format!(in alloc; "push {key} {payload:?} {encoding} {priority} {reliable}")
+            format!(in alloc; "push {wire} {payload:?} {encoding} {priority} {reliable}")
         }
+        Some(Event::NetClose) => format!(in alloc; "net close"),
         Some(Event::Close) => format!(in alloc; "close"),
         None => format!(in alloc; "nothing"),
     }
+}
+
+fn key_told(alloc: Global, key: &KeyArg) -> Result<String, AllocError> {
+    match key {
+        KeyArg::Text(text) => String::from_str(alloc, text.as_str()),
+        KeyArg::Number { number, suffix } => {
+            let suffix = suffix.as_str();
+            format!(in alloc; "number {number} and {suffix}")
+        }
+    }
+}
+
+fn wire_told(alloc: Global, wire: &WireExpr) -> Result<String, AllocError> {
+    let scope = wire.scope;
+    let suffix = wire.suffix.as_str();
+    let mapping = wire.mapping;
+    format!(in alloc; "{mapping:?} {scope} and {suffix}")
 }
 
 #[test]
@@ -79,8 +106,15 @@ fn reads_lines_as_events(rt: HostRuntime) -> Result<(), Fail> {
         ("sub\tremote\t", "sub Remote "),
         ("sub\tany\t#x", "sub Any #x"),
         ("sub\tany\t#65536", "sub Any #65536"),
-        ("sub\tany\t#1", "nothing"),
-        ("sub\tany\t#1:x", "nothing"),
+        ("sub\tany\t#1", "sub Any number 1 and "),
+        ("sub\tany\t#1:", "sub Any number 1 and "),
+        ("sub\tany\t#1:x:y", "sub Any number 1 and x:y"),
+        ("sub\tany\t#01", "sub Any #01"),
+        ("sub\tany\t#1x", "sub Any #1x"),
+        ("key\t#65535:/b", "key number 65535 and /b"),
+        ("key\ta//b", "key a//b"),
+        ("key", "nothing"),
+        ("undeclare\tkey\t#0", "undeclare key number 0 and "),
         ("sub\tany\tk\t", "nothing"),
         ("sub any k", "nothing"),
         ("undeclare\tsub\t0", "undeclare 0"),
@@ -100,10 +134,25 @@ fn reads_lines_as_events(rt: HostRuntime) -> Result<(), Fail> {
         ("put\tany\tk\tx", "put Any k [] zenoh/bytes 5 true"),
         ("put\tany\tk\tx1", "nothing"),
         ("put\tany\tk\t01", "nothing"),
-        ("net\tpush\ts0:k\tput\tx01", "push k [1] zenoh/bytes 5 true"),
-        ("net\tpush\ts1:k\tput\tx01", "nothing"),
+        (
+            "net\tpush\ts0:k\tput\tx01",
+            "push Sender 0 and k [1] zenoh/bytes 5 true",
+        ),
+        (
+            "net\tpush\tr65535:\tput\tx",
+            "push Receiver 65535 and  [] zenoh/bytes 5 true",
+        ),
+        ("net\tpush\ts0k\tput\tx01", "nothing"),
+        ("net\tpush\ts65536:k\tput\tx01", "nothing"),
+        ("net\tpush\tt0:k\tput\tx01", "nothing"),
         ("net\tpush\ts0:k\tdel\tx01", "nothing"),
-        ("close", "nothing"),
+        ("net\tkeyexpr\t7\ts0:a:b", "keyexpr 7 Sender 0 and a:b"),
+        ("net\tkeyexpr\t65536\ts0:a", "nothing"),
+        ("net\tunkeyexpr\t7", "unkeyexpr 7"),
+        ("net\tunkeyexpr\t7\ts0:a", "nothing"),
+        ("net\tclose", "net close"),
+        ("close", "close"),
+        ("close\t", "nothing"),
         ("", "nothing"),
     ];
     for (line, want) in table {

@@ -3,13 +3,13 @@ use Rattle.std.specs.Prelude.{ℕ, if◌then◌else◌, encode_utf8_all, map, fi
 use Rattle.std.specs.List.{AllByRecursion, flat_map}
 use Rattle.std.proofs.lemmas.List.Elements.{filter-append}
 use Rattle.zs_core.specs.declared.event.Event.{Event}
-use Rattle.zs_core.specs.declared.event.Event.TheVariants.{Key, UndeclareKey, Sub, Undeclare, Put, NetPut, Close}
+use Rattle.zs_core.specs.declared.event.Event.TheVariants.{Undeclare, Put, NetPut, Close}
 use Rattle.zs_core.specs.declared.event.EntityKind.TheVariants.{Sub as sub_kind}
 use Rattle.zs_core.specs.declared.settings.Settings.{Settings}
 use Rattle.zs_core.specs.declared.subscriber.SubRow.{SubRow}
 use Rattle.zs_core.specs.declared.turn.Answer.TheVariants.{Ok as accepted, Refused}
 use Rattle.zs_core.specs.declared.turn.Answer.{Answer}
-use Rattle.zs_core.specs.Keys.{key_of}
+use Rattle.zs_core.specs.Keys.{key_of, wire_of}
 use Rattle.zs_sample.specs.declared.locality.Locality.{Locality}
 use Rattle.zs_sample.specs.declared.quality.QoSType.{QoSType}
 use Rattle.zs_core.specs.World.{World}
@@ -31,7 +31,7 @@ use Rattle.zs_core.specs.Live.{live_subs}
 use Rattle.zs_core.specs.Causes.{has_cause, Names}
 use Rattle.zs_core.specs.Stands.{effects}
 use Rattle.zs_core.proofs.Living.{numbered, table_is_live}
-use Rattle.zs_core.proofs.Holding.{AreDeclared, declared, texts_are_named}
+use Rattle.zs_core.proofs.Holding.{AreDeclared, declared, IsTold, known_told, texts_are_named}
 use Rattle.zs_core.proofs.Causing.{refusals_have_causes}
 use Rattle.zs_script.specs.Lines.{lines}
 use Rattle.zs_script.specs.Printing.{line, turn_text, answer_fields, effect_fields}
@@ -40,7 +40,7 @@ use Rattle.zs_script.proofs.PlainTexts.{fields-found}
 use Rattle.zs_script.proofs.PlainEffects.{answers-plain, effects-plain}
 use Rattle.zs_session.specs.Script.{text_after}
 use Rattle.zs_session.specs.Telling.{plain_line, tells, tells_behind, is_telling, told, published, hand_lines, Tells, ToldAfter}
-use Rattle.zs_session.proofs.PlainKeys.{IsPlain, PlainRow, PlainEvents, plain_text, plain_keys}
+use Rattle.zs_session.proofs.PlainKeys.{IsPlain, PlainTables, PlainEvents, plain_text, plain_wire, plain_keys}
 use Rattle.zs_session.proofs.Cutting.{ArePlain, both, lines_all}
 
 -- the fields of each line of a turn
@@ -86,23 +86,21 @@ publication_told s past n (Some p) live =
     ∙ ap (λ (rows : List SubRow). map (λ row. plain_line n (effect_fields (Hand (Sample Subscriber row.id p.sample)))) (filter (allows p) rows)) live
 
 -- the publication that an event is, by the tables as by the events alone
-published_is : (s : Settings) (past : List Entry) (e : Event) → AreDeclared s past → publication_of (text_for (world_of s past) e) e ≡ published past e
-published_is s past e d = ap (λ (text : Option (List ℕ)). publication_of text e) (texts_are_named s past e d)
+published_is : (s : Settings) (past : List Entry) (e : Event) → AreDeclared s past → IsTold past → publication_of (text_for (world_of s past) e) e ≡ published past e
+published_is s past e d t = ap (λ (text : Option (List ℕ)). publication_of text e) (texts_are_named s past e d t)
 
 -- the effects of an accepted event tell its hand-overs
-effects_told : (s : Settings) (past : List Entry) (n : ℕ) (e : Event) → subs past ≡ live_subs past → AreDeclared s past
+effects_told : (s : Settings) (past : List Entry) (n : ℕ) (e : Event) → subs past ≡ live_subs past → AreDeclared s past → IsTold past
     → map (plain_line n) (filter tells (map effect_fields (effects_of (world_of s past) e))) ≡ hand_lines past n (published past e)
-effects_told s past n (Key key) live d = refl
-effects_told s past n (UndeclareKey key) live d = refl
-effects_told s past n (Sub origin key) live d = refl
-effects_told s past n (Undeclare sub_kind id) live d = refl
-effects_told s past n (Put destination key payload encoding qos reliable) live d =
+effects_told s past n (Put destination key payload encoding qos reliable) live d t =
     publication_told s past n (publication_of (key_of (world_of s past) key) (Put destination key payload encoding qos reliable)) live
-    ∙ ap (hand_lines past n) (published_is s past (Put destination key payload encoding qos reliable) d)
-effects_told s past n (NetPut key payload encoding qos reliable) live d =
-    publication_told s past n (publication_of (Some (encode_utf8_all key)) (NetPut key payload encoding qos reliable)) live
-    ∙ ap (hand_lines past n) (published_is s past (NetPut key payload encoding qos reliable) d)
-effects_told s past n Close live d = ap (map (plain_line n)) (ends_tell (subs past))
+    ∙ ap (hand_lines past n) (published_is s past (Put destination key payload encoding qos reliable) d t)
+effects_told s past n (NetPut wire payload encoding qos reliable) live d t =
+    publication_told s past n (publication_of (wire_of (world_of s past) wire) (NetPut wire payload encoding qos reliable)) live
+    ∙ ap (hand_lines past n) (published_is s past (NetPut wire payload encoding qos reliable) d t)
+effects_told s past n (Undeclare sub_kind id) live d t = refl
+effects_told s past n Close live d t = ap (map (plain_line n)) (ends_tell (subs past))
+effects_told s past n e live d t = refl
 
 -- a refused turn tells its refusal
 refused_told : (s : Settings) (past : List Entry) (n : ℕ) (e : Event) (refusal : Refusal) (number : Option ℕ) (fx : List Effect)
@@ -112,7 +110,7 @@ refused_told s past n e refusal number fx holds = inl (refusal, holds, refl)
 -- a closed session that accepts an event publishes nothing
 shut_quiet : (past : List Entry) (n : ℕ) (e : Event) → closed_cause e ≡ None → hand_lines past n (published past e) ≡ []
 shut_quiet past n (Put destination key payload encoding qos reliable) c = cc
-shut_quiet past n (NetPut key payload encoding qos reliable) c = cc
+shut_quiet past n (NetPut wire payload encoding qos reliable) c = cc
 shut_quiet past n e c = refl
 
 -- an accepted turn tells what its effects tell
@@ -137,7 +135,7 @@ event_told s h n e = go (is_closed (past_of s h)) (refusals_have_causes s h e)
     by_open None named = inr (
       named,
       ap (map (plain_line n)) (answer_quiet n (number_for (world_of s (past_of s h)) e) (effects_of (world_of s (past_of s h)) e))
-          ∙ effects_told s (past_of s h) n e (table_is_live s (past_of s h) (numbered s h)) (declared s h),
+          ∙ effects_told s (past_of s h) n e (table_is_live s (past_of s h) (numbered s h)) (declared s h) (known_told s h),
     )
 
     go : (closed : Bool) → Names (has_cause s (past_of s h) e) (if closed then closed_cause e else open_cause (world_of s (past_of s h)) e)
@@ -179,19 +177,17 @@ plain_put local destination (Some text) payload encoding qos reliable w key plai
     plain_hands (record { local = local; destination = destination; sample = put_sample text payload encoding qos reliable })
     _ key (plain_encoding encoding plain)
 
-plain_effects : (s : Settings) (past : List Entry) (e : Event) → AllByRecursion PlainRow (own past) → is_plain_event e ≡ true
+plain_effects : (s : Settings) (past : List Entry) (e : Event) → PlainTables past → is_plain_event e ≡ true
     → AllByRecursion ArePlain (map effect_fields (effects_of (world_of s past) e))
-plain_effects s past (Key key) rows plain = tt
-plain_effects s past (UndeclareKey key) rows plain = tt
-plain_effects s past (Sub origin key) rows plain = tt
 plain_effects s past (Undeclare sub_kind id) rows plain = (plain_end id, tt)
 plain_effects s past (Put destination key payload encoding qos reliable) rows plain =
     let h = both (is_plain_key key) (is_plain (encode_utf8_all encoding)) plain in
     plain_put true destination (key_of (world_of s past) key) payload encoding qos reliable (world_of s past) (plain_text s past key rows h.0) h.1
-plain_effects s past (NetPut key payload encoding qos reliable) rows plain =
-    let h = both (is_plain (encode_utf8_all key)) (is_plain (encode_utf8_all encoding)) plain in
-    plain_put false Any (Some (encode_utf8_all key)) payload encoding qos reliable (world_of s past) h.0 h.1
+plain_effects s past (NetPut wire payload encoding qos reliable) rows plain =
+    let h = both (is_plain (encode_utf8_all wire.suffix)) (is_plain (encode_utf8_all encoding)) plain in
+    plain_put false Any (wire_of (world_of s past) wire) payload encoding qos reliable (world_of s past) (plain_wire s past wire rows h.0) h.1
 plain_effects s past Close rows plain = plain_ends (subs past)
+plain_effects s past e rows plain = tt
 
 -- the texts of the turn of a plain event are plain
 plain_turn : (s : Settings) (h : List Event) (e : Event) → PlainEvents h → is_plain_event e ≡ true → AllByRecursion ArePlain (turn_rows (effects s h e))

@@ -19,7 +19,7 @@ const FIRST: &str = "sub any test/k\nput any test/k x7a656e6f68\n";
 const FIRST_TEXT: &str = "1 ok 2\n2 ok\n2 hand sub 2 put test/k x7a656e6f68 Q\n3 ok\n3 end sub 2\n";
 
 /// Scripts and what they print, with spaces for tabs and `Q` for the options of a plain put.
-const RUNS: [(&str, &str); 14] = [
+const RUNS: [(&str, &str); 18] = [
     ("", "1 ok\n"),
     (FIRST, FIRST_TEXT),
     (
@@ -83,6 +83,30 @@ const RUNS: [(&str, &str); 14] = [
     (
         "key k\nclose\nundeclare key #1\nkey k\nput any #1 x\nclose",
         "1 ok 1\n2 ok\n3 refused SessionClosedError\n4 refused SessionClosedError\n5 refused SessionClosedError\n6 ok\n7 ok\n",
+    ),
+    // Numbers that the network told, and this session's own as the network names them.
+    (
+        "net keyexpr 7 s0:a\nsub any a/*\nnet push s7:/b put x01\nnet push s7:// put x01\n",
+        "1 ok\n2 ok 2\n3 ok\n3 hand sub 2 put a/b x01 Q\n4 refused BadKeyExpr\n5 ok\n5 end sub 2\n",
+    ),
+    (
+        "key k\nsub any k\nnet push r1: put x01\nnet push s1: put x01\nundeclare key #1\nnet push r1: put x01\n",
+        "1 ok 1\n2 ok 2\n3 ok\n3 hand sub 2 put k x01 Q\n4 refused UnknownScope\n5 ok\n6 refused UnknownScope\n\
+         7 ok\n7 end sub 2\n",
+    ),
+    (
+        "sub any **\nnet keyexpr 0 s0:a\nnet push s7:x put x01\nnet keyexpr 7 s0:a\nnet keyexpr 7 s0:b\nnet push s7: put x01\n\
+         net unkeyexpr 7\nnet push s7:/c put x01\nnet push s0:a//b put x01\n",
+        "1 ok 2\n2 refused UnknownScope\n3 refused UnknownScope\n4 ok\n5 ok\n6 ok\n6 hand sub 2 put b x01 Q\n7 ok\n\
+         8 ok\n8 hand sub 2 put b/c x01 Q\n9 refused BadKeyExpr\n10 ok\n10 end sub 2\n",
+    ),
+    (
+        "key k\nsub remote k/*/z\nnet keyexpr 8 r1:/x\nnet keyexpr 9 s8:/z\nundeclare key #1\nnet push s9: put x\nnet keyexpr 3 s2:a\n\
+         net keyexpr 0 s0:a//b\nnet keyexpr 5 s0:a//b\nnet unkeyexpr 4\nnet close\nclose\nnet keyexpr 1 s0:a\nnet close\n\
+         net unkeyexpr 1\nnet push s9: put x\n",
+        "1 ok 1\n2 ok 2\n3 ok\n4 ok\n5 ok\n6 ok\n6 hand sub 2 put k/x/z x Q\n7 refused UnknownScope\n\
+         8 refused UnknownScope\n9 refused BadKeyExpr\n10 ok\n11 ok\n12 ok\n12 end sub 2\n13 refused Ignored\n\
+         14 refused Ignored\n15 refused Ignored\n16 refused Ignored\n17 ok\n",
     ),
 ];
 
@@ -260,7 +284,7 @@ const STOPS: [(&str, u32, u64, DriveError, &str); 7] = [
         "1 ok 2\n",
     ),
     ("close now\n", 100, 9, DriveError::BadLine(1), ""),
-    ("net push s1:k put x\n", 100, 9, DriveError::BadLine(1), ""),
+    ("net push s1 put x\n", 100, 9, DriveError::BadLine(1), ""),
     ("undeclare sub 02\n", 100, 9, DriveError::BadLine(1), ""),
     (
         "sub any k\nsub any kk\n",

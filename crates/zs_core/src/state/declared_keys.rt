@@ -2,7 +2,7 @@ ghost use Rattle.std.specs.List.{list_all, position, position_or_len};
 ghost use Rattle.std.specs.Prelude.{◌≡◌, ◌<◌, ◌+◌, ◌==◌, not, true, false, [], None, Some, filter, map, IfOk, OnOk, OnErr, vec_len, vec_capacity, nat_lt, nat_le, slice_get};
 ghost use Rattle.zs_core.specs.Settings.{last_key};
 ghost use Rattle.zs_core.specs.Turn.{answered};
-ghost use Rattle.zs_core.specs.Turns.{is_spent, declare_key_cause, undeclare_key_cause, key_number};
+ghost use Rattle.zs_core.specs.Turns.{is_spent, tell_key_cause, declare_key_cause, undeclare_key_cause, key_number};
 ghost use Rattle.zs_core.specs.Keys.{key_of, is_whole};
 ghost use Rattle.zs_core.specs.DeclaredKeys.{number_at, placed, without, holders_of, has_holder, raised, lowered, is_last, one_more, one_less, is_at};
 ghost use Rattle.zs_core.specs.After.{after};
@@ -14,6 +14,7 @@ use crate::event::{Event, KeyArg};
 use crate::turn::{Refusal, Turn};
 use std::alloc::AllocError;
 use zs_keys::KeyExpr;
+use zs_wire::WireExpr;
 
 impl SessionState {
     pub(super) fn preview_key(&self, key: &KeyArg) -> Result<Turn, AllocError>
@@ -54,7 +55,7 @@ impl SessionState {
         requires room { is_spent last_key self.old.counters.key ≡ false }
         ensures ok { OnOk result (self.new ≡ record self.old {
           counters = record self.old.counters { key = self.old.counters.key + 1 };
-          keys = record {
+          keys = record self.old.keys {
             own = placed (record { number = self.old.counters.key; key = key.entry }) self.old.keys.own;
             holders = raised self.old.counters.key self.old.keys.holders;
           };
@@ -94,6 +95,40 @@ impl SessionState {
         } else {
             count_less(*number, &mut self.holders);
         }
+    }
+
+    pub(super) fn preview_net_key_expr(
+        &self,
+        number: u16,
+        wire: &WireExpr,
+    ) -> Result<Turn, AllocError>
+        ensures { IfOk result (λ turn. turn ≡ answered (tell_key_cause self.now number wire.now) None []) }
+    {
+        if number == 0 {
+            return Ok(Turn::refused(self.alloc, Refusal::UnknownScope));
+        }
+        if let Err(refusal) = self.resolve_wire(wire)? {
+            return Ok(Turn::refused(self.alloc, refusal));
+        }
+        Ok(Turn::quiet(self.alloc, None))
+    }
+
+    pub(super) fn change_net_key_expr(
+        &mut self,
+        number: u16,
+        wire: &WireExpr,
+    ) -> Result<(), AllocError>
+        requires { tell_key_cause self.old number wire.now ≡ None }
+        ensures ok { OnOk result (self.new ≡ after self.old (Event.NetKeyExpr number wire.now)) }
+        ensures err { OnErr result (self.new ≡ self.old) }
+    {
+        let Ok(key) = self.resolve_wire(wire)? else {
+            unreachable!();
+        };
+        let key = own(self.alloc, key)?;
+        self.told.reserve(1)?;
+        place(&mut self.told, NumberedKey { number, key });
+        Ok(())
     }
 }
 

@@ -1,5 +1,5 @@
 ghost use Rattle.std.specs.Prelude.{◌≡◌, ◌++◌, None, Some, IfOk, option_map};
-ghost use Rattle.zs_core.specs.Keys.{key_of, resolved};
+ghost use Rattle.zs_core.specs.Keys.{key_of, wire_of, numbers_for, resolved};
 ghost use Rattle.zs_core.specs.DeclaredKeys.{key_at};
 
 use super::SessionState;
@@ -8,6 +8,7 @@ use crate::event::KeyArg;
 use crate::turn::Refusal;
 use std::alloc::{AllocError, Global};
 use zs_keys::{KeyError, KeyExpr};
+use zs_wire::{Mapping, WireExpr};
 
 impl SessionState {
     /// The key that an application's argument stands for, or why it is refused.
@@ -25,6 +26,33 @@ impl SessionState {
                 };
                 with_suffix(self.alloc, known, suffix.as_str())
             }
+        }
+    }
+
+    /// The key that a wire expression stands for, or why it is refused.
+    pub(super) fn resolve_wire<'a>(
+        &'a self,
+        wire: &'a WireExpr,
+    ) -> Result<Result<KeyExpr<'a>, Refusal>, AllocError>
+        ensures { IfOk result (λ found. found ≡ resolved Refusal.UnknownScope (wire_of self.now wire.now)) }
+    {
+        let suffix = wire.suffix.as_str();
+        if wire.scope == 0 {
+            return Ok(canonical(suffix));
+        }
+        let Some(known) = key_at(wire.scope, self.numbers_for(wire.mapping)) else {
+            return Ok(Err(Refusal::UnknownScope));
+        };
+        with_suffix(self.alloc, known, suffix)
+    }
+
+    /// The numbers of the side that a mapping names.
+    fn numbers_for(&self, mapping: Mapping) -> &[NumberedKey]
+        ensures { result.now ≡ numbers_for mapping self.now }
+    {
+        match mapping {
+            Mapping::Sender => &self.told,
+            Mapping::Receiver => &self.own,
         }
     }
 }

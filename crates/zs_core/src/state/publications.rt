@@ -1,6 +1,6 @@
 ghost use Rattle.std.specs.Prelude.{◌≡◌, Some, None, true, false, IfOk, encode_utf8_all};
 ghost use Rattle.zs_core.specs.Turn.{answered};
-ghost use Rattle.zs_core.specs.Keys.{key_of};
+ghost use Rattle.zs_core.specs.Keys.{key_of, wire_of};
 ghost use Rattle.zs_core.specs.Turns.{key_cause, put_of, hands_for};
 ghost use Rattle.zs_core.specs.Publications.{has_session, has_network, reaches, put_sample, hands};
 ghost use Rattle.zs_keys.specs.Key.{undeclared};
@@ -16,6 +16,7 @@ use zs_sample::{
     Encoding, Locality, Priority, QoSType, Reliability, Sample, SampleFields, SampleKind, Text,
     ZBytes,
 };
+use zs_wire::WireExpr;
 
 impl SessionState {
     pub(super) fn preview_put(
@@ -40,17 +41,18 @@ impl SessionState {
 
     pub(super) fn preview_net_put(
         &self,
-        key: &Text,
+        wire: &WireExpr,
         payload: &ZBytes,
         encoding: &Text,
         qos: QoSType,
         reliable: bool,
     ) -> Result<Turn, AllocError>
-        ensures { IfOk result (λ turn. turn ≡ answered (key_cause Refusal.UnknownScope (Some (encode_utf8_all key.now)) None) None
-            (hands_for self.now (put_of false Locality.Any (Some (encode_utf8_all key.now)) payload.now encoding.now qos reliable))) }
+        ensures { IfOk result (λ turn. turn ≡ answered (key_cause Refusal.UnknownScope (wire_of self.now wire.now) None) None
+            (hands_for self.now (put_of false Locality.Any (wire_of self.now wire.now) payload.now encoding.now qos reliable))) }
     {
-        let Ok(key) = KeyExpr::new(key.as_str()) else {
-            return Ok(Turn::refused(self.alloc, Refusal::BadKeyExpr));
+        let key = match self.resolve_wire(wire)? {
+            Ok(key) => key,
+            Err(refusal) => return Ok(Turn::refused(self.alloc, refusal)),
         };
         let sample = sample_of_put(self.alloc, key, payload, encoding, qos, reliable)?;
         Ok(Turn::of(hand_over(self.alloc, false, Locality::Any, &sample, &self.subs)?))

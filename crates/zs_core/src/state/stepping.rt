@@ -24,6 +24,7 @@ impl SessionState {
             subs: Vec::new(alloc),
             own: Vec::new(alloc),
             holders: Vec::new(alloc),
+            told: Vec::new(alloc),
         })
     }
 
