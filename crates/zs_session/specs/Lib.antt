@@ -4,3 +4,4 @@ pub mod Driving
 pub mod Laws
 pub mod Errors
 pub mod Running
+pub mod Words

@@ -16,3 +16,4 @@ mod running;
 mod system;
 #[cfg(test)]
 mod tests;
+mod words;
