@@ -5,3 +5,4 @@ pub mod Stepping
 pub mod Scripts
 pub mod Progress
 pub mod Completing
+pub mod WordExamples

@@ -4,4 +4,5 @@ pub mod Driving
 pub mod Laws
 pub mod Errors
 pub mod Running
+pub mod Hexadecimal
 pub mod Words

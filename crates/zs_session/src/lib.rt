@@ -11,6 +11,7 @@ pub use zs_core::Settings;
 mod complaining;
 mod driving;
 mod errors;
+mod hexadecimal;
 mod laws;
 mod running;
 mod system;

@@ -2,13 +2,15 @@
 
 ghost use Rattle.std.specs.Prelude.{◌<◌};
 
-use crate::{DriveError, Driven, Settings, StdSink, StdSource, drive, run};
+use crate::{DriveError, Driven, Settings, StdSink, StdSource, drive};
 use std::alloc::{AllocError, Global};
 use std::io::{self, Read, Write};
 use std::test::Fail;
 use zs_core::SessionState;
 use zs_keys::{MemorySink, MemorySource, Sink, Source};
 use zs_script::{LineReader, parse_event, print_turn};
+
+mod words;
 
 /// The options of a sample that was put with none.
 const QUALITY: &str = "enc=zenoh/bytes prio=5 cc=drop express=0 rel=1";
@@ -317,37 +319,6 @@ fn stops_are_named(rt: HostRuntime) -> Result<(), Fail> {
         assert_eq!(rt; driven, Err(error), "of {script:?}");
         let wanted = spelled(rt.alloc(), text)?;
         assert_eq!(rt; sink.bytes(), wanted.as_slice(), "of {script:?}");
-    }
-    Ok(())
-}
-
-/// What `run` is handed, and what it returns and complains of: the script, how many words, the read and the write
-/// that fail, the status and the complaint.
-const STATUSES: [(&str, usize, u64, u64, u8, &str); 5] = [
-    (FIRST, 0, 0, 0, 0, ""),
-    (FIRST, 1, 0, 0, 2, "bad words\n"),
-    ("sub any k\nsub\n", 0, 0, 0, 3, "BadLine 2\n"),
-    (FIRST, 0, 1, 0, 6, "ReadFault\n"),
-    (FIRST, 0, 0, 1, 7, "WriteFault\n"),
-];
-
-#[test]
-fn statuses_and_complaints(rt: HostRuntime) -> Result<(), Fail> {
-    for (script, count, read, write, status, complaint) in STATUSES {
-        let mut words = Vec::new(rt.alloc());
-        for _ in 0..count {
-            words.push(String::from_str(rt.alloc(), "drive")?)?;
-        }
-        let mut complaints = sink(rt.alloc(), 3, 0)?;
-        let got = run(
-            rt.alloc(),
-            words.as_slice(),
-            &mut source(rt.alloc(), script, 4096, read)?,
-            &mut sink(rt.alloc(), 4096, write)?,
-            &mut complaints,
-        );
-        assert_eq!(rt; got, status, "of {script:?}");
-        assert_eq!(rt; complaints.bytes(), complaint.as_bytes(), "of {script:?}");
     }
     Ok(())
 }

@@ -1,18 +1,20 @@
 //! The words that a run is started with: none, or `drive` and then settings.
 
-ghost use Rattle.std.specs.Prelude.{◌≡◌, ◌+◌, ◌*◌, ◌≤◌, ◌<◌, ◌^◌, [], ◌∷◌, List, ℕ, map, length, OnSome, IfSome, option_map};
+ghost use Rattle.std.specs.Prelude.{◌≡◌, ◌≤◌, map, IfSome, option_map};
 ghost use Rattle.std.specs.List.{list_all};
 ghost use Rattle.std.specs.String.{string_bytes};
 ghost use Rattle.zs_script.specs.Symbols.{number_from, number_of, after_prefix};
-ghost use Rattle.zs_session.specs.Words.{digit_of, hex_from, hex_of, is_setting, values, setting, given, settings_of, found};
+ghost use Rattle.zs_session.specs.Hexadecimal.{hex_of};
+ghost use Rattle.zs_session.specs.Words.{is_setting, values, setting, given, settings_of, found};
 
+use crate::hexadecimal::parse_hex;
 use zs_core::Settings;
 
-/// The greatest number of an entity, and of a line's bytes, that its type has.
-const U32_MAX: u64 = 4294967295;
+/// The greatest number that an entity, or a line's length, is told as.
+const U32_MAX: u64 = u32::MAX as u64;
 
-/// The greatest number of a key.
-const U16_MAX: u64 = 65535;
+/// The greatest number that a key is told as.
+const U16_MAX: u64 = u16::MAX as u64;
 
 /// The settings that the words give. There are none where a word has no place among them, and none where the settings
 /// are not valid.
@@ -150,39 +152,4 @@ fn parse_digits(max: u64, digits: &[u8]) -> Option<u64>
         return None;
     }
     Some(number as u64)
-}
-
-/// A number of at most 32 hexadecimal digits. It does not begin with a zero that could go.
-fn parse_hex(field: &[u8]) -> Option<u128>
-    ensures { result ≡ hex_of field.now }
-{
-    match field {
-        [] | [b'0', _, ..] => None,
-        _ if field.len() > 32 => None,
-        _ => parse_hex_digits(field),
-    }
-}
-
-fn parse_hex_digits(digits: &[u8]) -> Option<u128>
-    requires { length digits.now ≤ 32 }
-    ensures { result ≡ hex_from 0 digits.now }
-{
-    let mut number = 0;
-    for digit in digits {
-        number = 16 * number + u128::from(hex_digit(*digit)?);
-    }
-    Some(number)
-}
-
-/// The value of a hexadecimal digit of either case.
-fn hex_digit(digit: u8) -> Option<u8>
-    ensures value { result ≡ digit_of digit }
-    ensures small { IfSome result (λ value. value < 16) }
-{
-    match digit {
-        b'0'..=b'9' => Some(digit - b'0'),
-        b'a'..=b'f' => Some(digit - b'a' + 10),
-        b'A'..=b'F' => Some(digit - b'A' + 10),
-        _ => None,
-    }
 }

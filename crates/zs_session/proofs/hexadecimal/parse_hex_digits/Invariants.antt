@@ -1,6 +1,6 @@
 use Rattle.std.proofs.Common.{◌≡◌, ◌<◌, ◌^◌, drop}
-use Rattle.zs_session.specs.Words.{hex_from}
-use Rattle.zs_session.proofs.words.parse_hex_digits.Given as goal
+use Rattle.zs_session.specs.Hexadecimal.{hex_from}
+use Rattle.zs_session.proofs.hexadecimal.parse_hex_digits.Given as goal
 
 abbrev pub invariant-loop-digit : goal.invariant-loop-digit
 invariant-loop-digit l = record {
