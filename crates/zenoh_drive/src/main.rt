@@ -19,15 +19,15 @@ usage: zenoh_drive [drive [SETTING]..]  drives a session by the script on standa
        zenoh_drive --help               prints this
        zenoh_drive --version            prints the version
 
-Settings come in any order, each at most once:
-  zid=HEX       the session's identifier: 1 to 32 hexadecimal digits, not 0;
-                without this word 1
-  tag=N         what marks its declared keys: 0 to 18446744073709551615; 1
-  entity=N      its number, the next one is the first entity's: 0 to 4294967294; 1
-  key=N         the first number of a declared key: 1 to 65535; 1
-  line=N        the most bytes of a line: 1 to 1048576; 65536
-  turns=N       the most reads: 1 to 18446744073709551615; 4294967296
-No number begins with a zero that could go.
+The settings come in any order, each at most once. In brackets: what it is without.
+  zid=HEX       the session's identifier: 1 to 32 hexadecimal digits, not 0 (1)
+  tag=N         what the keys that it declares are marked with:
+                up to 18446744073709551615 (1)
+  entity=N      the number before that of the first entity: up to 4294967294 (1)
+  key=N         the number of the first declared key: 1 to 65535 (1)
+  line=N        the most bytes of a line: 1 to 1048576 (65536)
+  turns=N       the most reads of the input: 1 to 18446744073709551615 (4294967296)
+No N and no HEX begins with a 0 that could go.
 
 A script line is one event. A tab stands between its fields:
   sub LOC KEY                   declares a subscriber

@@ -37,32 +37,31 @@ pub fn run<S: Source, K: Sink, C: Sink>(
         × Complains (C.written complaints.old) (C.faults complaints.old) bad_words (C.written complaints.new) (C.faults complaints.new) }
     ensures only_words { result ≡ 2 → settings_of (map string_bytes words.now) ≡ None }
     ensures known { (result ≢ 1) × (result ≤ 8) }
-    ensures done { (s : Settings) → settings_of (map string_bytes words.now) ≡ Some s
-        → result ≡ 0 → (input taken : List ℕ) → S.left source.old ≡ Some input → K.written sink.old ≡ Some taken
+    ensures done { result ≡ 0 → (s : Settings) (input taken : List ℕ) → settings_of (map string_bytes words.now) ≡ Some s
+        → S.left source.old ≡ Some input → K.written sink.old ≡ Some taken
         → (count : ℕ) × IsDone s input taken (S.left source.new) (K.written sink.new) count }
     ensures quiet { result ≡ 0 → complaints.new ≡ complaints.old }
-    ensures front { (s : Settings) → settings_of (map string_bytes words.now) ≡ Some s
-        → (input taken : List ℕ) → S.left source.old ≡ Some input → K.written sink.old ≡ Some taken
+    ensures front { (s : Settings) (input taken : List ℕ) → settings_of (map string_bytes words.now) ≡ Some s
+        → S.left source.old ≡ Some input → K.written sink.old ≡ Some taken
         → IsFront s input taken (K.written sink.new) }
-    ensures bad_line { (s : Settings) → settings_of (map string_bytes words.now) ≡ Some s
-        → result ≡ 3 → (number : ℕ)
+    ensures bad_line { result ≡ 3 → (number : ℕ)
         × Complains (C.written complaints.old) (C.faults complaints.old) (complaint_of (DriveError.BadLine number)) (C.written complaints.new) (C.faults complaints.new)
-        × ((input taken : List ℕ) → S.left source.old ≡ Some input → K.written sink.old ≡ Some taken
+        × ((s : Settings) (input taken : List ℕ) → settings_of (map string_bytes words.now) ≡ Some s
+        → S.left source.old ≡ Some input → K.written sink.old ≡ Some taken
         → StopsAt s input taken (K.written sink.new) number (IsNoEvent s.line_max)) }
-    ensures long_line { (s : Settings) → settings_of (map string_bytes words.now) ≡ Some s
-        → result ≡ 4 → (number : ℕ)
+    ensures long_line { result ≡ 4 → (number : ℕ)
         × Complains (C.written complaints.old) (C.faults complaints.old) (complaint_of (DriveError.LineTooLong number)) (C.written complaints.new) (C.faults complaints.new)
-        × ((input taken : List ℕ) → S.left source.old ≡ Some input → K.written sink.old ≡ Some taken
+        × ((s : Settings) (input taken : List ℕ) → settings_of (map string_bytes words.now) ≡ Some s
+        → S.left source.old ≡ Some input → K.written sink.old ≡ Some taken
         → StopsAt s input taken (K.written sink.new) number (IsLong s.line_max)) }
     ensures complaint { 5 ≤ result → (error : DriveError) × (result ≡ status_of error)
         × Complains (C.written complaints.old) (C.faults complaints.old) (complaint_of error) (C.written complaints.new) (C.faults complaints.new) }
-    ensures out_of_turns { (s : Settings) → settings_of (map string_bytes words.now) ≡ Some s
-        → result ≡ 5
-        → (input : List ℕ) → S.left source.old ≡ Some input → s.turns ≤ length input }
+    ensures out_of_turns { result ≡ 5 → (s : Settings) (input : List ℕ) → settings_of (map string_bytes words.now) ≡ Some s
+        → S.left source.old ≡ Some input → s.turns ≤ length input }
     ensures read_fault { result ≡ 6 → HasRisen (S.faults source.old) (S.faults source.new) }
     ensures write_fault { result ≡ 7 → HasRisen (K.faults sink.old) (K.faults sink.new) }
-    ensures complete { (s : Settings) → settings_of (map string_bytes words.now) ≡ Some s
-        → (input taken : List ℕ) → S.left source.old ≡ Some input → K.written sink.old ≡ Some taken
+    ensures complete { (s : Settings) (input taken : List ℕ) → settings_of (map string_bytes words.now) ≡ Some s
+        → S.left source.old ≡ Some input → K.written sink.old ≡ Some taken
         → IsValid s input → ¬ HasRisen (S.faults source.old) (S.faults source.new)
         → ¬ HasRisen (K.faults sink.old) (K.faults sink.new) → (result ≡ 0) ⊎ (result ≡ 8) }
 {
