@@ -66,14 +66,14 @@ const BAD_WORDS: [&str; 43] = [
 #[test]
 fn bad_words_read_and_write_nothing(rt: HostRuntime) -> Result<(), Fail> {
     for line in BAD_WORDS {
-        let mut source = source(rt.alloc(), FIRST, 4096, 0)?;
-        let mut sink = sink(rt.alloc(), 4096, 0)?;
-        let mut complaints = super::sink(rt.alloc(), 4096, 0)?;
+        let mut script = source(rt.alloc(), FIRST, 4096, 0)?;
+        let mut output = sink(rt.alloc(), 4096, 0)?;
+        let mut complaints = sink(rt.alloc(), 4096, 0)?;
         let status = run(
             rt.alloc(),
             cut(rt.alloc(), line)?.as_slice(),
-            &mut source,
-            &mut sink,
+            &mut script,
+            &mut output,
             &mut complaints,
         );
         assert_eq!(rt; status, 2, "of {line:?}");
@@ -82,10 +82,10 @@ fn bad_words_read_and_write_nothing(rt: HostRuntime) -> Result<(), Fail> {
             b"bad words\n".as_slice(),
             "of {line:?}"
         );
-        assert!(rt; sink.bytes().is_empty(), "of {line:?}");
+        assert!(rt; output.bytes().is_empty(), "of {line:?}");
         let mut left = [0u8; 100];
         assert_eq!(rt;
-            source.read(&mut left).ok(),
+            script.read(&mut left).ok(),
             Some(FIRST.len()),
             "of {line:?}"
         );
@@ -233,35 +233,35 @@ const RUNS: [(&str, &str, u64, u64, u8, &str, &str); 10] = [
 #[test]
 fn statuses_and_complaints(rt: HostRuntime) -> Result<(), Fail> {
     for (line, script, read, write, status, complaint, text) in RUNS {
-        let mut sink = sink(rt.alloc(), 4096, write)?;
-        let mut complaints = super::sink(rt.alloc(), 3, 0)?;
+        let mut output = sink(rt.alloc(), 4096, write)?;
+        let mut complaints = sink(rt.alloc(), 3, 0)?;
         let got = run(
             rt.alloc(),
             cut(rt.alloc(), line)?.as_slice(),
             &mut source(rt.alloc(), script, 4096, read)?,
-            &mut sink,
+            &mut output,
             &mut complaints,
         );
         assert_eq!(rt; got, status, "of {line:?}");
         assert_eq!(rt; complaints.bytes(), complaint.as_bytes(), "of {line:?}");
         let wanted = spelled(rt.alloc(), text)?;
-        assert_eq!(rt; sink.bytes(), wanted.as_slice(), "of {line:?}");
+        assert_eq!(rt; output.bytes(), wanted.as_slice(), "of {line:?}");
     }
     Ok(())
 }
 
 #[test]
 fn no_words_are_the_defaults(rt: HostRuntime) -> Result<(), Fail> {
-    let mut sink = sink(rt.alloc(), 4096, 0)?;
+    let mut output = sink(rt.alloc(), 4096, 0)?;
     let status = run(
         rt.alloc(),
         &[],
         &mut source(rt.alloc(), FIRST, 4096, 0)?,
-        &mut sink,
-        &mut super::sink(rt.alloc(), 1, 0)?,
+        &mut output,
+        &mut sink(rt.alloc(), 1, 0)?,
     );
     assert_eq!(rt; status, 0);
     let wanted = spelled(rt.alloc(), FIRST_TEXT)?;
-    assert_eq!(rt; sink.bytes(), wanted.as_slice());
+    assert_eq!(rt; output.bytes(), wanted.as_slice());
     Ok(())
 }

@@ -1,4 +1,4 @@
-use Rattle.std.proofs.Common.{length, Err, sym, ◌∙◌, ap, subst, inr}
+use Rattle.std.proofs.Common.{Err, sym, ◌∙◌, ap, subst, inr}
 use Rattle.zs_session.specs.declared.errors.DriveError.{DriveError}
 use Rattle.zs_session.specs.Errors.{status_of, complaint_of}
 use Rattle.zs_session.specs.Running.{Complains}
