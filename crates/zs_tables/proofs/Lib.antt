@@ -1,0 +1,6 @@
+pub mod Ascending
+pub mod Searching
+pub mod Keeping
+pub mod Walking
+pub mod Changing
+pub mod Tabled

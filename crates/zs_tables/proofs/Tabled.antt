@@ -1,0 +1,135 @@
+-- What each call makes of the tables.
+use Rattle.std.proofs.Common.{◌≡◌, ℕ, ◌<◌, Bool, true, false, List, [], ◌∷◌, ◌++◌, Option, Some, None, IsSome, Result, Ok, Err, OnOk, OnErr, refl, sym, ap, subst, ◌∙◌, arith}
+use Rattle.std.specs.Prelude.{◌==◌, not, map, filter, All}
+use Rattle.std.specs.Option.{option_map, ForSome}
+use Rattle.std.specs.List.{AllByRecursion, find}
+use Rattle.std.proofs.lemmas.Bool.Decides.{nat_tests}
+use Rattle.std.proofs.lemmas.List.Elements.{recursion_from_All}
+use Rattle.zs_keys.specs.Key.{Key}
+use Rattle.zs_keys.specs.Matching.{intersects}
+use Rattle.zs_wire.specs.declared.wire_expr.Mapping.{Mapping}
+use Rattle.zs_wire.specs.declared.wire_expr.Mapping.TheVariants.{Sender, Receiver}
+use Rattle.zs_tables.specs.declared.subscriber.SubRow.{SubRow}
+use Rattle.zs_tables.specs.declared.number_row.NumberRow.{NumberRow}
+use Rattle.zs_tables.specs.declared.key_ref.KeyRef.TheVariants.{Number}
+use Rattle.zs_tables.specs.Ascending.{Ascend, placed_by}
+use Rattle.zs_tables.specs.Numbers.{NumberedKey, key_at, placed}
+use Rattle.zs_tables.specs.Contents.{Contents, numbers_of, text_meant}
+use Rattle.zs_tables.specs.Recipients.{matches, recipients, is_behind, first_behind, next_recipient}
+use Rattle.zs_tables.specs.Lists.{Listed, shown, held_of, held, noted, forgotten, emptied, chosen, takes_by_id, AreCurrent, AreInOrder}
+use Rattle.zs_tables.proofs.Ascending.{ascend_unmap, ascend_map, ascend_filter, ascend_push}
+use Rattle.zs_tables.proofs.Keeping.{held_same, current_push, current_without, current_emptied, current_nil, current_placed, held_placed, key_of_row}
+use Rattle.zs_tables.proofs.Walking.{first_of_behind, first_of_numbers}
+
+-- tables with the same parts are the same
+pub same_contents : (rows rows' : List SubRow) (own own' told told' : List NumberedKey) → rows ≡ rows' → own ≡ own' → told ≡ told' → let left : Contents = record { rows = rows; own = own; told = told } in let right : Contents = record { rows = rows'; own = own'; told = told' } in left ≡ right
+same_contents rows rows' own own' told told' p q r = λ i. record { rows = p i; own = q i; told = r i }
+
+-- the rows of numbers ascend as they are shown
+pub ascending_rows : (rows : List SubRow) (numbers : List NumberRow) → AreCurrent rows (map shown numbers) → Ascend (λ row. row.number) numbers
+ascending_rows rows numbers is = ascend_unmap (λ (n : Listed). n.number) shown numbers is.ascending
+
+-- what contracts see stays where only the lists change
+pub held_stays : (f : Listed → Listed) → ((n : Listed) → held_of (f n) ≡ held_of n) → (numbers : List NumberRow) (new : List Listed) → new ≡ map f (map shown numbers) → map held_of new ≡ held numbers
+held_stays f same numbers new is = ap (map held_of) is ∙ held_same f same (map shown numbers)
+
+-- with one more subscriber
+pub in_order_push : (row : SubRow) (rows rows' : List SubRow) (own own' told told' : List Listed) → AreInOrder rows own told → All (λ other. other.id < row.id) rows → rows' ≡ rows ++ row ∷ [] → own' ≡ map (noted row.id row.key.text) own → told' ≡ map (noted row.id row.key.text) told → AreInOrder rows' own' told'
+in_order_push row rows rows' own own' told told' is above p q r = rw (p, q, r) (record {
+  ascending = ascend_push (λ (other : SubRow). other.id) rows row is.ascending (recursion_from_All _ rows above);
+  own_current = current_push row rows own is.own_current;
+  told_current = current_push row rows told is.told_current;
+})
+
+-- without a subscriber
+pub in_order_without : (id : ℕ) (rows rows' : List SubRow) (own own' told told' : List Listed) → AreInOrder rows own told → rows' ≡ filter (λ row. not (row.id == id)) rows → own' ≡ map (forgotten id) own → told' ≡ map (forgotten id) told → AreInOrder rows' own' told'
+in_order_without id rows rows' own own' told told' is p q r = rw (p, q, r) (record {
+  ascending = ascend_filter (λ (other : SubRow). other.id) (λ row. not (row.id == id)) rows is.ascending;
+  own_current = current_without id rows own is.own_current;
+  told_current = current_without id rows told is.told_current;
+})
+
+-- without subscribers and own numbers
+pub in_order_cleared : (rows rows' : List SubRow) (own own' told told' : List Listed) → AreInOrder rows own told → rows' ≡ [] → own' ≡ [] → told' ≡ map emptied told → AreInOrder rows' own' told'
+in_order_cleared rows rows' own own' told told' is p q r = rw (p, q, r) (record {
+  ascending = tt;
+  own_current = current_nil [];
+  told_current = current_emptied rows told is.told_current;
+})
+
+-- the rows of a mapping are current
+current_chosen : (mapping : Mapping) (rows : List SubRow) (own told : List NumberRow) → AreInOrder rows (map shown own) (map shown told) → AreCurrent rows (map shown (chosen mapping own told))
+current_chosen Receiver rows own told is = is.own_current
+current_chosen Sender rows own told is = is.told_current
+
+-- the key of the row that is found
+pub key_found : (mapping : Mapping) (number : ℕ) (rows : List SubRow) (own told : List NumberRow) → option_map (λ row. row.key) (find (λ row. row.number == number) (chosen mapping own told)) ≡ key_at number (numbers_of mapping (record { rows = rows; own = held own; told = held told }))
+key_found Receiver number rows own told = sym (key_of_row number own)
+key_found Sender number rows own told = sym (key_of_row number told)
+
+-- what holds of each shown row holds of the one that is found
+all_found : (P : Listed → Type 0) (number : ℕ) (row : NumberRow) (numbers : List NumberRow) → AllByRecursion P (map shown numbers) → find (λ row. row.number == number) numbers ≡ Some row → P (shown row)
+all_found P number row [] all found = absurd (cc)
+all_found P number row (first ∷ numbers) all found = go (first.number == number) refl (all_found P number row numbers all.1)
+  where
+    go : (b : Bool) → (first.number == number) ≡ b → (find (λ row. row.number == number) numbers ≡ Some row → P (shown row)) → P (shown row)
+    go true is ih = let same : first ≡ row = let there = rw is at found in cc in subst (λ (r : NumberRow). P (shown r)) same all.0
+    go false is ih = ih (rw is at found)
+
+-- its list is that of its key
+list_of_found : (mapping : Mapping) (number : ℕ) (rows : List SubRow) (own told : List NumberRow) (row : NumberRow) → AreInOrder rows (map shown own) (map shown told) → find (λ row. row.number == number) (chosen mapping own told) ≡ Some row → row.matches.items ≡ matches row.key.text rows
+list_of_found mapping number rows own told row is found =
+    all_found (λ (n : Listed). n.matches ≡ matches n.key.text rows) number row (chosen mapping own told) (current_chosen mapping rows own told is).current found
+
+-- the list of the row that is found
+pub matches_found : (mapping : Mapping) (number : ℕ) (rows : List SubRow) (own told : List NumberRow) (row : NumberRow) → AreInOrder rows (map shown own) (map shown told) → Some row ≡ find (λ row. row.number == number) (chosen mapping own told) → Some row.matches.items ≡ option_map (λ key. matches key.text rows) (key_at number (numbers_of mapping (record { rows = rows; own = held own; told = held told })))
+matches_found mapping number rows own told row is found =
+    ap Some (list_of_found mapping number rows own told row is (sym found))
+    ∙ ap (option_map (λ (key : Key). matches key.text rows)) (ap (option_map (λ (row : NumberRow). row.key)) found ∙ key_found mapping number rows own told)
+
+-- the list of a key ascends
+matches_ascend : (text : List ℕ) (rows : List SubRow) → Ascend (λ row. row.id) rows → Ascend (λ id. id) (matches text rows)
+matches_ascend text rows up = ascend_map (λ (id : ℕ). id) (λ (row : SubRow). row.id) (filter (λ row. intersects text row.key.text) rows) (ascend_filter (λ (row : SubRow). row.id) (λ row. intersects text row.key.text) rows up)
+
+-- so does the list of the row that is found
+pub list_ascends : (mapping : Mapping) (number : ℕ) (rows : List SubRow) (own told : List NumberRow) (row : NumberRow) → AreInOrder rows (map shown own) (map shown told) → Some row ≡ find (λ row. row.number == number) (chosen mapping own told) → Ascend (λ id. id) row.matches.items
+list_ascends mapping number rows own told row is found =
+    rw (list_of_found mapping number rows own told row is (sym found)) (matches_ascend row.key.text rows is.ascending)
+
+-- by number the first behind the last one that takes it is the next recipient
+pub next_by_number : (mapping : Mapping) (number : ℕ) (local : Bool) (after : Option ℕ) (rows : List SubRow) (own told : List NumberRow) (row : NumberRow) → AreInOrder rows (map shown own) (map shown told) → Some row ≡ find (λ row. row.number == number) (chosen mapping own told) → ForSome (text_meant (Number mapping number) (record { rows = rows; own = held own; told = held told })) (λ text. find (takes_by_id local rows) (filter (is_behind after) row.matches.items) ≡ next_recipient local text after rows)
+next_by_number mapping number local after rows own told row is found text meant =
+    let by_key : option_map (λ (key : Key). key.text) (Some row.key) ≡ Some text = ap (option_map (λ (key : Key). key.text)) (ap (option_map (λ (row : NumberRow). row.key)) found ∙ key_found mapping number rows own told) ∙ meant in
+    let same : row.key.text ≡ text = cc in
+    rw (list_of_found mapping number rows own told row is (sym found))
+    (subst (λ (t : List ℕ). find (takes_by_id local rows) (filter (is_behind after) (matches row.key.text rows)) ≡ next_recipient local t after rows) same (first_of_numbers local row.key.text after rows is.ascending))
+
+-- a number that no row has has no text
+pub unknown : (mapping : Mapping) (number : ℕ) (rows : List SubRow) (own told : List NumberRow) → None ≡ find (λ row. row.number == number) (chosen mapping own told) → IsSome (text_meant (Number mapping number) (record { rows = rows; own = held own; told = held told })) → ⊥
+unknown mapping number rows own told found some =
+    let none : None ≡ key_at number (numbers_of mapping (record { rows = rows; own = held own; told = held told })) = ap (option_map (λ (row : NumberRow). row.key)) found ∙ key_found mapping number rows own told in
+    let there = rw (← none) at some in
+    grind (arith, there)
+
+-- by text the first of the rows behind the last one is the next recipient
+pub next_by_text : (local : Bool) (own_text text : List ℕ) (after : Option ℕ) (rows : List SubRow) → Some own_text ≡ Some text → first_behind None (recipients local own_text (filter (λ row. is_behind after row.id) rows)) ≡ next_recipient local text after rows
+next_by_text local own_text text after rows meant =
+    let same : own_text ≡ text = cc in
+    first_of_behind local own_text after rows ∙ ap (λ (t : List ℕ). next_recipient local t after rows) same
+
+-- the numbers with one more that fits are current, and so are those that were
+pub current_set : {E : Type 0} (r : Result (Unit {0}) E) (new : NumberRow) (rows : List SubRow) (old items : List NumberRow) → AreCurrent rows (map shown old) → new.matches.items ≡ matches new.key.text rows → OnOk r (items ≡ placed_by (λ row. row.number) new old) → OnErr r (items ≡ old) → AreCurrent rows (map shown items)
+current_set (Ok u) new rows old items is fits ok err = rw ok (current_placed new rows old is fits)
+current_set (Err e) new rows old items is fits ok err = rw err is
+
+-- what contracts see of the parts
+abbrev pub seen : List SubRow → List NumberRow → List NumberRow → Contents
+seen rows own told = record { rows = rows; own = held own; told = held told }
+
+pub own_set : {E : Type 0} (r : Result (Unit {0}) E) (new : NumberRow) (rows : List SubRow) (own own' told : List NumberRow) → OnOk r (own' ≡ placed_by (λ row. row.number) new own) → OnOk r (seen rows own' told ≡ record (seen rows own told) { own = placed (held_of (shown new)) (held own) })
+own_set (Ok u) new rows own own' told ok = same_contents _ _ _ _ _ _ refl (ap held ok ∙ held_placed new own) refl
+own_set (Err e) new rows own own' told ok = tt
+
+pub told_set : {E : Type 0} (r : Result (Unit {0}) E) (new : NumberRow) (rows : List SubRow) (own told told' : List NumberRow) → OnOk r (told' ≡ placed_by (λ row. row.number) new told) → OnOk r (seen rows own told' ≡ record (seen rows own told) { told = placed (held_of (shown new)) (held told) })
+told_set (Ok u) new rows own told told' ok = same_contents _ _ _ _ _ _ refl refl (ap held ok ∙ held_placed new told)
+told_set (Err e) new rows own told told' ok = tt

@@ -1,0 +1,23 @@
+use Rattle.std.proofs.Common.{◌++◌, [], ◌∷◌, ap, sym, subst, ◌∙◌, refl}
+use Rattle.std.specs.Prelude.{All, map, ◌<◌}
+use Rattle.zs_tables.specs.Contents.{Contents}
+use Rattle.zs_tables.specs.Lists.{noted}
+use Rattle.zs_tables.proofs.Tabled.{in_order_push, same_contents, held_stays}
+use Rattle.zs_tables.proofs.tables.Tables.add.Goals as goal
+
+pub invariant_of-self-2 : goal.invariant_of-self-2
+invariant_of-self-2 c =
+    let note = map (noted c.args.row.id c.args.row.key.text) in
+    in_order_push c.args.row _ _ _ _ _ _ c.self.invariant
+    (subst (λ (t : Contents). All (λ other. other.id < c.args.row.id) t.rows) (sym c.self.view_is) c.requires)
+    (c.put_last.ensures ∙ ap (λ rows. rows ++ c.args.row ∷ []) c.in_ok-reserve.ensures.items)
+    (c.note.ensures ∙ ap note c.in_ok-reserve_lists.ensures.same)
+    (c.note-2.ensures ∙ ap note c.in_ok-reserve_lists-2.ensures.same)
+
+pub returns-clause-ok : goal.returns-clause-ok
+returns-clause-ok c =
+    let f = noted c.args.row.id c.args.row.key.text in
+    rw (← c.self.view_is) (same_contents _ _ _ _ _ _
+    (c.put_last.ensures ∙ ap (λ rows. rows ++ c.args.row ∷ []) c.in_ok-reserve.ensures.items)
+    (held_stays f (λ n. refl) c.self.inside.own.items _ (c.note.ensures ∙ ap (map f) c.in_ok-reserve_lists.ensures.same))
+    (held_stays f (λ n. refl) c.self.inside.told.items _ (c.note-2.ensures ∙ ap (map f) c.in_ok-reserve_lists-2.ensures.same)))

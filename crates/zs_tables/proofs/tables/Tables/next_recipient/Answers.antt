@@ -1,0 +1,32 @@
+use Rattle.std.proofs.Common.{◌∙◌}
+use Rattle.zs_tables.proofs.Tabled.{ascending_rows, unknown, list_ascends, next_by_number, next_by_text}
+use Rattle.zs_tables.proofs.tables.Tables.next_recipient.Goals as goal
+
+pub find_in-requires-clause-own : goal.find_in-requires-clause-own
+find_in-requires-clause-own g c = rw c.deref.ensures.value (ascending_rows _ _ c.self.invariant.own_current)
+
+pub find_in-requires-clause-told : goal.find_in-requires-clause-told
+find_in-requires-clause-told g c = rw c.deref-in-Number.ensures.value (ascending_rows _ _ c.self.invariant.told_current)
+
+pub unreachable-requires : goal.unreachable-requires
+unreachable-requires g c =
+    let found = rw (c.deref.ensures.value, c.deref-in-Number.ensures.value) at c.in_default.ensures in
+    unknown c.in-Number.mapping c.in-Number.number c.self.inside.rows.items c.self.inside.own.items c.self.inside.told.items found (rw (c.in-Number.is, ← c.self.view_is) at c.requires)
+
+pub ids_behind-requires : goal.ids_behind-requires
+ids_behind-requires g c =
+    let found = rw (c.deref.ensures.value, c.deref-in-Number.ensures.value) at c.in-Some.ensures in
+    rw c.deref-in-Number-3.ensures.value (list_ascends c.in-Number.mapping c.in-Number.number c.self.inside.rows.items c.self.inside.own.items c.self.inside.told.items _ c.self.invariant found)
+
+pub returns-in-Some-clause-next : goal.returns-in-Some-clause-next
+returns-in-Some-clause-next g c =
+    let found = rw (c.deref.ensures.value, c.deref-in-Number.ensures.value) at c.in-Some.ensures in
+    let first = rw (c.ids_behind.ensures, c.deref-in-Number-2.ensures.value, c.deref-in-Number-3.ensures.value) at c.first_by_id.ensures in
+    rw (c.in-Number.is, ← c.self.view_is) (λ text meant.
+    first ∙ next_by_number c.in-Number.mapping c.in-Number.number c.args.local c.args.after c.self.inside.rows.items c.self.inside.own.items c.self.inside.told.items _ c.self.invariant found text meant)
+
+pub returns-in-Text-clause-next : goal.returns-in-Text-clause-next
+returns-in-Text-clause-next g c =
+    let first = rw (c.rows_behind.ensures, c.deref-in-Text.ensures.value) at c.first_by_key.ensures in
+    rw (c.in-Text.is, ← c.self.view_is) (λ text meant.
+    first ∙ next_by_text c.args.local c.in-Text.key.now.text text c.args.after c.self.inside.rows.items meant)

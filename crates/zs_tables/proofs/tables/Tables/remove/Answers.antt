@@ -1,0 +1,30 @@
+use Rattle.std.proofs.Common.{sym, refl, ◌∙◌}
+use Rattle.zs_tables.specs.Lists.{forgotten}
+use Rattle.zs_tables.proofs.Searching.{missing, any_none, filter_none, remove_here}
+use Rattle.zs_tables.proofs.Tabled.{in_order_without, same_contents, held_stays}
+use Rattle.zs_tables.proofs.tables.Tables.remove.Goals as goal
+
+pub returns-in_default-clause-answer : goal.returns-in_default-clause-answer
+returns-in_default-clause-answer c =
+    let place = rw c.deref.ensures.value at c.in_default.ensures in
+    rw (← c.self.view_is) (sym (any_none (λ row. row.id) c.args.id c.self.inside.rows.items (missing (λ row. row.id) c.args.id _ _ place)))
+
+pub returns-in_default-clause-rows : goal.returns-in_default-clause-rows
+returns-in_default-clause-rows c =
+    let place = rw c.deref.ensures.value at c.in_default.ensures in
+    rw (← c.self.view_is) (same_contents _ _ _ _ _ _ (sym (filter_none (λ row. row.id) c.args.id c.self.inside.rows.items (missing (λ row. row.id) c.args.id _ _ place))) refl refl)
+
+pub invariant_of-self : goal.invariant_of-self
+invariant_of-self c =
+    let place = rw c.deref.ensures.value at c.in-Ok.ensures in
+    in_order_without c.args.id _ _ _ _ _ _ c.self.invariant
+    (c.remove.ensures.items ∙ remove_here (λ row. row.id) c.args.id c.self.inside.rows.items _ c.self.invariant.ascending place.0 place.1)
+    c.forget.ensures c.forget-2.ensures
+
+pub returns-clause-rows : goal.returns-clause-rows
+returns-clause-rows c =
+    let place = rw c.deref.ensures.value at c.in-Ok.ensures in
+    rw (← c.self.view_is) (same_contents _ _ _ _ _ _
+    (c.remove.ensures.items ∙ remove_here (λ row. row.id) c.args.id c.self.inside.rows.items _ c.self.invariant.ascending place.0 place.1)
+    (held_stays (forgotten c.args.id) (λ n. refl) c.self.inside.own.items _ c.forget.ensures)
+    (held_stays (forgotten c.args.id) (λ n. refl) c.self.inside.told.items _ c.forget-2.ensures))

@@ -1,0 +1,41 @@
+use Rattle.std.proofs.Common.{ap, ◌∙◌, refl}
+use Rattle.zs_tables.specs.Lists.{held}
+use Rattle.zs_tables.proofs.Keeping.{current_filter, held_without, has_key}
+use Rattle.zs_tables.proofs.Tabled.{ascending_rows, same_contents}
+use Rattle.zs_tables.proofs.tables.Tables.unset.Goals as goal
+
+pub take_out-requires : goal.take_out-requires
+take_out-requires c = ascending_rows _ _ c.self.invariant.own_current
+
+pub invariant_of-self : goal.invariant_of-self
+invariant_of-self c = record {
+  ascending = c.self.invariant.ascending;
+  own_current = rw c.take_out.ensures.numbers (current_filter c.args.number _ _ c.self.invariant.own_current);
+  told_current = c.self.invariant.told_current;
+}
+
+pub returns-in-Receiver-clause-answer : goal.returns-in-Receiver-clause-answer
+returns-in-Receiver-clause-answer c = rw (c.in-Receiver.is, ← c.self.view_is) (c.take_out.ensures.answer ∙ has_key c.args.number c.self.inside.own.items)
+
+pub returns-in-Receiver-clause-numbers : goal.returns-in-Receiver-clause-numbers
+returns-in-Receiver-clause-numbers c =
+    let less = ap held c.take_out.ensures.numbers ∙ held_without c.args.number c.self.inside.own.items in
+    rw (c.in-Receiver.is, ← c.self.view_is) (same_contents _ _ _ _ _ _ refl less refl)
+
+pub take_out-requires-in-Sender : goal.take_out-requires-in-Sender
+take_out-requires-in-Sender c = ascending_rows _ _ c.self.invariant.told_current
+
+pub invariant_of-self-in-Sender : goal.invariant_of-self-in-Sender
+invariant_of-self-in-Sender c = record {
+  ascending = c.self.invariant.ascending;
+  own_current = c.self.invariant.own_current;
+  told_current = rw c.take_out-in-Sender.ensures.numbers (current_filter c.args.number _ _ c.self.invariant.told_current);
+}
+
+pub returns-in-Sender-clause-answer : goal.returns-in-Sender-clause-answer
+returns-in-Sender-clause-answer c = rw (c.in-Sender.is, ← c.self.view_is) (c.take_out-in-Sender.ensures.answer ∙ has_key c.args.number c.self.inside.told.items)
+
+pub returns-in-Sender-clause-numbers : goal.returns-in-Sender-clause-numbers
+returns-in-Sender-clause-numbers c =
+    let less = ap held c.take_out-in-Sender.ensures.numbers ∙ held_without c.args.number c.self.inside.told.items in
+    rw (c.in-Sender.is, ← c.self.view_is) (same_contents _ _ _ _ _ _ refl refl less)

@@ -1,0 +1,20 @@
+//! The live subscribers of a session and its declared key numbers. Each number keeps the list of the subscribers that
+//! a publication on its key may reach, so that a publication by number tests no keys.
+#![tactic(auto)]
+
+pub use key_ref::KeyRef;
+pub use laws::{each_is_next, next_is_least, walk_visits_all};
+pub use subscriber::SubRow;
+pub use tables::Tables;
+
+mod key_ref;
+mod laws;
+mod lists;
+mod number_row;
+mod numbers;
+mod places;
+mod recipients;
+mod subscriber;
+mod tables;
+#[cfg(test)]
+mod tests;

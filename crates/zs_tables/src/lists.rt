@@ -1,0 +1,105 @@
+//! The lists that the numbers keep.
+
+ghost use Rattle.std.specs.Prelude.{◌≡◌, ◌<◌, ◌==◌, ◌++◌, [], ◌∷◌, vec_len, vec_capacity, All, map, filter, not, IfOk, OnOk};
+ghost use Rattle.zs_tables.specs.Recipients.{matches};
+ghost use Rattle.zs_tables.specs.Lists.{shown, HasRoom, noted, forgotten, emptied};
+
+use crate::number_row::NumberRow;
+use crate::subscriber::SubRow;
+use std::alloc::{AllocError, Global};
+use zs_keys::KeyExpr;
+
+/// The list of a key: the ids of the rows whose key has a key in common with it.
+pub(crate) fn matching(
+    alloc: Global,
+    key: &KeyExpr<'_>,
+    rows: &[SubRow],
+) -> Result<Vec<u32>, AllocError>
+    ensures { IfOk result (λ ids. ids.items ≡ matches key.now.text rows.now) }
+{
+    rows.iter()
+        .filter(|row| key.meets(&row.key))
+        .map(|row| row.id)
+        .collect(alloc)
+}
+
+/// Makes room for one more id in each list.
+pub(crate) fn reserve_lists(numbers: &mut Vec<NumberRow>) -> Result<(), AllocError>
+    ensures same { map shown numbers.new.items ≡ map shown numbers.old.items }
+    ensures room { OnOk result (All HasRoom numbers.new.items) }
+{
+    for row in numbers.iter_mut() {
+        reserve(row)?;
+    }
+    Ok(())
+}
+
+fn reserve(row: &mut NumberRow) -> Result<(), AllocError>
+    ensures same { shown row.new ≡ shown row.old }
+    ensures room { OnOk result (HasRoom row.new) }
+{
+    row.matches.reserve(1)
+}
+
+/// Puts a new subscriber at the end of each list whose key has a key in common with its own.
+pub(crate) fn note(numbers: &mut Vec<NumberRow>, id: u32, key: &KeyExpr<'_>)
+    requires { All HasRoom numbers.old.items }
+    ensures { map shown numbers.new.items ≡ map (noted id key.now.text) (map shown numbers.old.items) }
+{
+    for row in numbers.iter_mut() {
+        note_one(row, id, key);
+    }
+}
+
+fn note_one(row: &mut NumberRow, id: u32, key: &KeyExpr<'_>)
+    requires { HasRoom row.old }
+    ensures { shown row.new ≡ noted id key.now.text (shown row.old) }
+{
+    if row.key.meets(key) {
+        let _ = row.matches.push(id);
+    }
+}
+
+/// Takes a subscriber out of each list.
+pub(crate) fn forget(numbers: &mut Vec<NumberRow>, id: u32)
+    ensures { map shown numbers.new.items ≡ map (forgotten id) (map shown numbers.old.items) }
+{
+    for row in numbers.iter_mut() {
+        forget_one(row, id);
+    }
+}
+
+fn forget_one(row: &mut NumberRow, id: u32)
+    ensures { shown row.new ≡ forgotten id (shown row.old) }
+{
+    leave_out(&mut row.matches, id);
+}
+
+fn leave_out(ids: &mut Vec<u32>, id: u32)
+    ensures { ids.new.items ≡ filter (λ other. not (other == id)) ids.old.items }
+{
+    ids.retain(|other| *other != id);
+}
+
+/// Empties each list.
+pub(crate) fn empty_lists(numbers: &mut Vec<NumberRow>)
+    ensures { map shown numbers.new.items ≡ map emptied (map shown numbers.old.items) }
+{
+    for row in numbers.iter_mut() {
+        empty(row);
+    }
+}
+
+fn empty(row: &mut NumberRow)
+    ensures { shown row.new ≡ emptied (shown row.old) }
+{
+    row.matches.clear();
+}
+
+/// Puts a row behind the others, where there is room.
+pub(crate) fn put_last(rows: &mut Vec<SubRow>, row: SubRow)
+    requires { vec_len rows.old < vec_capacity rows.old }
+    ensures { rows.new.items ≡ rows.old.items ++ row ∷ [] }
+{
+    let _ = rows.push(row);
+}

@@ -1,0 +1,88 @@
+//! Places in ascending rows, by binary search.
+
+ghost use Rattle.std.specs.Prelude.{◌≡◌, ◌==◌, filter, OnOk, OnErr};
+ghost use Rattle.std.specs.List.{find};
+ghost use Rattle.std.specs.Option.{option_copied};
+ghost use Rattle.zs_tables.specs.Ascending.{Ascend, IsPlaceOf, placed_by};
+ghost use Rattle.zs_tables.specs.Recipients.{is_behind};
+
+use crate::number_row::NumberRow;
+use crate::subscriber::SubRow;
+use std::alloc::AllocError;
+
+/// Where a number stands, or where it would go.
+pub(crate) fn place_of(numbers: &[NumberRow], number: u16) -> Result<usize, usize>
+    requires { Ascend (λ row. row.number) numbers.now }
+    ensures { IsPlaceOf (λ row. row.number) number numbers.now result }
+{
+    numbers.binary_search_by_key(&number, |row| row.number)
+}
+
+/// Where a subscriber stands, or where it would go.
+pub(crate) fn row_place(rows: &[SubRow], id: u32) -> Result<usize, usize>
+    requires { Ascend (λ row. row.id) rows.now }
+    ensures { IsPlaceOf (λ row. row.id) id rows.now result }
+{
+    rows.binary_search_by_key(&id, |row| row.id)
+}
+
+/// The row of a number.
+pub(crate) fn find(numbers: &[NumberRow], number: u16) -> Option<&NumberRow>
+    requires { Ascend (λ row. row.number) numbers.now }
+    ensures { option_copied result ≡ find (λ row. row.number == number) numbers.now }
+{
+    match place_of(numbers, number) {
+        Ok(at) => Some(&numbers[at]),
+        Err(_) => None,
+    }
+}
+
+/// The row of a subscriber.
+pub(crate) fn find_row(rows: &[SubRow], id: u32) -> Option<&SubRow>
+    requires { Ascend (λ row. row.id) rows.now }
+    ensures { option_copied result ≡ find (λ row. row.id == id) rows.now }
+{
+    match row_place(rows, id) {
+        Ok(at) => Some(&rows[at]),
+        Err(_) => None,
+    }
+}
+
+/// Puts a row of numbers where it belongs, over one with its number.
+pub(crate) fn place(numbers: &mut Vec<NumberRow>, new: NumberRow) -> Result<(), AllocError>
+    requires { Ascend (λ row. row.number) numbers.old.items }
+    ensures ok { OnOk result (numbers.new.items ≡ placed_by (λ row. row.number) new numbers.old.items) }
+    ensures err { OnErr result (numbers.new.items ≡ numbers.old.items) }
+{
+    match place_of(numbers, new.number) {
+        Ok(at) => {
+            numbers[at] = new;
+            Ok(())
+        }
+        Err(at) => Ok(numbers.insert(at, new)?),
+    }
+}
+
+/// The rows behind the last one, if there was one.
+pub(crate) fn rows_behind(rows: &[SubRow], after: Option<u32>) -> &[SubRow]
+    requires { Ascend (λ row. row.id) rows.now }
+    ensures { result.now ≡ filter (λ row. is_behind after row.id) rows.now }
+{
+    let Some(after) = after else {
+        return rows;
+    };
+    let start = rows.partition_point(|row| row.id <= after);
+    &rows[start..]
+}
+
+/// The ids behind the last one, if there was one.
+pub(crate) fn ids_behind(ids: &[u32], after: Option<u32>) -> &[u32]
+    requires { Ascend (λ id. id) ids.now }
+    ensures { result.now ≡ filter (is_behind after) ids.now }
+{
+    let Some(after) = after else {
+        return ids;
+    };
+    let start = ids.partition_point(|id| *id <= after);
+    &ids[start..]
+}

@@ -1,0 +1,199 @@
+ghost use Rattle.std.specs.Prelude.{◌≡◌, ◌<◌, ◌==◌, ◌++◌, [], ◌∷◌, All, not, filter, IsSome, OnOk, OnErr};
+ghost use Rattle.std.specs.List.{list_any};
+ghost use Rattle.std.specs.Option.{option_map, option_copied, ForSome, is_some};
+ghost use Rattle.zs_tables.specs.Ascending.{Ascend};
+ghost use Rattle.zs_tables.specs.Numbers.{key_at, number_at, placed, without};
+ghost use Rattle.zs_tables.specs.Contents.{numbers_of, with_numbers, text_meant, IsByNumber};
+ghost use Rattle.zs_tables.specs.Recipients.{matches, next_recipient};
+
+use crate::key_ref::KeyRef;
+use crate::lists::{empty_lists, forget, matching, note, put_last, reserve_lists};
+use crate::number_row::NumberRow;
+use crate::numbers::{find_in, first_of_text, take_out};
+use crate::places::{ids_behind, place, row_place, rows_behind};
+use crate::recipients::{first_by_id, first_by_key};
+use crate::subscriber::SubRow;
+use std::alloc::{AllocError, Global};
+use std::marker::Model;
+use std::sync::ledger::Ledger;
+use zs_keys::{KeyExpr, Steps};
+use zs_wire::Mapping;
+
+/// The live subscribers in ascending id, and the declared numbers of both mappings with their keys. Each number keeps
+/// the list of the subscribers whose key has a key in common with its own, and each change brings the lists up to
+/// date: a new subscriber is tested against each number, a new key against each subscriber, and a look-up by number
+/// against none. No call that answers want of memory has changed anything.
+#[derive(Drop)]
+pub struct Tables {
+    alloc: Global,
+    rows: Vec<SubRow>,
+    own: Vec<NumberRow>,
+    told: Vec<NumberRow>,
+}
+
+impl Model for Tables {
+    ghost use Rattle.std.specs.Prelude.{map};
+    ghost use Rattle.zs_tables.specs.Contents.{Contents};
+    ghost use Rattle.zs_tables.specs.Lists.{shown, held, AreInOrder};
+
+    ghost Value = { Contents };
+
+    ghost view = { λ t. record { rows = t.rows.items; own = held t.own.items; told = held t.told.items } };
+
+    ghost invariant = { λ t. AreInOrder t.rows.items (map shown t.own.items) (map shown t.told.items) };
+}
+
+impl Tables {
+    /// Tables of no subscribers and no numbers, which take their memory from `alloc`.
+    pub fn new(alloc: Global) -> Tables
+        ensures { result ≡ record { rows = []; own = []; told = [] } }
+    {
+        Tables {
+            alloc,
+            rows: Vec::new(alloc),
+            own: Vec::new(alloc),
+            told: Vec::new(alloc),
+        }
+    }
+
+    /// Puts a subscriber behind all others.
+    ///
+    /// # Errors
+    ///
+    /// Want of memory alone.
+    pub fn add(&mut self, row: SubRow) -> Result<(), AllocError>
+        requires { All (λ other. other.id < row.id) self.old.rows }
+        ensures ok { OnOk result (self.new ≡ record self.old { rows = self.old.rows ++ row ∷ [] }) }
+        ensures err { OnErr result (self.new ≡ self.old) }
+    {
+        self.rows.reserve(1)?;
+        reserve_lists(&mut self.own)?;
+        reserve_lists(&mut self.told)?;
+        note(&mut self.own, row.id, &row.key);
+        note(&mut self.told, row.id, &row.key);
+        put_last(&mut self.rows, row);
+        Ok(())
+    }
+
+    /// Takes a subscriber out, and says whether it was there.
+    pub fn remove(&mut self, id: u32) -> bool
+        ensures answer { result ≡ list_any (λ row. row.id == id) self.old.rows }
+        ensures rows { self.new ≡ record self.old { rows = filter (λ row. not (row.id == id)) self.old.rows } }
+    {
+        let Ok(at) = row_place(&self.rows, id) else {
+            return false;
+        };
+        forget(&mut self.own, id);
+        forget(&mut self.told, id);
+        let _ = self.rows.remove(at);
+        true
+    }
+
+    /// Lets a number stand for a key, in place of one that it stood for.
+    ///
+    /// # Errors
+    ///
+    /// Want of memory alone.
+    pub fn set(
+        &mut self,
+        mapping: Mapping,
+        number: u16,
+        key: KeyExpr<'static>,
+    ) -> Result<(), AllocError>
+        ensures ok { OnOk result (self.new ≡ with_numbers mapping
+            (placed (record { number = number; key = key.entry }) (numbers_of mapping self.old)) self.old) }
+        ensures err { OnErr result (self.new ≡ self.old) }
+    {
+        let matches = matching(self.alloc, &key, &self.rows)?;
+        let new = NumberRow {
+            number,
+            key,
+            matches,
+        };
+        match mapping {
+            Mapping::Receiver => place(&mut self.own, new),
+            Mapping::Sender => place(&mut self.told, new),
+        }
+    }
+
+    /// Takes a number out, and says whether it was there.
+    pub fn unset(&mut self, mapping: Mapping, number: u16) -> bool
+        ensures answer { result ≡ is_some (key_at number (numbers_of mapping self.old)) }
+        ensures numbers { self.new ≡ with_numbers mapping (without number (numbers_of mapping self.old)) self.old }
+    {
+        match mapping {
+            Mapping::Receiver => take_out(&mut self.own, number),
+            Mapping::Sender => take_out(&mut self.told, number),
+        }
+    }
+
+    /// Takes all subscribers out, and all numbers that this session declared. Those that the other side declared stay.
+    pub fn clear(&mut self)
+        ensures { self.new ≡ record self.old { rows = []; own = [] } }
+    {
+        self.rows.clear();
+        self.own.clear();
+        empty_lists(&mut self.told);
+    }
+
+    /// The key that a number stands for, if it stands for one.
+    pub fn key_of(&self, mapping: Mapping, number: u16) -> Option<&KeyExpr<'static>>
+        ensures { option_copied result ≡ key_at number (numbers_of mapping self.now) }
+    {
+        let Some(row) = find_in(mapping, &self.own, &self.told, number) else {
+            return None;
+        };
+        Some(&row.key)
+    }
+
+    /// The least number of this session's own that stands for a text, if there is one.
+    pub fn number_of(&self, text: &str) -> Option<u16>
+        ensures { result ≡ number_at text.now self.now.own }
+    {
+        first_of_text(&self.own, text)
+    }
+
+    /// The subscribers, in ascending id.
+    pub fn rows(&self) -> &[SubRow]
+        ensures rows { result.now ≡ self.now.rows }
+        ensures ascending { Ascend (λ row. row.id) self.now.rows }
+    {
+        &self.rows
+    }
+
+    /// The ascending ids of the subscribers whose key has a key in common with the number's, if it stands for one. It
+    /// reads the list that the number keeps.
+    pub fn matches_of(&self, mapping: Mapping, number: u16) -> Option<&[u32]>
+        ensures { option_copied result
+            ≡ option_map (λ key. matches key.text self.now.rows) (key_at number (numbers_of mapping self.now)) }
+    {
+        let Some(row) = find_in(mapping, &self.own, &self.told, number) else {
+            return None;
+        };
+        Some(&row.matches)
+    }
+
+    /// The next subscriber behind the last one, if there was one, that receives a publication on that key. `local`
+    /// says that the publication was made in this session. By number it reads the list that the number keeps.
+    pub fn next_recipient<L: Ledger>(
+        &self,
+        key: KeyRef<'_>,
+        local: bool,
+        after: Option<u32>,
+        steps: &mut Steps<L>,
+    ) -> Option<u32>
+        requires { IsSome (text_meant key self.now) }
+        ensures next { ForSome (text_meant key.entry self.now) (λ text. result ≡ next_recipient local text after self.now.rows) }
+        ensures uncounted { IsByNumber key.entry → steps.new ≡ steps.old }
+    {
+        match key {
+            KeyRef::Number(mapping, number) => {
+                let Some(row) = find_in(mapping, &self.own, &self.told, number) else {
+                    unreachable!()
+                };
+                first_by_id(local, &self.rows, ids_behind(&row.matches, after))
+            }
+            KeyRef::Text(key) => first_by_key(local, rows_behind(&self.rows, after), key, steps),
+        }
+    }
+}
