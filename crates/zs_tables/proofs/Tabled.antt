@@ -6,7 +6,6 @@ use Rattle.std.specs.List.{AllByRecursion, find}
 use Rattle.std.proofs.lemmas.Bool.Decides.{nat_tests}
 use Rattle.std.proofs.lemmas.List.Elements.{recursion_from_All}
 use Rattle.zs_keys.specs.Key.{Key}
-use Rattle.zs_keys.specs.Matching.{intersects}
 use Rattle.zs_wire.specs.declared.wire_expr.Mapping.{Mapping}
 use Rattle.zs_wire.specs.declared.wire_expr.Mapping.TheVariants.{Sender, Receiver}
 use Rattle.zs_tables.specs.declared.subscriber.SubRow.{SubRow}
@@ -15,11 +14,11 @@ use Rattle.zs_tables.specs.declared.key_ref.KeyRef.TheVariants.{Number}
 use Rattle.zs_tables.specs.Ascending.{Ascend, placed_by}
 use Rattle.zs_tables.specs.Numbers.{NumberedKey, key_at, placed}
 use Rattle.zs_tables.specs.Contents.{Contents, numbers_of, text_meant}
-use Rattle.zs_tables.specs.Recipients.{matches, recipients, is_behind, first_behind, next_recipient}
+use Rattle.zs_tables.specs.Recipients.{matches, recipients, is_behind, first_behind, next_recipient, GoesOn}
 use Rattle.zs_tables.specs.Lists.{Listed, shown, held_of, held, noted, forgotten, emptied, chosen, takes_by_id, AreCurrent, AreInOrder}
-use Rattle.zs_tables.proofs.Ascending.{ascend_unmap, ascend_map, ascend_filter, ascend_push}
+use Rattle.zs_tables.proofs.Ascending.{ascend_unmap, ascend_filter, ascend_push}
 use Rattle.zs_tables.proofs.Keeping.{held_same, current_push, current_without, current_emptied, current_nil, current_placed, held_placed, key_of_row}
-use Rattle.zs_tables.proofs.Walking.{first_of_behind, first_of_numbers}
+use Rattle.zs_tables.proofs.Walking.{first_of_behind, first_of_numbers, matches_ascend, each_is_next}
 
 -- tables with the same parts are the same
 pub same_contents : (rows rows' : List SubRow) (own own' told told' : List NumberedKey) → rows ≡ rows' → own ≡ own' → told ≡ told' → let left : Contents = record { rows = rows; own = own; told = told } in let right : Contents = record { rows = rows'; own = own'; told = told' } in left ≡ right
@@ -87,11 +86,7 @@ matches_found mapping number rows own told row is found =
     ap Some (list_of_found mapping number rows own told row is (sym found))
     ∙ ap (option_map (λ (key : Key). matches key.text rows)) (ap (option_map (λ (row : NumberRow). row.key)) found ∙ key_found mapping number rows own told)
 
--- the list of a key ascends
-matches_ascend : (text : List ℕ) (rows : List SubRow) → Ascend (λ row. row.id) rows → Ascend (λ id. id) (matches text rows)
-matches_ascend text rows up = ascend_map (λ (id : ℕ). id) (λ (row : SubRow). row.id) (filter (λ row. intersects text row.key.text) rows) (ascend_filter (λ (row : SubRow). row.id) (λ row. intersects text row.key.text) rows up)
-
--- so does the list of the row that is found
+-- the list of the row that is found ascends
 pub list_ascends : (mapping : Mapping) (number : ℕ) (rows : List SubRow) (own told : List NumberRow) (row : NumberRow) → AreInOrder rows (map shown own) (map shown told) → Some row ≡ find (λ row. row.number == number) (chosen mapping own told) → Ascend (λ id. id) row.matches.items
 list_ascends mapping number rows own told row is found =
     rw (list_of_found mapping number rows own told row is (sym found)) (matches_ascend row.key.text rows is.ascending)
@@ -133,3 +128,7 @@ own_set (Err e) new rows own own' told ok = tt
 pub told_set : {E : Type 0} (r : Result (Unit {0}) E) (new : NumberRow) (rows : List SubRow) (own told told' : List NumberRow) → OnOk r (told' ≡ placed_by (λ row. row.number) new told) → OnOk r (seen rows own told' ≡ record (seen rows own told) { told = placed (held_of (shown new)) (held told) })
 told_set (Ok u) new rows own told told' ok = same_contents _ _ _ _ _ _ refl refl (ap held ok ∙ held_placed new told)
 told_set (Err e) new rows own told told' ok = tt
+
+-- from each next recipient the walk goes on
+pub goes_on : (meant : Option (List ℕ)) (local : Bool) (after next : Option ℕ) (rows : List SubRow) → Ascend (λ row. row.id) rows → ForSome meant (λ text. next ≡ next_recipient local text after rows) → ForSome meant (λ text. GoesOn local text after rows next)
+goes_on meant local after next rows up is text for = subst (λ (n : Option ℕ). GoesOn local text after rows n) (sym (is text for)) (each_is_next local text after rows up)

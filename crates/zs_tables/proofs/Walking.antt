@@ -8,9 +8,9 @@ use Rattle.std.proofs.lemmas.List.Filters.{length-filter_both}
 use Rattle.zs_keys.specs.Matching.{intersects}
 use Rattle.zs_tables.specs.declared.subscriber.SubRow.{SubRow}
 use Rattle.zs_tables.specs.Ascending.{Ascend}
-use Rattle.zs_tables.specs.Recipients.{matches, takes, receives, recipients, is_behind, first_behind, next_recipient}
+use Rattle.zs_tables.specs.Recipients.{matches, takes, receives, recipients, is_behind, first_behind, next_recipient, onward, left_behind, GoesOn}
 use Rattle.zs_tables.specs.Lists.{takes_by_id}
-use Rattle.zs_tables.specs.Laws.{NextIsLeast, EachIsNext, WalkVisitsAll, is_next, left_behind, onward, visited}
+use Rattle.zs_tables.specs.Laws.{NextIsLeast, EachIsNext, WalkVisitsAll, MatchesAscend, is_next, visited}
 use Rattle.zs_tables.proofs.Ascending.{all_weaker, all_both, ascend_map, ascend_filter}
 use Rattle.zs_tables.proofs.Searching.{all_behind}
 
@@ -94,12 +94,16 @@ ids_next after (id ∷ ids) up = go (is_behind after id) refl (first_behind afte
         let below : nat_lt next id ≡ false = grind (arith, nat_tests, lt) in
         rw (is, found, below) (rw found at ih)
 
+pub matches_ascend : MatchesAscend
+matches_ascend text rows up = ascend_map (λ (id : ℕ). id) (λ (row : SubRow). row.id) (filter (λ row. intersects text row.key.text) rows) (ascend_filter (λ (row : SubRow). row.id) (λ row. intersects text row.key.text) rows up)
+
 -- the recipients ascend
 recipients_ascend : (local : Bool) (text : List ℕ) (rows : List SubRow) → Ascend (λ row. row.id) rows → Ascend (λ id. id) (recipients local text rows)
 recipients_ascend local text rows up = ascend_map (λ (id : ℕ). id) (λ (row : SubRow). row.id) (filter (receives local text) rows) (ascend_filter (λ (row : SubRow). row.id) (receives local text) rows up)
 
 pub each_is_next : EachIsNext
-each_is_next local text after rows up = ids_next after (recipients local text rows) (recipients_ascend local text rows up)
+each_is_next local text None rows up = all_behind (λ (id : ℕ). id) (recipients local text rows) ∙ ids_next None (recipients local text rows) (recipients_ascend local text rows up)
+each_is_next local text (Some after) rows up = ids_next (Some after) (recipients local text rows) (recipients_ascend local text rows up)
 
 -- a walk of enough steps visits all that is left
 walk_visits : (local : Bool) (text : List ℕ) (rows : List SubRow) → Ascend (λ row. row.id) rows → (steps : ℕ) (after : Option ℕ) → length (left_behind local text after rows) ≤ steps → visited (λ after. next_recipient local text after rows) steps after ≡ left_behind local text after rows
@@ -117,8 +121,7 @@ walk_visits local text rows up (suc steps) after short = go (next_recipient loca
 
 pub walk_visits_all : WalkVisitsAll
 walk_visits_all local text rows up =
-    let all = all_behind (λ (id : ℕ). id) (recipients local text rows) in
-    walk_visits local text rows up (length rows) None (omega (arith, ap length all, length-map (filter (receives local text) rows) (λ (row : SubRow). row.id), length-filter_both (receives local text) (λ row. not (receives local text row)) (λ row. refl) rows)) ∙ sym all
+    walk_visits local text rows up (length rows) None (omega (arith, length-map (filter (receives local text) rows) (λ (row : SubRow). row.id), length-filter_both (receives local text) (λ row. not (receives local text row)) (λ row. refl) rows))
 
 -- the next recipient of one more row
 first_more : (local : Bool) (text : List ℕ) (after : Option ℕ) (row : SubRow) (rows : List SubRow) → next_recipient local text after (row ∷ rows) ≡ (if is_next local text after row then Some row.id else next_recipient local text after rows)

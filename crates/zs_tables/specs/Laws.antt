@@ -3,7 +3,7 @@ use Rattle.std.specs.Prelude.{◌≡◌, ◌≤◌, ◌==◌, ℕ, zero, suc, Bo
 use Rattle.std.specs.List.{list_any, AllByRecursion}
 use Rattle.zs_tables.specs.declared.subscriber.SubRow.{SubRow}
 use Rattle.zs_tables.specs.Ascending.{Ascend}
-use Rattle.zs_tables.specs.Recipients.{receives, recipients, is_behind, next_recipient}
+use Rattle.zs_tables.specs.Recipients.{matches, receives, recipients, is_behind, next_recipient, onward, GoesOn}
 
 -- a subscriber behind the last one that receives the publication
 abbrev pub is_next : Bool → List ℕ → Option ℕ → SubRow → Bool
@@ -18,20 +18,11 @@ NextIsLeast =
     (λ id. IsTrue (list_any (λ row. row.id == id && is_next local text after row) rows)
     × AllByRecursion (λ row. IsTrue (is_next local text after row) → id ≤ row.id) rows)
 
--- what is left to visit behind the last one
-abbrev pub left_behind : Bool → List ℕ → Option ℕ → List SubRow → List ℕ
-left_behind local text after rows = filter (is_behind after) (recipients local text rows)
-
--- the next one, if there is one, and what follows it
-abbrev pub onward : (ℕ → List ℕ) → Option ℕ → List ℕ
-onward rest None = []
-onward rest (Some id) = id ∷ rest id
-
--- what is left is the next recipient, and what is left behind it
+-- what a walk has left is the next recipient, and what it has left behind that one
 abbrev pub EachIsNext : Type 0
 EachIsNext =
     (local : Bool) (text : List ℕ) (after : Option ℕ) (rows : List SubRow) → Ascend (λ row. row.id) rows
-    → left_behind local text after rows ≡ onward (λ id. left_behind local text (Some id) rows) (next_recipient local text after rows)
+    → GoesOn local text after rows (next_recipient local text after rows)
 
 -- the ids that a walk of so many steps visits behind the last one
 abbrev pub visited : (Option ℕ → Option ℕ) → ℕ → Option ℕ → List ℕ
@@ -43,3 +34,7 @@ abbrev pub WalkVisitsAll : Type 0
 WalkVisitsAll =
     (local : Bool) (text : List ℕ) (rows : List SubRow) → Ascend (λ row. row.id) rows
     → visited (λ after. next_recipient local text after rows) (length rows) None ≡ recipients local text rows
+
+-- the list of a number ascends, and so no subscriber is there twice
+abbrev pub MatchesAscend : Type 0
+MatchesAscend = (text : List ℕ) (rows : List SubRow) → Ascend (λ row. row.id) rows → Ascend (λ id. id) (matches text rows)

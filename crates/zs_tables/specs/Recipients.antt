@@ -1,5 +1,5 @@
 -- Who receives a publication.
-use Rattle.std.specs.Prelude.{ℕ, nat_lt, Bool, true, false, ◌&&◌, List, [], ◌∷◌, Option, Some, None, map, filter, if◌then◌else◌}
+use Rattle.std.specs.Prelude.{◌≡◌, ℕ, nat_lt, Bool, true, false, ◌&&◌, List, [], ◌∷◌, Option, Some, None, map, filter, if◌then◌else◌}
 use Rattle.zs_keys.specs.Matching.{intersects}
 use Rattle.zs_sample.specs.declared.locality.Locality.{Locality}
 use Rattle.zs_sample.specs.declared.locality.Locality.TheVariants.{SessionLocal, Remote, Any}
@@ -46,3 +46,22 @@ first_behind after (id ∷ ids) = if is_behind after id then Some id else first_
 -- the next subscriber that receives a publication on this text, behind the last one
 abbrev pub next_recipient : Bool → List ℕ → Option ℕ → List SubRow → Option ℕ
 next_recipient local text after rows = first_behind after (recipients local text rows)
+
+-- the ids that are above the last one, if there was one
+abbrev pub ids_behind : Option ℕ → List ℕ → List ℕ
+ids_behind None ids = ids
+ids_behind (Some after) ids = filter (nat_lt after) ids
+
+-- the next id, if there is one, and what follows it
+abbrev pub onward : (ℕ → List ℕ) → Option ℕ → List ℕ
+onward rest None = []
+onward rest (Some id) = id ∷ rest id
+
+-- what a walk over the recipients has left behind the last one
+abbrev pub left_behind : Bool → List ℕ → Option ℕ → List SubRow → List ℕ
+left_behind local text after rows = ids_behind after (recipients local text rows)
+
+-- it is the next one, and what the walk has left behind that one
+abbrev pub GoesOn : Bool → List ℕ → Option ℕ → List SubRow → Option ℕ → Type 0
+GoesOn local text after rows next =
+    left_behind local text after rows ≡ onward (λ id. left_behind local text (Some id) rows) next

@@ -1,6 +1,6 @@
 //! Laws over the definitions: each is the contract of a function that does nothing.
 
-ghost use Rattle.zs_tables.specs.Laws.{NextIsLeast, EachIsNext, WalkVisitsAll};
+ghost use Rattle.zs_tables.specs.Laws.{NextIsLeast, EachIsNext, WalkVisitsAll, MatchesAscend};
 
 /// The next recipient behind the last one is a subscriber that receives the publication, and no subscriber that
 /// receives it stands between the two. Where there is none, no subscriber behind the last one receives it.
@@ -17,4 +17,9 @@ pub fn each_is_next()
 /// others.
 pub fn walk_visits_all()
     ensures { WalkVisitsAll }
+{}
+
+/// The list of a number ascends, and so no subscriber is there twice.
+pub fn matches_ascend()
+    ensures { MatchesAscend }
 {}

@@ -3,7 +3,7 @@
 #![tactic(auto)]
 
 pub use key_ref::KeyRef;
-pub use laws::{each_is_next, next_is_least, walk_visits_all};
+pub use laws::{each_is_next, matches_ascend, next_is_least, walk_visits_all};
 pub use subscriber::SubRow;
 pub use tables::Tables;
 

@@ -4,7 +4,7 @@ ghost use Rattle.std.specs.Option.{option_map, option_copied, ForSome, is_some};
 ghost use Rattle.zs_tables.specs.Ascending.{Ascend};
 ghost use Rattle.zs_tables.specs.Numbers.{key_at, number_at, placed, without};
 ghost use Rattle.zs_tables.specs.Contents.{numbers_of, with_numbers, text_meant, IsByNumber};
-ghost use Rattle.zs_tables.specs.Recipients.{matches, next_recipient};
+ghost use Rattle.zs_tables.specs.Recipients.{matches, next_recipient, GoesOn};
 
 use crate::key_ref::KeyRef;
 use crate::lists::{empty_lists, forget, matching, note, put_last, reserve_lists};
@@ -184,6 +184,7 @@ impl Tables {
     ) -> Option<u32>
         requires { IsSome (text_meant key self.now) }
         ensures next { ForSome (text_meant key.entry self.now) (λ text. result ≡ next_recipient local text after self.now.rows) }
+        ensures walk { ForSome (text_meant key.entry self.now) (λ text. GoesOn local text after self.now.rows result) }
         ensures uncounted { IsByNumber key.entry → steps.new ≡ steps.old }
     {
         match key {

@@ -1,5 +1,7 @@
-use Rattle.std.proofs.Common.{◌∙◌}
-use Rattle.zs_tables.proofs.Tabled.{ascending_rows, unknown, list_ascends, next_by_number, next_by_text}
+use Rattle.std.proofs.Common.{◌∙◌, subst}
+use Rattle.zs_tables.specs.Ascending.{Ascend}
+use Rattle.zs_tables.specs.Contents.{Contents}
+use Rattle.zs_tables.proofs.Tabled.{ascending_rows, unknown, list_ascends, next_by_number, next_by_text, goes_on}
 use Rattle.zs_tables.proofs.tables.Tables.next_recipient.Goals as goal
 
 pub find_in-requires-clause-own : goal.find_in-requires-clause-own
@@ -30,3 +32,13 @@ returns-in-Text-clause-next g c =
     let first = rw (c.rows_behind.ensures, c.deref-in-Text.ensures.value) at c.first_by_key.ensures in
     rw (c.in-Text.is, ← c.self.view_is) (λ text meant.
     first ∙ next_by_text c.args.local c.in-Text.key.now.text text c.args.after c.self.inside.rows.items meant)
+
+pub returns-in-Some-clause-walk : goal.returns-in-Some-clause-walk
+returns-in-Some-clause-walk g c =
+    let up = subst (λ (t : Contents). Ascend (λ row. row.id) t.rows) c.self.view_is c.self.invariant.ascending in
+    goes_on _ c.args.local c.args.after _ c.args.self.now.rows up (returns-in-Some-clause-next g c)
+
+pub returns-in-Text-clause-walk : goal.returns-in-Text-clause-walk
+returns-in-Text-clause-walk g c =
+    let up = subst (λ (t : Contents). Ascend (λ row. row.id) t.rows) c.self.view_is c.self.invariant.ascending in
+    goes_on _ c.args.local c.args.after _ c.args.self.now.rows up (returns-in-Text-clause-next g c)
