@@ -1,17 +1,17 @@
 -- The lists of the numbers stay those of the rows.
-use Rattle.std.proofs.Common.{◌≡◌, ℕ, ◌<◌, Bool, true, false, List, [], ◌∷◌, ◌++◌, Option, refl, arith}
+use Rattle.std.proofs.Common.{◌≡◌, ℕ, List, [], ◌∷◌, ◌++◌, refl, arith}
 use Rattle.std.specs.Prelude.{◌==◌, not, map, filter, if◌then◌else◌}
 use Rattle.std.specs.Option.{option_map, is_some}
-use Rattle.std.specs.List.{AllByRecursion, find, list_any}
+use Rattle.std.specs.List.{find, list_any}
 use Rattle.std.proofs.lemmas.Bool.Decides.{nat_tests}
 use Rattle.zs_keys.specs.Matching.{intersects}
 use Rattle.zs_tables.specs.declared.subscriber.SubRow.{SubRow}
 use Rattle.zs_tables.specs.declared.number_row.NumberRow.{NumberRow}
-use Rattle.zs_tables.specs.Ascending.{Ascend, placed_by}
-use Rattle.zs_tables.specs.Numbers.{NumberedKey, key_at, number_at, placed, without}
+use Rattle.zs_tables.specs.Ascending.{placed_by}
+use Rattle.zs_tables.specs.Numbers.{key_at, placed, without}
 use Rattle.zs_tables.specs.Recipients.{matches}
 use Rattle.zs_tables.specs.Lists.{Listed, shown, held_of, held, noted, forgotten, emptied, AreCurrent}
-use Rattle.zs_tables.proofs.Ascending.{all_map, all_weaker, all_filter, all_placed, ascend_map, ascend_filter, ascend_placed}
+use Rattle.zs_tables.proofs.Ascending.{all_map, all_filter, all_placed, ascend_map, ascend_filter, ascend_placed}
 
 -- the list of a text with one more row
 matches_push : (text : List ℕ) (row : SubRow) (rows : List SubRow) → (if intersects text row.key.text then matches text rows ++ row.id ∷ [] else matches text rows) ≡ matches text (rows ++ row ∷ [])

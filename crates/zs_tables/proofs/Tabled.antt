@@ -3,8 +3,7 @@ use Rattle.std.proofs.Common.{◌≡◌, ℕ, ◌<◌, Bool, true, false, List, 
 use Rattle.std.specs.Prelude.{◌==◌, not, map, filter, All}
 use Rattle.std.specs.Option.{option_map, ForSome}
 use Rattle.std.specs.List.{AllByRecursion, find}
-use Rattle.std.proofs.lemmas.Bool.Decides.{nat_tests}
-use Rattle.std.proofs.lemmas.List.Elements.{recursion_from_All}
+use Rattle.std.proofs.lemmas.List.Elements.{recursion_from_All, All-from_recursion}
 use Rattle.zs_keys.specs.Key.{Key}
 use Rattle.zs_wire.specs.declared.wire_expr.Mapping.{Mapping}
 use Rattle.zs_wire.specs.declared.wire_expr.Mapping.TheVariants.{Sender, Receiver}
@@ -15,8 +14,8 @@ use Rattle.zs_tables.specs.Ascending.{Ascend, placed_by}
 use Rattle.zs_tables.specs.Numbers.{NumberedKey, key_at, placed}
 use Rattle.zs_tables.specs.Contents.{Contents, numbers_of, text_meant}
 use Rattle.zs_tables.specs.Recipients.{matches, recipients, is_behind, first_behind, next_recipient, GoesOn}
-use Rattle.zs_tables.specs.Lists.{Listed, shown, held_of, held, noted, forgotten, emptied, chosen, takes_by_id, AreCurrent, AreInOrder}
-use Rattle.zs_tables.proofs.Ascending.{ascend_unmap, ascend_filter, ascend_push}
+use Rattle.zs_tables.specs.Lists.{Listed, shown, IsAscending, held_of, held, noted, forgotten, emptied, chosen, takes_by_id, AreCurrent, AreInOrder}
+use Rattle.zs_tables.proofs.Ascending.{all_weaker, all_unmap, ascend_unmap, ascend_filter, ascend_push}
 use Rattle.zs_tables.proofs.Keeping.{held_same, current_push, current_without, current_emptied, current_nil, current_placed, held_placed, key_of_row}
 use Rattle.zs_tables.proofs.Walking.{first_of_behind, first_of_numbers, matches_ascend, each_is_next}
 
@@ -132,3 +131,10 @@ told_set (Err e) new rows own told told' ok = tt
 -- from each next recipient the walk goes on
 pub goes_on : (meant : Option (List ℕ)) (local : Bool) (after next : Option ℕ) (rows : List SubRow) → Ascend (λ row. row.id) rows → ForSome meant (λ text. next ≡ next_recipient local text after rows) → ForSome meant (λ text. GoesOn local text after rows next)
 goes_on meant local after next rows up is text for = subst (λ (n : Option ℕ). GoesOn local text after rows n) (sym (is text for)) (each_is_next local text after rows up)
+
+-- all lists ascend
+pub lists_ascend : (rows : List SubRow) (numbers : List NumberRow) → Ascend (λ row. row.id) rows → AreCurrent rows (map shown numbers) → All IsAscending numbers
+lists_ascend rows numbers up is =
+    All-from_recursion IsAscending numbers
+    (all_weaker (λ (row : NumberRow). row.matches.items ≡ matches row.key.text rows) IsAscending (λ row is. rw is (matches_ascend row.key.text rows up)) numbers
+    (all_unmap (λ (n : Listed). n.matches ≡ matches n.key.text rows) shown numbers is.current))

@@ -1,6 +1,6 @@
 -- A walk over the recipients.
-use Rattle.std.proofs.Common.{◌≡◌, ℕ, zero, suc, ◌<◌, ◌≤◌, Bool, true, false, List, [], ◌∷◌, ◌++◌, Option, Some, None, length, MatchOption, refl, sym, ap, subst, ◌∙◌, arith}
-use Rattle.std.specs.Prelude.{◌==◌, ◌&&◌, ◌||◌, nat_lt, map, filter, not, IsTrue, if◌then◌else◌}
+use Rattle.std.proofs.Common.{◌≡◌, ℕ, zero, suc, ◌<◌, ◌≤◌, Bool, true, false, List, [], ◌∷◌, Option, Some, None, length, MatchOption, refl, sym, ap, subst, ◌∙◌, arith}
+use Rattle.std.specs.Prelude.{◌==◌, ◌&&◌, ◌||◌, nat_lt, filter, not, IsTrue, if◌then◌else◌}
 use Rattle.std.specs.List.{AllByRecursion, find, list_any}
 use Rattle.std.proofs.lemmas.Bool.Decides.{nat_tests}
 use Rattle.std.proofs.lemmas.List.{nil_from_length, length-map}
@@ -8,7 +8,7 @@ use Rattle.std.proofs.lemmas.List.Filters.{length-filter_both}
 use Rattle.zs_keys.specs.Matching.{intersects}
 use Rattle.zs_tables.specs.declared.subscriber.SubRow.{SubRow}
 use Rattle.zs_tables.specs.Ascending.{Ascend}
-use Rattle.zs_tables.specs.Recipients.{matches, takes, receives, recipients, is_behind, first_behind, next_recipient, onward, left_behind, GoesOn}
+use Rattle.zs_tables.specs.Recipients.{matches, takes, receives, recipients, is_behind, first_behind, next_recipient, onward, left_behind}
 use Rattle.zs_tables.specs.Lists.{takes_by_id}
 use Rattle.zs_tables.specs.Laws.{NextIsLeast, EachIsNext, WalkVisitsAll, MatchesAscend, is_next, visited}
 use Rattle.zs_tables.proofs.Ascending.{all_weaker, all_both, ascend_map, ascend_filter}

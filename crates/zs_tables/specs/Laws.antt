@@ -1,5 +1,5 @@
 -- Laws of the definitions, by which a reader may check them.
-use Rattle.std.specs.Prelude.{◌≡◌, ◌≤◌, ◌==◌, ℕ, zero, suc, Bool, true, false, ◌&&◌, List, [], ◌∷◌, length, Option, Some, None, MatchOption, IsTrue, filter}
+use Rattle.std.specs.Prelude.{◌≡◌, ◌≤◌, ◌==◌, ℕ, zero, suc, Bool, false, ◌&&◌, List, [], length, Option, Some, None, MatchOption, IsTrue}
 use Rattle.std.specs.List.{list_any, AllByRecursion}
 use Rattle.zs_tables.specs.declared.subscriber.SubRow.{SubRow}
 use Rattle.zs_tables.specs.Ascending.{Ascend}

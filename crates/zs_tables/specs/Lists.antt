@@ -33,6 +33,10 @@ held numbers = map held_of (map shown numbers)
 abbrev pub HasRoom : NumberRow → Type 0
 HasRoom row = vec_len row.matches < vec_capacity row.matches
 
+-- a list that ascends
+abbrev pub IsAscending : NumberRow → Type 0
+IsAscending row = Ascend (λ id. id) row.matches.items
+
 -- the list with one more subscriber, if the keys meet
 abbrev pub noted : ℕ → List ℕ → Listed → Listed
 noted id text n = record n { matches = if intersects n.key.text text then n.matches ++ id ∷ [] else n.matches }

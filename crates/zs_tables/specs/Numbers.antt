@@ -1,5 +1,5 @@
 -- Declared numbers, each with the key that it stands for.
-use Rattle.std.specs.Prelude.{ℕ, ◌==◌, nat_lt, Bool, not, List, [], ◌∷◌, Option, Some, None, bytes_eq, filter, if◌then◌else◌}
+use Rattle.std.specs.Prelude.{ℕ, ◌==◌, nat_lt, not, List, [], ◌∷◌, Option, Some, None, bytes_eq, filter, if◌then◌else◌}
 use Rattle.zs_keys.specs.Key.{Key}
 
 -- a number with the key that it stands for

@@ -1,10 +1,12 @@
 //! The lists that the numbers keep.
 
 ghost use Rattle.std.specs.Prelude.{◌≡◌, ◌<◌, ◌==◌, ◌++◌, [], ◌∷◌, vec_len, vec_capacity, All, map, filter, not, IfOk, OnOk};
+ghost use Rattle.zs_tables.specs.Ascending.{Ascend};
 ghost use Rattle.zs_tables.specs.Recipients.{matches};
-ghost use Rattle.zs_tables.specs.Lists.{shown, HasRoom, noted, forgotten, emptied};
+ghost use Rattle.zs_tables.specs.Lists.{shown, HasRoom, IsAscending, noted, forgotten, emptied};
 
 use crate::number_row::NumberRow;
+use crate::places::id_place;
 use crate::subscriber::SubRow;
 use std::alloc::{AllocError, Global};
 use zs_keys::KeyExpr;
@@ -62,6 +64,7 @@ fn note_one(row: &mut NumberRow, id: u32, key: &KeyExpr<'_>)
 
 /// Takes a subscriber out of each list.
 pub(crate) fn forget(numbers: &mut Vec<NumberRow>, id: u32)
+    requires { All IsAscending numbers.old.items }
     ensures { map shown numbers.new.items ≡ map (forgotten id) (map shown numbers.old.items) }
 {
     for row in numbers.iter_mut() {
@@ -70,15 +73,20 @@ pub(crate) fn forget(numbers: &mut Vec<NumberRow>, id: u32)
 }
 
 fn forget_one(row: &mut NumberRow, id: u32)
+    requires { IsAscending row.old }
     ensures { shown row.new ≡ forgotten id (shown row.old) }
 {
     leave_out(&mut row.matches, id);
 }
 
 fn leave_out(ids: &mut Vec<u32>, id: u32)
+    requires { Ascend (λ id. id) ids.old.items }
     ensures { ids.new.items ≡ filter (λ other. not (other == id)) ids.old.items }
 {
-    ids.retain(|other| *other != id);
+    let Ok(at) = id_place(ids, id) else {
+        return;
+    };
+    ids.remove(at);
 }
 
 /// Empties each list.

@@ -26,6 +26,14 @@ pub(crate) fn row_place(rows: &[SubRow], id: u32) -> Result<usize, usize>
     rows.binary_search_by_key(&id, |row| row.id)
 }
 
+/// Where an id stands in a list, or where it would go.
+pub(crate) fn id_place(ids: &[u32], id: u32) -> Result<usize, usize>
+    requires { Ascend (λ id. id) ids.now }
+    ensures { IsPlaceOf (λ id. id) id ids.now result }
+{
+    ids.binary_search(&id)
+}
+
 /// The row of a number.
 pub(crate) fn find(numbers: &[NumberRow], number: u16) -> Option<&NumberRow>
     requires { Ascend (λ row. row.number) numbers.now }

@@ -1,4 +1,4 @@
-use Rattle.zs_tables.specs.Lists.{shown, HasRoom, noted, forgotten, emptied}
+use Rattle.zs_tables.specs.Lists.{shown, emptied}
 use Rattle.zs_tables.proofs.Changing.{ChangedBelow}
 use Rattle.zs_tables.proofs.lists.empty_lists.Given as goal
 

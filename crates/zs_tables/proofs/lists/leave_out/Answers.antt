@@ -1,6 +1,12 @@
-use Rattle.std.proofs.Common.{rules}
-use Rattle.std.proofs.lemmas.Fn.{filter_same}
+use Rattle.std.proofs.Common.{sym, ◌∙◌}
+use Rattle.zs_tables.proofs.Searching.{missing, filter_none, remove_here}
 use Rattle.zs_tables.proofs.lists.leave_out.Goals as goal
 
+pub returns-in_default : goal.returns-in_default
+returns-in_default c =
+    sym (filter_none (λ id. id) c.args.id _ (missing (λ id. id) c.args.id _ _ (rw c.deref.ensures.value at c.in_default.ensures)))
+
 pub returns : goal.returns
-returns c = filter_same _ _ _ (λ x b f' k. search rules) _ _ c.retain.ensures.filtered
+returns c =
+    let place = rw c.deref.ensures.value at c.in-Ok.ensures in
+    c.remove.ensures.items ∙ remove_here (λ id. id) c.args.id _ _ c.requires place.0 place.1

@@ -2,7 +2,7 @@ use Rattle.std.proofs.Common.{ap, ◌∙◌, arith, length-set}
 use Rattle.std.specs.Prelude.{map}
 use Rattle.std.proofs.lemmas.List.{take_at}
 use Rattle.std.proofs.lemmas.List.Elements.{AllWithin-more_set}
-use Rattle.zs_tables.specs.Lists.{Listed, shown, HasRoom}
+use Rattle.zs_tables.specs.Lists.{shown, HasRoom}
 use Rattle.zs_tables.proofs.Changing.{same_more}
 use Rattle.zs_tables.proofs.lists.reserve_lists.Goals as goal
 

@@ -1,9 +1,7 @@
 use Rattle.std.proofs.Common.{ap, ◌∙◌}
 use Rattle.std.specs.Option.{option_map}
-use Rattle.zs_keys.specs.Key.{Key}
 use Rattle.zs_tables.specs.declared.number_row.NumberRow.{NumberRow}
-use Rattle.zs_tables.specs.Recipients.{matches}
-use Rattle.zs_tables.proofs.Tabled.{ascending_rows, key_found, matches_found}
+use Rattle.zs_tables.proofs.Tabled.{ascending_rows, key_found}
 use Rattle.zs_tables.proofs.tables.Tables.key_of.Goals as goal
 
 pub find_in-requires-clause-own : goal.find_in-requires-clause-own

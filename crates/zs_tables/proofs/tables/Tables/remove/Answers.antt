@@ -1,7 +1,7 @@
 use Rattle.std.proofs.Common.{sym, refl, ◌∙◌}
 use Rattle.zs_tables.specs.Lists.{forgotten}
 use Rattle.zs_tables.proofs.Searching.{missing, any_none, filter_none, remove_here}
-use Rattle.zs_tables.proofs.Tabled.{in_order_without, same_contents, held_stays}
+use Rattle.zs_tables.proofs.Tabled.{lists_ascend, in_order_without, same_contents, held_stays}
 use Rattle.zs_tables.proofs.tables.Tables.remove.Goals as goal
 
 pub returns-in_default-clause-answer : goal.returns-in_default-clause-answer
@@ -13,6 +13,12 @@ pub returns-in_default-clause-rows : goal.returns-in_default-clause-rows
 returns-in_default-clause-rows c =
     let place = rw c.deref.ensures.value at c.in_default.ensures in
     rw (← c.self.view_is) (same_contents _ _ _ _ _ _ (sym (filter_none (λ row. row.id) c.args.id c.self.inside.rows.items (missing (λ row. row.id) c.args.id _ _ place))) refl refl)
+
+pub forget-requires : goal.forget-requires
+forget-requires c = lists_ascend _ _ c.self.invariant.ascending c.self.invariant.own_current
+
+pub forget-requires-2 : goal.forget-requires-2
+forget-requires-2 c = lists_ascend _ _ c.self.invariant.ascending c.self.invariant.told_current
 
 pub invariant_of-self : goal.invariant_of-self
 invariant_of-self c =

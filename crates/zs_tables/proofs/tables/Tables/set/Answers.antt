@@ -1,4 +1,3 @@
-use Rattle.std.proofs.Common.{refl}
 use Rattle.zs_tables.proofs.Tabled.{ascending_rows, current_set, own_set, told_set}
 use Rattle.zs_tables.proofs.tables.Tables.set.Goals as goal
 
