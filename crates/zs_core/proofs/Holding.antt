@@ -11,14 +11,15 @@ use Rattle.zs_core.specs.declared.event.KeyArg.{KeyArg}
 use Rattle.zs_core.specs.declared.event.KeyArg.TheVariants.{Text, Number}
 use Rattle.zs_core.specs.declared.settings.Settings.{Settings}
 use Rattle.zs_core.specs.declared.turn.Refusal.TheVariants.{NotFound, UnknownScope}
-use Rattle.zs_core.specs.declared.declared_key.NumberedKey.{NumberedKey}
+use Rattle.zs_tables.specs.Numbers.{NumberedKey}
 use Rattle.zs_core.specs.declared.declared_key.KeyHolders.{KeyHolders}
 use Rattle.zs_wire.specs.declared.wire_expr.Mapping.{Mapping}
 use Rattle.zs_wire.specs.declared.wire_expr.Mapping.TheVariants.{Sender, Receiver}
 use Rattle.zs_wire.specs.declared.wire_expr.WireExpr.{WireExpr}
 use Rattle.zs_core.specs.World.{World}
 use Rattle.zs_core.specs.Keys.{key_of, suffixed, numbers_for, wire_of}
-use Rattle.zs_core.specs.DeclaredKeys.{key_at, number_at, placed, all_placed, without, holders_of, has_holder, one_more, one_less, raised, is_last, lowered, draws_key, own_new, own_left, holders_after, told_after}
+use Rattle.zs_tables.specs.Numbers.{key_at, number_at, placed, without}
+use Rattle.zs_core.specs.DeclaredKeys.{all_placed, holders_of, has_holder, one_more, one_less, raised, is_last, lowered, draws_key, own_new, own_left, holders_after, told_after}
 use Rattle.zs_core.specs.Turns.{refused_if, key_cause, open_cause, key_number, number_for, text_for, tell_key_cause}
 use Rattle.zs_core.specs.Past.{Entry, is_close, is_closed, own, holders, told, next_key, world_of, entry_for, past_of}
 use Rattle.zs_core.specs.Held.{gives, takes, given, taken, is_held, first_of, drawn_text, held_text, told_text, mapped_text, key_text, wire_text, named_text}
@@ -456,7 +457,7 @@ known_told s h = along s IsTold (λ n. refl) step h
     step past (NetKeyExpr m wire) o c ih n = told_step n m (wire_of (world_of s past) wire) (told past) wire (told_text n past) (known (world_of s past) m wire c) (ih n)
     step past e o c ih n = ih n
 
-mapped_is : (s : Settings) (past : List Entry) (mapping : Mapping) (n : ℕ) → AreDeclared s past → IsTold past
+pub mapped_is : (s : Settings) (past : List Entry) (mapping : Mapping) (n : ℕ) → AreDeclared s past → IsTold past
     → option_map (λ (k : a_key). k.text) (key_at n (numbers_for mapping (world_of s past))) ≡ mapped_text mapping n past
 mapped_is s past Sender n d t = t n
 mapped_is s past Receiver n d t = known_held s past n d

@@ -12,9 +12,10 @@ use Rattle.zs_core.specs.declared.event.Event.TheVariants.{Key, UndeclareKey, Cl
 use Rattle.zs_core.specs.declared.event.KeyArg.{KeyArg}
 use Rattle.zs_core.specs.declared.event.KeyArg.TheVariants.{Number}
 use Rattle.zs_core.specs.declared.settings.Settings.{Settings}
-use Rattle.zs_core.specs.declared.declared_key.NumberedKey.{NumberedKey}
+use Rattle.zs_tables.specs.Numbers.{NumberedKey}
 use Rattle.zs_core.specs.Keys.{key_of}
-use Rattle.zs_core.specs.DeclaredKeys.{key_at, number_at, placed, all_placed, without, is_last, own_new, own_left}
+use Rattle.zs_tables.specs.Numbers.{key_at, number_at, placed, without}
+use Rattle.zs_core.specs.DeclaredKeys.{all_placed, is_last, own_new, own_left}
 use Rattle.zs_core.specs.Turns.{key_number}
 use Rattle.zs_core.specs.Past.{Entry, own, holders, next_key, world_of}
 use Rattle.zs_core.specs.Held.{held_text, key_text}

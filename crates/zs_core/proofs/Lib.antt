@@ -1,9 +1,10 @@
 pub mod Filters
 pub mod Counting
-pub mod Placing
+pub mod Handing
 pub mod Stepping
 pub mod Histories
 pub mod Living
 pub mod Holding
 pub mod Keeping
+pub mod Listing
 pub mod Causing

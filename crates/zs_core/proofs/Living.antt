@@ -9,7 +9,7 @@ use Rattle.zs_core.specs.declared.event.Event.TheVariants.{Sub, Undeclare, Close
 use Rattle.zs_core.specs.declared.event.EntityKind.TheVariants.{Sub as sub_kind}
 use Rattle.zs_core.specs.declared.settings.Settings.{Settings}
 use Rattle.zs_core.specs.declared.turn.Refusal.TheVariants.{NotFound}
-use Rattle.zs_core.specs.declared.subscriber.SubRow.{SubRow}
+use Rattle.zs_tables.specs.declared.subscriber.SubRow.{SubRow}
 use Rattle.zs_keys.specs.Key.{undeclared}
 use Rattle.zs_core.specs.Subscribers.{sub_row, subs_left, is_sub}
 use Rattle.zs_core.specs.Turns.{added, open_cause, number_for, text_for}

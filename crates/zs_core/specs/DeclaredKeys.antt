@@ -1,43 +1,17 @@
 use Rattle.std.specs.Prelude.{ℕ, ◌+◌, ◌-◌, Bool, false, ◌==◌, nat_lt, nat_le, not, List, [], ◌∷◌, ◌++◌, map, filter, Option, Some, None, is_some, if◌then◌else◌}
-use Rattle.std.specs.List.{list_any}
+use Rattle.std.specs.List.{list_any, list_all}
 use Rattle.std.specs.Str.{bytes_eq}
 use Rattle.zs_keys.specs.Key.{Key, undeclared}
 use Rattle.zs_core.specs.declared.event.Event.{Event}
 use Rattle.zs_core.specs.declared.event.Event.TheVariants.{Key as key_event, UndeclareKey, NetKeyExpr, Close}
 use Rattle.zs_core.specs.declared.event.KeyArg.TheVariants.{Number}
-use Rattle.zs_core.specs.declared.declared_key.NumberedKey.{NumberedKey}
+use Rattle.zs_tables.specs.Numbers.{NumberedKey, key_at, number_at, placed, without}
 use Rattle.zs_core.specs.declared.declared_key.KeyHolders.{KeyHolders}
-
--- the key that a number stands for, if it stands for one
-abbrev pub key_at : ℕ → List NumberedKey → Option Key
-key_at number [] = None
-key_at number (row ∷ rows) = if row.number == number then Some row.key else key_at number rows
-
--- the least number that stands for a text, if there is one
-abbrev pub number_at : List ℕ → List NumberedKey → Option ℕ
-number_at text [] = None
-number_at text (row ∷ rows) = if bytes_eq row.key.text text then Some row.number else number_at text rows
-
--- the numbers with one more, in ascending order; one that was there stands for the new key
-abbrev pub placed : NumberedKey → List NumberedKey → List NumberedKey
-placed new [] = new ∷ []
-placed new (row ∷ rows) =
-    if row.number == new.number then new ∷ rows else
-    if nat_lt new.number row.number then new ∷ row ∷ rows else row ∷ placed new rows
-
--- whether a row is of that number
-abbrev pub is_at : ℕ → Option NumberedKey → Bool
-is_at number None = false
-is_at number (Some row) = row.number == number
 
 -- the numbers with the new one, if there is one
 abbrev pub all_placed : List NumberedKey → List NumberedKey → List NumberedKey
 all_placed [] rows = rows
 all_placed (new ∷ more) rows = placed new rows
-
--- the numbers without one
-abbrev pub without : ℕ → List NumberedKey → List NumberedKey
-without number rows = filter (λ row. not (row.number == number)) rows
 
 -- how many hold a number
 abbrev pub holders_of : ℕ → List KeyHolders → ℕ
@@ -58,6 +32,10 @@ one_less number row = if row.number == number then record row { count = row.coun
 -- a number with one holder more
 abbrev pub raised : ℕ → List KeyHolders → List KeyHolders
 raised number rows = if has_holder number rows then map (one_more number) rows else rows ++ record { number = number; count = 1 } ∷ []
+
+-- whether each count of holders can still rise
+abbrev pub can_rise : List KeyHolders → Bool
+can_rise rows = list_all (λ row. nat_lt row.count 18446744073709551615) rows
 
 -- whether no more than one holds a number
 abbrev pub is_last : ℕ → List KeyHolders → Bool

@@ -8,7 +8,7 @@ use Rattle.zs_wire.specs.declared.wire_expr.Mapping.{Mapping}
 use Rattle.zs_wire.specs.declared.wire_expr.Mapping.TheVariants.{Sender, Receiver}
 use Rattle.zs_wire.specs.declared.wire_expr.WireExpr.{WireExpr}
 use Rattle.zs_core.specs.declared.settings.Settings.{Settings}
-use Rattle.zs_core.specs.DeclaredKeys.{key_at}
+use Rattle.zs_tables.specs.Numbers.{key_at}
 use Rattle.zs_core.specs.Turns.{text_for, number_for}
 use Rattle.zs_core.specs.Past.{Entry, is_closed, own, told, world_of, past_of}
 

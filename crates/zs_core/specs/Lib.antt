@@ -11,4 +11,5 @@ pub mod Past
 pub mod Stands
 pub mod Live
 pub mod Held
+pub mod Listed
 pub mod Causes

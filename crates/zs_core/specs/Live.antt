@@ -5,7 +5,7 @@ use Rattle.zs_core.specs.declared.event.Event.{Event}
 use Rattle.zs_core.specs.declared.event.Event.TheVariants.{Sub, Undeclare, Close}
 use Rattle.zs_core.specs.declared.event.EntityKind.TheVariants.{Sub as sub_kind}
 use Rattle.zs_core.specs.declared.settings.Settings.{Settings}
-use Rattle.zs_core.specs.declared.subscriber.SubRow.{SubRow}
+use Rattle.zs_tables.specs.declared.subscriber.SubRow.{SubRow}
 use Rattle.zs_core.specs.Subscribers.{sub_row}
 use Rattle.zs_core.specs.Turns.{added}
 use Rattle.zs_core.specs.Past.{Entry, past_of, subs}

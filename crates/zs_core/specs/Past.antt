@@ -4,8 +4,8 @@ use Rattle.zs_core.specs.declared.event.Event.{Event}
 use Rattle.zs_core.specs.declared.event.Event.TheVariants.{Sub, Close}
 use Rattle.zs_core.specs.declared.settings.Settings.{Settings}
 use Rattle.zs_core.specs.declared.turn.Refusal.{Refusal}
-use Rattle.zs_core.specs.declared.subscriber.SubRow.{SubRow}
-use Rattle.zs_core.specs.declared.declared_key.NumberedKey.{NumberedKey}
+use Rattle.zs_tables.specs.declared.subscriber.SubRow.{SubRow}
+use Rattle.zs_tables.specs.Numbers.{NumberedKey}
 use Rattle.zs_core.specs.declared.declared_key.KeyHolders.{KeyHolders}
 use Rattle.zs_core.specs.World.{World}
 use Rattle.zs_core.specs.DeclaredKeys.{draws_key, own_new, own_left, all_placed, holders_after, told_after}

@@ -9,29 +9,18 @@ use Rattle.zs_sample.specs.declared.sample.SampleFields.{SampleFields}
 use Rattle.zs_sample.specs.declared.sample.SampleKind.TheVariants.{Put as put_kind}
 use Rattle.zs_sample.specs.Encoding.{encoding_of}
 use Rattle.zs_sample.specs.Quality.{priority_of}
+use Rattle.zs_tables.specs.Recipients.{has_session, has_network}
 use Rattle.zs_core.specs.declared.turn.Effect.{Effect}
 use Rattle.zs_core.specs.declared.turn.Effect.TheVariants.{Hand}
 use Rattle.zs_core.specs.declared.turn.HandOver.TheVariants.{Sample as sample_for}
 use Rattle.zs_core.specs.declared.turn.Kind.TheVariants.{Subscriber}
-use Rattle.zs_core.specs.declared.subscriber.SubRow.{SubRow}
+use Rattle.zs_tables.specs.declared.subscriber.SubRow.{SubRow}
 
 -- a publication: made in this session, for a destination, or come in from the network
 pub record Publication : Type 0 where
   pub local : Bool
   pub destination : Locality
   pub sample : SampleFields
-
--- a destination or an origin that has this session in it
-abbrev pub has_session : Locality → Bool
-has_session SessionLocal = true
-has_session Remote = false
-has_session Any = true
-
--- a destination or an origin that has the network in it
-abbrev pub has_network : Locality → Bool
-has_network SessionLocal = false
-has_network Remote = true
-has_network Any = true
 
 -- a local publication reaches this session's subscribers for local data, an incoming one those for network data
 abbrev pub reaches : Bool → Locality → Locality → Bool
@@ -58,3 +47,11 @@ put_sample text payload encoding qos reliable = record {
 -- one sample for each subscriber that is allowed it, in the order of the rows
 abbrev pub hands : Publication → List SubRow → List Effect
 hands p rows = map (λ row. Hand (sample_for Subscriber row.id p.sample)) (filter (allows p) rows)
+
+-- a sample for the subscriber of a number
+abbrev pub hand_to : SampleFields → ℕ → Effect
+hand_to sample id = Hand (sample_for Subscriber id sample)
+
+-- the sample for each of these subscribers
+abbrev pub hands_to : SampleFields → List ℕ → List Effect
+hands_to sample ids = map (hand_to sample) ids

@@ -17,7 +17,8 @@ use Rattle.zs_core.specs.Settings.{last_entity, last_key}
 use Rattle.zs_core.specs.Turn.{answered}
 use Rattle.zs_core.specs.World.{World}
 use Rattle.zs_core.specs.Keys.{key_of, wire_of, is_bad, is_whole}
-use Rattle.zs_core.specs.DeclaredKeys.{number_at, draws_key}
+use Rattle.zs_tables.specs.Numbers.{number_at}
+use Rattle.zs_core.specs.DeclaredKeys.{draws_key}
 use Rattle.zs_core.specs.Subscribers.{is_sub, sub_ends}
 use Rattle.zs_core.specs.Publications.{Publication, put_sample, hands}
 

@@ -1,7 +1,8 @@
 use Rattle.std.specs.Prelude.{ℕ, Bool, List}
 use Rattle.zs_core.specs.declared.settings.Settings.{Settings}
-use Rattle.zs_core.specs.declared.subscriber.SubRow.{SubRow}
-use Rattle.zs_core.specs.declared.declared_key.NumberedKey.{NumberedKey}
+use Rattle.zs_tables.specs.declared.subscriber.SubRow.{SubRow}
+use Rattle.zs_tables.specs.Numbers.{NumberedKey}
+use Rattle.zs_tables.specs.Contents.{Contents}
 use Rattle.zs_core.specs.declared.declared_key.KeyHolders.{KeyHolders}
 
 -- the next number of each sort
@@ -27,3 +28,7 @@ pub record World : Type 0 where
   pub counters : Counters
   pub entities : Entities
   pub keys : DeclaredKeys
+
+-- the tables that find subscribers by number, as they are at this moment
+abbrev pub tables_of : World → Contents
+tables_of w = record { rows = w.entities.subs; own = w.keys.own; told = w.keys.told }

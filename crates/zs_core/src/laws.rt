@@ -2,6 +2,7 @@
 
 ghost use Rattle.zs_core.specs.Live.{TableIsLive, SubscribersAscend};
 ghost use Rattle.zs_core.specs.Held.{KeysAreHeld, KeysAreTold, TextsAreNamed, HeldTextsKeepNumbers, KeyNumbersAreNew};
+ghost use Rattle.zs_core.specs.Listed.{ListsAreTests};
 ghost use Rattle.zs_core.specs.Causes.{RefusalsHaveCauses};
 
 /// After any history the table of subscribers holds those that were declared and not ended since, and no others.
@@ -43,4 +44,10 @@ pub fn held_texts_keep_numbers()
 /// A declaration that isn't answered a held number is answered one that none was answered before.
 pub fn key_numbers_are_new()
     ensures { KeyNumbersAreNew }
+{}
+
+/// After any history the list that a number keeps is the test of every live subscriber against the text that the number
+/// stands for, by the events alone.
+pub fn lists_are_tests()
+    ensures { ListsAreTests }
 {}

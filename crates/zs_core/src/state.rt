@@ -3,17 +3,18 @@ ghost use Rattle.zs_core.specs.Turn.{answered};
 ghost use Rattle.zs_core.specs.Turns.{turn_of, open_cause, closed_cause};
 ghost use Rattle.zs_core.specs.After.{after};
 
-use crate::declared_key::{KeyHolders, NumberedKey};
+use crate::declared_key::KeyHolders;
 use crate::event::{EntityKind, Event};
 use crate::settings::Settings;
-use crate::subscriber::SubRow;
 use crate::turn::{Refusal, Turn};
 use std::alloc::{AllocError, Global};
 use std::marker::Model;
+use zs_tables::Tables;
 
 mod declared_keys;
 mod keys;
 mod publications;
+mod recipients;
 mod stepping;
 mod subscribers;
 
@@ -26,10 +27,8 @@ pub struct SessionState {
     closed: bool,
     next_entity: u32,
     next_key: u16,
-    subs: Vec<SubRow>,
-    own: Vec<NumberedKey>,
+    tables: Tables,
     holders: Vec<KeyHolders>,
-    told: Vec<NumberedKey>,
 }
 
 impl Model for SessionState {
@@ -41,9 +40,13 @@ impl Model for SessionState {
       settings = s.settings;
       closed = s.closed;
       counters = record { entity = s.next_entity; key = s.next_key };
-      entities = record { subs = s.subs.items };
-      keys = record { own = s.own.items; holders = s.holders.items; told = s.told.items };
+      entities = record { subs = s.tables.rows };
+      keys = record { own = s.tables.own; holders = s.holders.items; told = s.tables.told };
     } };
+
+    ghost use Rattle.std.specs.Prelude.{◌<◌, All};
+
+    ghost invariant = { λ s. All (λ row. row.id < s.next_entity) s.tables.rows };
 }
 
 impl SessionState {

@@ -8,13 +8,14 @@ use Rattle.zs_core.specs.declared.event.Event.TheVariants.{Key, UndeclareKey, Ne
 use Rattle.zs_core.specs.declared.event.KeyArg.{KeyArg}
 use Rattle.zs_core.specs.declared.event.KeyArg.TheVariants.{Text, Number}
 use Rattle.zs_core.specs.declared.settings.Settings.{Settings}
-use Rattle.zs_core.specs.declared.declared_key.NumberedKey.{NumberedKey}
+use Rattle.zs_tables.specs.Numbers.{NumberedKey}
 use Rattle.zs_core.specs.declared.turn.Refusal.{Refusal}
 use Rattle.zs_wire.specs.declared.wire_expr.Mapping.{Mapping}
 use Rattle.zs_wire.specs.declared.wire_expr.Mapping.TheVariants.{Sender, Receiver}
 use Rattle.zs_wire.specs.declared.wire_expr.WireExpr.{WireExpr}
 use Rattle.zs_core.specs.Keys.{key_of, suffixed, numbers_for, wire_of}
-use Rattle.zs_core.specs.DeclaredKeys.{key_at, number_at, placed, all_placed, without, is_last, own_new, told_after}
+use Rattle.zs_tables.specs.Numbers.{key_at, number_at, placed, without}
+use Rattle.zs_core.specs.DeclaredKeys.{all_placed, is_last, own_new, told_after}
 use Rattle.zs_core.specs.Turns.{cause, number_for}
 use Rattle.zs_core.specs.Past.{Entry, past_of, world_of, entry_for, joined, is_closed, own, holders, told}
 use Rattle.zs_core.proofs.Keeping.{placed-all}

@@ -10,7 +10,7 @@ use crate::key_ref::KeyRef;
 use crate::lists::{empty_lists, forget, matching, note, put_last, reserve_lists};
 use crate::number_row::NumberRow;
 use crate::numbers::{find_in, first_of_text, take_out};
-use crate::places::{ids_behind, place, row_place, rows_behind};
+use crate::places::{find_row, ids_behind, place, row_place, rows_behind};
 use crate::recipients::{first_by_id, first_by_key};
 use crate::subscriber::SubRow;
 use std::alloc::{AllocError, Global};
@@ -159,6 +159,13 @@ impl Tables {
         ensures ascending { Ascend (λ row. row.id) self.now.rows }
     {
         &self.rows
+    }
+
+    /// Whether there is a subscriber of that id.
+    pub fn has(&self, id: u32) -> bool
+        ensures { result ≡ list_any (λ row. row.id == id) self.now.rows }
+    {
+        find_row(&self.rows, id).is_some()
     }
 
     /// The ascending ids of the subscribers whose key has a key in common with the number's, if it stands for one. It

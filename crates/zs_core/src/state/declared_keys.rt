@@ -1,20 +1,20 @@
-ghost use Rattle.std.specs.List.{list_all, position, position_or_len};
 ghost use Rattle.std.specs.Prelude.{◌≡◌, ◌<◌, ◌+◌, ◌==◌, not, true, false, [], None, Some, filter, map, IfOk, OnOk, OnErr, vec_len, vec_capacity, nat_lt, nat_le, slice_get};
 ghost use Rattle.zs_core.specs.Settings.{last_key};
 ghost use Rattle.zs_core.specs.Turn.{answered};
 ghost use Rattle.zs_core.specs.Turns.{is_spent, tell_key_cause, declare_key_cause, undeclare_key_cause, key_number};
 ghost use Rattle.zs_core.specs.Keys.{key_of, is_whole};
-ghost use Rattle.zs_core.specs.DeclaredKeys.{number_at, placed, without, holders_of, has_holder, raised, lowered, is_last, one_more, one_less, is_at};
+ghost use Rattle.zs_tables.specs.Numbers.{placed};
+ghost use Rattle.zs_core.specs.DeclaredKeys.{holders_of, has_holder, raised, can_rise, one_more, one_less};
 ghost use Rattle.zs_core.specs.After.{after};
 
 use super::SessionState;
-use super::keys::own;
-use crate::declared_key::{KeyHolders, NumberedKey};
+use super::keys::{is_whole, own};
+use crate::declared_key::KeyHolders;
 use crate::event::{Event, KeyArg};
 use crate::turn::{Refusal, Turn};
 use std::alloc::AllocError;
 use zs_keys::KeyExpr;
-use zs_wire::WireExpr;
+use zs_wire::{Mapping, WireExpr};
 
 impl SessionState {
     pub(super) fn preview_key(&self, key: &KeyArg) -> Result<Turn, AllocError>
@@ -25,7 +25,7 @@ impl SessionState {
             Ok(key) => key,
             Err(refusal) => return Ok(Turn::refused(self.alloc, refusal)),
         };
-        if let Some(number) = number_at(key.as_str(), &self.own) {
+        if let Some(number) = self.tables.number_of(key.as_str()) {
             return Ok(Turn::quiet(self.alloc, Some(u32::from(number))));
         }
         if u16::MAX - self.next_key < 1 {
@@ -42,12 +42,14 @@ impl SessionState {
         let Ok(key) = self.resolve(key)? else {
             unreachable!();
         };
-        let Some(number) = number_at(key.as_str(), &self.own) else {
+        let Some(number) = self.tables.number_of(key.as_str()) else {
             let key = own(self.alloc, key)?;
             return self.declare(key);
         };
         drop(key);
-        raise(number, &mut self.holders)
+        prepare(&mut self.holders)?;
+        raise(number, &mut self.holders);
+        Ok(())
     }
 
     /// Draws a number for a key that is not held.
@@ -63,9 +65,9 @@ impl SessionState {
         ensures err { OnErr result (self.new ≡ self.old) }
     {
         let number = self.next_key;
-        self.own.reserve(1)?;
-        raise(number, &mut self.holders)?;
-        place(&mut self.own, NumberedKey { number, key });
+        prepare(&mut self.holders)?;
+        self.tables.set(Mapping::Receiver, number, key)?;
+        raise(number, &mut self.holders);
         self.next_key += 1;
         Ok(())
     }
@@ -90,7 +92,7 @@ impl SessionState {
             unreachable!();
         };
         if holders_of(*number, &self.holders) <= 1 {
-            leave_out(*number, &mut self.own);
+            self.tables.unset(Mapping::Receiver, *number);
             forget(*number, &mut self.holders);
         } else {
             count_less(*number, &mut self.holders);
@@ -126,76 +128,8 @@ impl SessionState {
             unreachable!();
         };
         let key = own(self.alloc, key)?;
-        self.told.reserve(1)?;
-        place(&mut self.told, NumberedKey { number, key });
-        Ok(())
+        self.tables.set(Mapping::Sender, number, key)
     }
-}
-
-/// Whether a key argument is a declared number and nothing behind it.
-fn is_whole(key: &KeyArg) -> bool
-    ensures { result ≡ is_whole key.now }
-{
-    match key {
-        KeyArg::Text(_) => false,
-        KeyArg::Number { number: _, suffix } => suffix.as_str().is_empty(),
-    }
-}
-
-/// The least number that stands for a text.
-fn number_at(text: &str, rows: &[NumberedKey]) -> Option<u16>
-    ensures { result ≡ number_at text.now rows.now }
-{
-    for row in rows {
-        if row.key.as_str() == text {
-            return Some(row.number);
-        }
-    }
-    None
-}
-
-/// Puts a number at its place, where there is room for one more.
-fn place(rows: &mut Vec<NumberedKey>, new: NumberedKey)
-    requires { vec_len rows.old < vec_capacity rows.old }
-    ensures { rows.new.items ≡ placed new rows.old.items }
-{
-    let index = place_of(new.number, rows);
-    if is_at(index, new.number, rows) {
-        rows[index] = new;
-        return;
-    }
-    let _ = rows.insert(index, new);
-}
-
-/// The place of a number: behind all smaller ones.
-fn place_of(number: u16, rows: &[NumberedKey]) -> usize
-    ensures { result ≡ position_or_len (λ row. nat_le number row.number) rows.now }
-{
-    first_from(number, rows).unwrap_or(rows.len())
-}
-
-/// The first number that is as great as this one.
-fn first_from(number: u16, rows: &[NumberedKey]) -> Option<usize>
-    ensures { result ≡ position (λ row. nat_le number row.number) rows.now }
-{
-    rows.iter().position(|row| number <= row.number)
-}
-
-/// Whether a number stands at that place.
-fn is_at(index: usize, number: u16, rows: &[NumberedKey]) -> bool
-    ensures { result ≡ is_at number (slice_get rows.now index) }
-{
-    match rows.get(index) {
-        Some(row) => row.number == number,
-        None => false,
-    }
-}
-
-/// Takes a number out.
-fn leave_out(number: u16, rows: &mut Vec<NumberedKey>)
-    ensures { rows.new.items ≡ without number rows.old.items }
-{
-    rows.retain(|row| row.number != number);
 }
 
 /// Takes the holders of a number out.
@@ -217,20 +151,30 @@ fn holders_of(number: u16, rows: &[KeyHolders]) -> u64
     0
 }
 
-/// Counts one holder more of a number. Want of memory stands for a count that can't rise any more, too.
-fn raise(number: u16, rows: &mut Vec<KeyHolders>) -> Result<(), AllocError>
-    ensures ok { OnOk result (rows.new.items ≡ raised number rows.old.items) }
-    ensures err { OnErr result (rows.new.items ≡ rows.old.items) }
+/// Makes room for one holder more, of any number. Want of memory stands for a count that can't rise any more, too.
+fn prepare(rows: &mut Vec<KeyHolders>) -> Result<(), AllocError>
+    ensures same { rows.new.items ≡ rows.old.items }
+    ensures room { OnOk result (vec_len rows.new < vec_capacity rows.new) }
+    ensures counts { OnOk result (can_rise rows.new.items ≡ true) }
 {
-    if !has_holder(number, rows) {
-        rows.push(KeyHolders { number, count: 1 })?;
-        return Ok(());
-    }
+    rows.reserve(1)?;
     if !can_rise(rows) {
         return Err(AllocError);
     }
-    count_more(number, rows);
     Ok(())
+}
+
+/// Counts one holder more of a number, where there is room for it.
+fn raise(number: u16, rows: &mut Vec<KeyHolders>)
+    requires room { vec_len rows.old < vec_capacity rows.old }
+    requires counts { can_rise rows.old.items ≡ true }
+    ensures { rows.new.items ≡ raised number rows.old.items }
+{
+    if has_holder(number, rows) {
+        count_more(number, rows);
+        return;
+    }
+    let _ = rows.push(KeyHolders { number, count: 1 });
 }
 
 fn has_holder(number: u16, rows: &[KeyHolders]) -> bool
@@ -241,14 +185,14 @@ fn has_holder(number: u16, rows: &[KeyHolders]) -> bool
 
 /// Whether each count can still rise.
 fn can_rise(rows: &[KeyHolders]) -> bool
-    ensures { result ≡ list_all (λ row. nat_lt row.count 18446744073709551615) rows.now }
+    ensures { result ≡ can_rise rows.now }
 {
     rows.iter().all(|row| row.count < u64::MAX)
 }
 
 /// Counts one holder more of a number.
 fn count_more(number: u16, rows: &mut Vec<KeyHolders>)
-    requires { list_all (λ row. nat_lt row.count 18446744073709551615) rows.old.items ≡ true }
+    requires { can_rise rows.old.items ≡ true }
     ensures { rows.new.items ≡ map (one_more number) rows.old.items }
 {
     for row in rows.iter_mut() {

@@ -1,13 +1,12 @@
-ghost use Rattle.std.specs.Prelude.{◌≡◌, ◌++◌, None, Some, IfOk, option_map};
-ghost use Rattle.zs_core.specs.Keys.{key_of, wire_of, numbers_for, resolved};
-ghost use Rattle.zs_core.specs.DeclaredKeys.{key_at};
+ghost use Rattle.std.specs.Prelude.{◌≡◌, ◌++◌, Some, IfOk};
+ghost use Rattle.zs_core.specs.Keys.{key_of, wire_of, is_nothing, is_whole, resolved};
 
 use super::SessionState;
-use crate::declared_key::NumberedKey;
 use crate::event::KeyArg;
 use crate::turn::Refusal;
 use std::alloc::{AllocError, Global};
 use zs_keys::{KeyError, KeyExpr};
+use zs_sample::Text;
 use zs_wire::{Mapping, WireExpr};
 
 impl SessionState {
@@ -21,7 +20,7 @@ impl SessionState {
         match key {
             KeyArg::Text(text) => Ok(canonical(text.as_str())),
             KeyArg::Number { number, suffix } => {
-                let Some(known) = key_at(*number, &self.own) else {
+                let Some(known) = self.tables.key_of(Mapping::Receiver, *number) else {
                     return Ok(Err(Refusal::NotFound));
                 };
                 with_suffix(self.alloc, known, suffix.as_str())
@@ -40,20 +39,10 @@ impl SessionState {
         if wire.scope == 0 {
             return Ok(canonical(suffix));
         }
-        let Some(known) = key_at(wire.scope, self.numbers_for(wire.mapping)) else {
+        let Some(known) = self.tables.key_of(wire.mapping, wire.scope) else {
             return Ok(Err(Refusal::UnknownScope));
         };
         with_suffix(self.alloc, known, suffix)
-    }
-
-    /// The numbers of the side that a mapping names.
-    fn numbers_for(&self, mapping: Mapping) -> &[NumberedKey]
-        ensures { result.now ≡ numbers_for mapping self.now }
-    {
-        match mapping {
-            Mapping::Sender => &self.told,
-            Mapping::Receiver => &self.own,
-        }
     }
 }
 
@@ -92,14 +81,19 @@ pub(super) fn own(alloc: Global, key: KeyExpr<'_>) -> Result<KeyExpr<'static>, A
     }
 }
 
-/// The key that a number stands for.
-fn key_at(number: u16, rows: &[NumberedKey]) -> Option<&KeyExpr<'static>>
-    ensures { option_map (λ key. key.now) result ≡ key_at number rows.now }
+/// Whether a key argument is a declared number and nothing behind it.
+pub(super) fn is_whole(key: &KeyArg) -> bool
+    ensures { result ≡ is_whole key.now }
 {
-    for row in rows {
-        if row.number == number {
-            return Some(&row.key);
-        }
+    match key {
+        KeyArg::Text(_) => false,
+        KeyArg::Number { number: _, suffix } => is_nothing(suffix),
     }
-    None
+}
+
+/// Whether a text is empty.
+pub(super) fn is_nothing(text: &Text) -> bool
+    ensures { result ≡ is_nothing text.now }
+{
+    text.as_str().is_empty()
 }

@@ -8,6 +8,7 @@ use crate::event::Event;
 use crate::settings::Settings;
 use crate::turn::Turn;
 use std::alloc::{AllocError, Global};
+use zs_tables::Tables;
 
 impl SessionState {
     /// An open session in which nothing is declared. It keeps the allocator.
@@ -21,10 +22,8 @@ impl SessionState {
             closed: false,
             next_entity: settings.entity_start + 1,
             next_key: settings.key_start,
-            subs: Vec::new(alloc),
-            own: Vec::new(alloc),
+            tables: Tables::new(alloc),
             holders: Vec::new(alloc),
-            told: Vec::new(alloc),
         })
     }
 

@@ -1,16 +1,16 @@
 ghost use Rattle.std.specs.Prelude.{◌≡◌, ◌==◌, not, [], ◌∷◌, Some, None, filter, IfOk, OnOk, OnErr};
 ghost use Rattle.zs_core.specs.Turn.{answered};
 ghost use Rattle.zs_core.specs.Turns.{sub_cause, undeclare_sub_cause};
-ghost use Rattle.zs_core.specs.Subscribers.{is_sub, sub_ends};
+ghost use Rattle.zs_core.specs.Subscribers.{sub_ends};
 ghost use Rattle.zs_core.specs.After.{after};
 
 use super::SessionState;
 use super::keys::own;
 use crate::event::{EntityKind, Event, KeyArg};
-use crate::subscriber::SubRow;
 use crate::turn::{Effect, Effects, Kind, Refusal, Turn};
 use std::alloc::{AllocError, Global};
 use zs_sample::Locality;
+use zs_tables::SubRow;
 
 impl SessionState {
     pub(super) fn preview_sub(&self, key: &KeyArg) -> Result<Turn, AllocError>
@@ -38,7 +38,7 @@ impl SessionState {
             origin,
             key: own(self.alloc, key)?,
         };
-        self.subs.push(row)?;
+        self.tables.add(row)?;
         self.next_entity += 1;
         Ok(())
     }
@@ -47,7 +47,7 @@ impl SessionState {
         ensures { IfOk result (λ turn.
             turn ≡ answered (undeclare_sub_cause self.now id) None (Effect.End Kind.Subscriber id ∷ [])) }
     {
-        if !is_sub(id, &self.subs) {
+        if !self.tables.has(id) {
             return Ok(Turn::refused(self.alloc, Refusal::NotFound));
         }
         let mut effects = Effects::new(self.alloc);
@@ -61,37 +61,22 @@ impl SessionState {
     pub(super) fn change_undeclare_sub(&mut self, id: u32)
         ensures { self.new ≡ after self.old (Event.Undeclare EntityKind.Sub id) }
     {
-        leave_out(id, &mut self.subs);
+        self.tables.remove(id);
     }
 
     pub(super) fn preview_close(&self) -> Result<Turn, AllocError>
         ensures { IfOk result (λ turn. turn ≡ answered None None (sub_ends self.now.entities.subs)) }
     {
-        Ok(Turn::of(ends_of(self.alloc, &self.subs)?))
+        Ok(Turn::of(ends_of(self.alloc, self.tables.rows())?))
     }
 
     pub(super) fn change_close(&mut self)
         ensures { self.new ≡ after self.old Event.Close }
     {
         self.closed = true;
-        self.subs.clear();
-        self.own.clear();
+        self.tables.clear();
         self.holders.clear();
     }
-}
-
-/// Whether there is a subscriber of that number.
-fn is_sub(id: u32, rows: &[SubRow]) -> bool
-    ensures { result ≡ is_sub id rows.now }
-{
-    rows.iter().any(|row| row.id == id)
-}
-
-/// Takes the subscriber of that number out.
-fn leave_out(id: u32, rows: &mut Vec<SubRow>)
-    ensures { rows.new.items ≡ filter (λ row. not (row.id == id)) rows.old.items }
-{
-    rows.retain(|row| row.id != id);
 }
 
 /// That these subscribers are called no more.
