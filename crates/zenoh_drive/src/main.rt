@@ -30,12 +30,20 @@ The settings come in any order, each at most once. In brackets: what it is witho
 No N and no HEX begins with a 0 that could go.
 
 A script line is one event. A tab stands between its fields:
+  key KEY                       declares a key, and answers its number
+  undeclare key #N              gives a declared key back
   sub LOC KEY                   declares a subscriber
   undeclare sub N               ends the subscriber of that number
   put LOC KEY BYTES             puts a value
-  net push s0:KEY put BYTES     a put comes in from the network
-LOC is any, local or remote; KEY is a key expression; BYTES is x and hexadecimal
-digits, two for each byte. The end of input closes the session.
+  close                         closes the session, as the end of input does
+  net keyexpr N WIRE            the network tells what its number N stands for
+  net unkeyexpr N               it gives the number back, which changes nothing
+  net push WIRE put BYTES       a put comes in from the network
+  net close                     the other side closed, which changes nothing
+LOC is any, local or remote. KEY is a key expression, or #N or #N:TEXT for the
+declared key N with a text behind it. WIRE is s0:TEXT, or sN:TEXT for a number of
+the network, or rN:TEXT for one of this session. BYTES is x and hexadecimal
+digits, two for each byte.
 
 Status: 0 the end was reached; 2 bad words; 3 a line is no event; 4 a line is too
 long; 5 too many reads; 6 the input failed; 7 the output failed; 8 no memory.
