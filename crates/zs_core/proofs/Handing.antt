@@ -1,12 +1,12 @@
 -- Who is handed a publication: those that a walk over the tables finds, told by the plain filter.
-use Rattle.std.proofs.Common.{◌≡◌, ℕ, List, [], ◌∷◌, Bool, true, false, refl, sym, ◌∙◌, ap, cond}
-use Rattle.std.specs.Prelude.{◌&&◌, not, map, filter, if◌then◌else◌}
+use Rattle.std.proofs.Common.{◌≡◌, List, [], ◌∷◌, Bool, true, false, refl, ap, cond}
+use Rattle.std.specs.Prelude.{◌&&◌, map, filter}
 use Rattle.zs_keys.specs.Matching.{intersects}
 use Rattle.zs_sample.specs.declared.locality.Locality.{Locality}
 use Rattle.zs_sample.specs.declared.sample.SampleFields.{SampleFields}
 use Rattle.zs_tables.specs.declared.subscriber.SubRow.{SubRow}
-use Rattle.zs_tables.specs.Recipients.{has_session, has_network, receives, recipients}
-use Rattle.zs_core.specs.Publications.{Publication, reaches, allows, hands, hand_to, hands_to}
+use Rattle.zs_tables.specs.Recipients.{has_session, receives, recipients}
+use Rattle.zs_core.specs.Publications.{Publication, allows, hands, hand_to, hands_to}
 
 -- those who pass one test are handed it where those who pass another, equal one receive it
 same_hands : (p : Publication) (local : Bool) (rows : List SubRow) → ((row : SubRow) → allows p row ≡ receives local p.sample.key_expr.text row)

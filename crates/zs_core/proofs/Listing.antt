@@ -9,7 +9,7 @@ use Rattle.zs_tables.specs.Recipients.{matches}
 use Rattle.zs_core.specs.declared.event.Event.{Event}
 use Rattle.zs_core.specs.declared.settings.Settings.{Settings}
 use Rattle.zs_core.specs.Keys.{numbers_for}
-use Rattle.zs_core.specs.Past.{Entry, subs, world_of, past_of}
+use Rattle.zs_core.specs.Past.{subs, world_of, past_of}
 use Rattle.zs_core.specs.Live.{live_subs}
 use Rattle.zs_core.specs.Held.{mapped_text}
 use Rattle.zs_core.proofs.Living.{numbered, table_is_live}

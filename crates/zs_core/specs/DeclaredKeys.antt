@@ -1,11 +1,10 @@
-use Rattle.std.specs.Prelude.{ℕ, ◌+◌, ◌-◌, Bool, false, ◌==◌, nat_lt, nat_le, not, List, [], ◌∷◌, ◌++◌, map, filter, Option, Some, None, is_some, if◌then◌else◌}
+use Rattle.std.specs.Prelude.{ℕ, ◌+◌, ◌-◌, Bool, false, ◌==◌, nat_lt, nat_le, not, List, [], ◌∷◌, ◌++◌, map, filter, Option, Some, is_some, if◌then◌else◌}
 use Rattle.std.specs.List.{list_any, list_all}
-use Rattle.std.specs.Str.{bytes_eq}
-use Rattle.zs_keys.specs.Key.{Key, undeclared}
+use Rattle.zs_keys.specs.Key.{undeclared}
 use Rattle.zs_core.specs.declared.event.Event.{Event}
 use Rattle.zs_core.specs.declared.event.Event.TheVariants.{Key as key_event, UndeclareKey, NetKeyExpr, Close}
 use Rattle.zs_core.specs.declared.event.KeyArg.TheVariants.{Number}
-use Rattle.zs_tables.specs.Numbers.{NumberedKey, key_at, number_at, placed, without}
+use Rattle.zs_tables.specs.Numbers.{NumberedKey, number_at, placed, without}
 use Rattle.zs_core.specs.declared.declared_key.KeyHolders.{KeyHolders}
 
 -- the numbers with the new one, if there is one
@@ -33,9 +32,13 @@ one_less number row = if row.number == number then record row { count = row.coun
 abbrev pub raised : ℕ → List KeyHolders → List KeyHolders
 raised number rows = if has_holder number rows then map (one_more number) rows else rows ++ record { number = number; count = 1 } ∷ []
 
+-- the count that no more holders fit in
+abbrev pub last_count : ℕ
+last_count = 18446744073709551615
+
 -- whether each count of holders can still rise
 abbrev pub can_rise : List KeyHolders → Bool
-can_rise rows = list_all (λ row. nat_lt row.count 18446744073709551615) rows
+can_rise rows = list_all (λ row. nat_lt row.count last_count) rows
 
 -- whether no more than one holds a number
 abbrev pub is_last : ℕ → List KeyHolders → Bool

@@ -1,8 +1,7 @@
-use Rattle.std.specs.Prelude.{ℕ, Bool, true, false, List, map, filter, ◌&&◌, if◌then◌else◌}
+use Rattle.std.specs.Prelude.{ℕ, Bool, List, map, filter, ◌&&◌, if◌then◌else◌}
 use Rattle.zs_keys.specs.Key.{undeclared}
 use Rattle.zs_keys.specs.Matching.{intersects}
 use Rattle.zs_sample.specs.declared.locality.Locality.{Locality}
-use Rattle.zs_sample.specs.declared.locality.Locality.TheVariants.{SessionLocal, Remote, Any}
 use Rattle.zs_sample.specs.declared.quality.QoSType.{QoSType}
 use Rattle.zs_sample.specs.declared.quality.Reliability.TheVariants.{BestEffort, Reliable}
 use Rattle.zs_sample.specs.declared.sample.SampleFields.{SampleFields}

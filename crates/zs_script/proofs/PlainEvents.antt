@@ -15,7 +15,7 @@ use Rattle.zs_wire.specs.declared.wire_expr.WireExpr.{WireExpr}
 use Rattle.zs_core.specs.declared.event.KeyArg.{KeyArg}
 use Rattle.zs_core.specs.declared.event.KeyArg.TheVariants.{Text, Number}
 use Rattle.zs_core.specs.declared.event.Event.{Event}
-use Rattle.zs_core.specs.declared.event.Event.TheVariants.{Key, UndeclareKey, Sub, Undeclare, Put, NetKeyExpr, NetUndeclareKeyExpr, NetPut, NetClose, Close}
+use Rattle.zs_core.specs.declared.event.Event.TheVariants.{UndeclareKey, Sub, Undeclare, Put, NetKeyExpr, NetUndeclareKeyExpr, NetPut}
 use Rattle.zs_script.specs.Lines.{fields}
 use Rattle.zs_script.specs.Symbols.{number_of, u16_max, u32_max, locality_of, is_colon, numbered_of, key_of, payload_of, after_prefix, scoped_of, scoped_in, wire_of}
 use Rattle.zs_script.specs.Grammar.{default_encoding, default_qos, declare_of, close_of, sub_of, entity_kind_of, undeclare_of, put_of, push_of, key_expr_of, unkey_expr_of, net_close_of, net_of, event_of_fields, event_of}

@@ -1,6 +1,6 @@
 -- The texts of declared keys are plain, where the events that declared them are.
-use Rattle.std.proofs.Common.{◌≡◌, ℕ, List, [], ◌∷◌, ◌++◌, Bool, true, false, Option, Some, None, refl, cond, IfSome}
-use Rattle.std.specs.Prelude.{not, ◌==◌, filter, is_some, if◌then◌else◌, encode_utf8_all}
+use Rattle.std.proofs.Common.{◌≡◌, ℕ, List, [], ◌∷◌, Bool, true, false, Option, Some, None, cond, IfSome}
+use Rattle.std.specs.Prelude.{not, ◌==◌, is_some, if◌then◌else◌, encode_utf8_all}
 use Rattle.std.specs.List.{AllByRecursion}
 use Rattle.zs_keys.specs.Key.{Key as a_key, undeclared}
 use Rattle.zs_core.specs.declared.event.Event.{Event}
@@ -14,7 +14,7 @@ use Rattle.zs_wire.specs.declared.wire_expr.Mapping.{Mapping}
 use Rattle.zs_wire.specs.declared.wire_expr.Mapping.TheVariants.{Sender, Receiver}
 use Rattle.zs_wire.specs.declared.wire_expr.WireExpr.{WireExpr}
 use Rattle.zs_core.specs.Keys.{key_of, suffixed, numbers_for, wire_of}
-use Rattle.zs_tables.specs.Numbers.{key_at, number_at, placed, without}
+use Rattle.zs_tables.specs.Numbers.{key_at, number_at, without}
 use Rattle.zs_core.specs.DeclaredKeys.{all_placed, is_last, own_new, told_after}
 use Rattle.zs_core.specs.Turns.{cause, number_for}
 use Rattle.zs_core.specs.Past.{Entry, past_of, world_of, entry_for, joined, is_closed, own, holders, told}

@@ -26,7 +26,7 @@ use Rattle.zs_core.specs.Turn.{answered}
 use Rattle.zs_core.specs.Subscribers.{sub_ends}
 use Rattle.zs_core.specs.Publications.{Publication, allows, put_sample}
 use Rattle.zs_core.specs.Turns.{closed_cause, open_cause, number_for, text_for, publication_of, effects_of, put_of, hands_for}
-use Rattle.zs_core.specs.Past.{Entry, past_of, world_of, is_closed, subs, own}
+use Rattle.zs_core.specs.Past.{Entry, past_of, world_of, is_closed, subs}
 use Rattle.zs_core.specs.Live.{live_subs}
 use Rattle.zs_core.specs.Causes.{has_cause, Names}
 use Rattle.zs_core.specs.Stands.{effects}

@@ -1,10 +1,10 @@
-ghost use Rattle.std.specs.Prelude.{◌≡◌, ◌<◌, ◌+◌, ◌==◌, not, true, false, [], None, Some, filter, map, IfOk, OnOk, OnErr, vec_len, vec_capacity, nat_lt, nat_le, slice_get};
+ghost use Rattle.std.specs.Prelude.{◌≡◌, ◌<◌, ◌+◌, ◌==◌, not, true, false, [], None, Some, filter, map, IfOk, OnOk, OnErr, vec_len, vec_capacity, nat_lt};
 ghost use Rattle.zs_core.specs.Settings.{last_key};
 ghost use Rattle.zs_core.specs.Turn.{answered};
 ghost use Rattle.zs_core.specs.Turns.{is_spent, tell_key_cause, declare_key_cause, undeclare_key_cause, key_number};
 ghost use Rattle.zs_core.specs.Keys.{key_of, is_whole};
 ghost use Rattle.zs_tables.specs.Numbers.{placed};
-ghost use Rattle.zs_core.specs.DeclaredKeys.{holders_of, has_holder, raised, can_rise, one_more, one_less};
+ghost use Rattle.zs_core.specs.DeclaredKeys.{last_count, holders_of, has_holder, raised, can_rise, one_more, one_less};
 ghost use Rattle.zs_core.specs.After.{after};
 
 use super::SessionState;
@@ -201,7 +201,7 @@ fn count_more(number: u16, rows: &mut Vec<KeyHolders>)
 }
 
 fn one_more(number: u16, row: KeyHolders) -> KeyHolders
-    requires { nat_lt row.count 18446744073709551615 ≡ true }
+    requires { nat_lt row.count last_count ≡ true }
     ensures { result ≡ one_more number row }
 {
     if row.number != number {

@@ -1,4 +1,4 @@
-ghost use Rattle.std.specs.Prelude.{◌≡◌, ◌⊎◌, ◌<◌, ℕ, List, Some, None, true, false, IfOk};
+ghost use Rattle.std.specs.Prelude.{◌≡◌, ◌⊎◌, ◌<◌, Some, None, true, false, IfOk};
 ghost use Rattle.zs_tables.specs.Contents.{text_meant, IsByNumber};
 ghost use Rattle.zs_tables.specs.Recipients.{has_session, recipients};
 ghost use Rattle.zs_core.specs.World.{World, tables_of};

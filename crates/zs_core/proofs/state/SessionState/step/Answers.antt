@@ -1,4 +1,4 @@
-use Rattle.std.proofs.Common.{◌≡◌, true, false}
+use Rattle.std.proofs.Common.{◌≡◌, false}
 use Rattle.zs_core.specs.Turn.{was_refused}
 use Rattle.zs_core.specs.Turns.{turn_of}
 use Rattle.zs_core.specs.After.{after}
