@@ -6,10 +6,10 @@ use Rattle.std.specs.List.{list_all, join_with_byte, starts_with}
 use Rattle.std.proofs.lemmas.Bool.Decides.{nat_tests}
 use Rattle.std.proofs.lemmas.List.Splits.{join_with_byte-slice_split}
 use Rattle.zs_keys.specs.Text.{chunks, is_canonical, is_chunk, is_star, is_double_star, may_follow, may_run, has_ordered_stars}
-use Rattle.zs_keys.specs.Canonize.{squeezed, canonized_chunk, sink, ordered, canonize}
+use Rattle.zs_keys.specs.Canonize.{squeezed_chunk, canonized_chunk, sink, ordered_chunks, canonize}
 use Rattle.zs_keys.specs.Key.{join_text}
 use Rattle.zs_keys.proofs.Bools.{split, and_second, or_none_left, or_none_right, and_first, both, not_true, both_ways}
-use Rattle.zs_keys.proofs.SqueezeLemmas.{squeezed-plain, squeezed-other, squeezed-none, squeezed-once, squeezed-all}
+use Rattle.zs_keys.proofs.SqueezeLemmas.{squeezed_chunk-plain, squeezed_chunk-other, squeezed_chunk-none, squeezed_chunk-once, squeezed_chunk-all}
 use Rattle.zs_keys.proofs.OrderLemmas.{sink-star, sink-run, sink-other, ordered-run, ordered-plain, ordered-none, sink-none}
 use Rattle.zs_keys.proofs.PrefixLemmas.{chunks-append, chunks-some}
 
@@ -32,25 +32,25 @@ run-single (a ∷ b ∷ bs) h = split (0x2a == a)
     (λ t. rw t refl)
 
 -- so it is its own squeezed form
-run-squeezed : (a : ℕ) (bs : List ℕ) → may_run a bs ≡ true → squeezed bs ≡ bs
-run-squeezed a [] h = squeezed-none
+run-squeezed : (a : ℕ) (bs : List ℕ) → may_run a bs ≡ true → squeezed_chunk bs ≡ bs
+run-squeezed a [] h = squeezed_chunk-none
 run-squeezed a (b ∷ bs) h = split (b == 0x24)
     (λ t.
     let dollar : b ≡ 0x24 = grind (arith, nat_tests) in
     let rest : may_run b bs ≡ true = and_second (may_follow a b) (may_run b bs) h in
-    rw dollar (squeezed-other bs (run-single bs (rw dollar at rest))
+    rw dollar (squeezed_chunk-other bs (run-single bs (rw dollar at rest))
     ∙ ap (λ (xs : List ℕ). 0x24 ∷ xs) (run-squeezed b bs rest)))
     (λ t.
     let other : b ≢ 0x24 = grind (arith, nat_tests) in
-    squeezed-plain b bs other
+    squeezed_chunk-plain b bs other
     ∙ ap (λ (xs : List ℕ). b ∷ xs) (run-squeezed b bs (and_second (may_follow a b) (may_run b bs) h)))
 
 star-canonized : canonized_chunk (codes "*") ≡ codes "*"
-unfolding squeezed
+unfolding squeezed_chunk
 star-canonized = refl
 
 run-canonized : canonized_chunk (codes "**") ≡ codes "**"
-unfolding squeezed
+unfolding squeezed_chunk
 run-canonized = refl
 
 plain-canonized : (c : List ℕ) → (not (bytes_eq c (codes "$*")) && may_run 0x2f c) ≡ true → canonized_chunk c ≡ c
@@ -101,11 +101,11 @@ sink-in_order (c ∷ cs) h = split (is_star c)
     (λ k. rw (sink-run c cs t k) h)
     (λ k. rw (sink-other c cs t k) (rw (k, t) h)))
 
-ordered-in_order : (cs : List (List ℕ)) → has_ordered_stars (ordered cs) ≡ true
+ordered-in_order : (cs : List (List ℕ)) → has_ordered_stars (ordered_chunks cs) ≡ true
 ordered-in_order [] = rw ordered-none refl
 ordered-in_order (c ∷ cs) = split (is_double_star c)
-    (λ k. rw (ordered-run c cs k) (sink-in_order (ordered cs) (ordered-in_order cs)))
-    (λ k. rw (ordered-plain c cs k) (plain-in_order c (ordered cs) k (ordered-in_order cs)))
+    (λ k. rw (ordered-run c cs k) (sink-in_order (ordered_chunks cs) (ordered-in_order cs)))
+    (λ k. rw (ordered-plain c cs k) (plain-in_order c (ordered_chunks cs) k (ordered-in_order cs)))
 
 -- and it has the same chunks
 sink-chunks : (test : List ℕ → Bool) → test (codes "**") ≡ true → (cs : List (List ℕ)) → list_all test cs ≡ true
@@ -121,13 +121,13 @@ sink-chunks test run (c ∷ cs) h =
     (λ k. rw (sink-other c cs t k, run) h))
 
 ordered-chunks : (test : List ℕ → Bool) → test (codes "**") ≡ true → (cs : List (List ℕ)) → list_all test cs ≡ true
-    → list_all test (ordered cs) ≡ true
+    → list_all test (ordered_chunks cs) ≡ true
 ordered-chunks test run [] h = rw ordered-none refl
 ordered-chunks test run (c ∷ cs) h =
     let rest = ordered-chunks test run cs (and_second (test c) (list_all test cs) h) in
     split (is_double_star c)
-    (λ k. rw (ordered-run c cs k) (sink-chunks test run (ordered cs) rest))
-    (λ k. rw (ordered-plain c cs k) (both (test c) (list_all test (ordered cs)) (and_first (test c) (list_all test cs) h) rest))
+    (λ k. rw (ordered-run c cs k) (sink-chunks test run (ordered_chunks cs) rest))
+    (λ k. rw (ordered-plain c cs k) (both (test c) (list_all test (ordered_chunks cs)) (and_first (test c) (list_all test cs) h) rest))
 
 -- no byte of a chunk is a `/`
 abbrev has_no_slash : List ℕ → Bool
@@ -175,14 +175,14 @@ sink-some (c ∷ cs) = split (is_star c)
     (λ k. (c, cs, sink-run c cs t k))
     (λ k. (codes "**", c ∷ cs, sink-other c cs t k)))
 
-ordered-some : (c : List ℕ) (cs : List (List ℕ)) → (d : List ℕ) × (ds : List (List ℕ)) × (ordered (c ∷ cs) ≡ d ∷ ds)
+ordered-some : (c : List ℕ) (cs : List (List ℕ)) → (d : List ℕ) × (ds : List (List ℕ)) × (ordered_chunks (c ∷ cs) ≡ d ∷ ds)
 ordered-some c cs = split (is_double_star c)
-    (λ k. let (d, ds, is) = sink-some (ordered cs) in (d, ds, ordered-run c cs k ∙ is))
-    (λ k. (c, ordered cs, ordered-plain c cs k))
+    (λ k. let (d, ds, is) = sink-some (ordered_chunks cs) in (d, ds, ordered-run c cs k ∙ is))
+    (λ k. (c, ordered_chunks cs, ordered-plain c cs k))
 
 -- chunks of canonical texts, ordered and joined, make a canonical text
 form-canonical : (c : List ℕ) (cs : List (List ℕ)) → list_all is_chunk (c ∷ cs) ≡ true → list_all has_no_slash (c ∷ cs) ≡ true
-    → is_canonical (join_with_byte 0x2f (ordered (c ∷ cs))) ≡ true
+    → is_canonical (join_with_byte 0x2f (ordered_chunks (c ∷ cs))) ≡ true
 form-canonical c cs h n =
     let (d, ds, is) = ordered-some c cs in
     let plain : list_all has_no_slash (d ∷ ds) ≡ true = rw is at (ordered-chunks has_no_slash refl (c ∷ cs) n) in
@@ -202,7 +202,7 @@ join-canonical a b h k =
     (form-of (chunks a ++ chunks b) c (cs ++ chunks b) (rw is refl) whole plain)
   where
     form-of : (all : List (List ℕ)) (c : List ℕ) (cs : List (List ℕ)) → all ≡ c ∷ cs → list_all is_chunk all ≡ true
-        → list_all has_no_slash all ≡ true → is_canonical (join_with_byte 0x2f (ordered all)) ≡ true
+        → list_all has_no_slash all ≡ true → is_canonical (join_with_byte 0x2f (ordered_chunks all)) ≡ true
     form-of all c cs is h n = rw is (form-canonical c cs (rw is at h) (rw is at n))
 
 apart-of : (a b r : Bool) → a ≡ true → (not (a && b) && r) ≡ true → b ≡ false
@@ -218,7 +218,7 @@ sink-front c (d ∷ ds) k run h =
     rw (sink-other d ds (or_none_right (is_double_star d) (is_star d) apart) (or_none_left (is_double_star d) (is_star d) apart), run) refl
 
 -- stars in canonical order stay
-ordered-same : (cs : List (List ℕ)) → has_ordered_stars cs ≡ true → ordered cs ≡ cs
+ordered-same : (cs : List (List ℕ)) → has_ordered_stars cs ≡ true → ordered_chunks cs ≡ cs
 ordered-same [] h = ordered-none
 ordered-same (c ∷ cs) h = split (is_double_star c)
     (λ k.
@@ -240,9 +240,9 @@ abbrev is_form : List ℕ → Bool
 is_form c = bytes_eq (canonized_chunk c) c
 
 chunk-once : (c : List ℕ) → canonized_chunk (canonized_chunk c) ≡ canonized_chunk c
-chunk-once c = split (bytes_eq (squeezed c) (codes "$*"))
+chunk-once c = split (bytes_eq (squeezed_chunk c) (codes "$*"))
     (λ t. rw t star-canonized)
-    (λ t. rw (t, squeezed-once c, t) refl)
+    (λ t. rw (t, squeezed_chunk-once c, t) refl)
 
 forms-all : (cs : List (List ℕ)) → list_all is_form (map canonized_chunk cs) ≡ true
 forms-all [] = refl
@@ -259,9 +259,9 @@ forms-same (c ∷ cs) h =
     ) refl
 
 form-no_slash : (c : List ℕ) → has_no_slash c ≡ true → has_no_slash (canonized_chunk c) ≡ true
-form-no_slash c h = split (bytes_eq (squeezed c) (codes "$*"))
+form-no_slash c h = split (bytes_eq (squeezed_chunk c) (codes "$*"))
     (λ t. rw t refl)
-    (λ t. rw t (squeezed-all (λ b. not (b == 0x2f)) refl refl c h))
+    (λ t. rw t (squeezed_chunk-all (λ b. not (b == 0x2f)) refl refl c h))
 
 forms-no_slash : (cs : List (List ℕ)) → list_all has_no_slash cs ≡ true → list_all has_no_slash (map canonized_chunk cs) ≡ true
 forms-no_slash [] h = refl
@@ -272,7 +272,7 @@ forms-no_slash (c ∷ cs) h =
 
 -- ordered chunks in canonical form, joined, are their own canonical form
 joined-once : (f : List ℕ) (fs : List (List ℕ)) → list_all has_no_slash (f ∷ fs) ≡ true → list_all is_form (f ∷ fs) ≡ true
-    → canonize (join_with_byte 0x2f (ordered (f ∷ fs))) ≡ join_with_byte 0x2f (ordered (f ∷ fs))
+    → canonize (join_with_byte 0x2f (ordered_chunks (f ∷ fs))) ≡ join_with_byte 0x2f (ordered_chunks (f ∷ fs))
 joined-once f fs n h =
     let (d, ds, is) = ordered-some f fs in
     let plain : list_all has_no_slash (d ∷ ds) ≡ true = rw is at (ordered-chunks has_no_slash refl (f ∷ fs) n) in
@@ -291,7 +291,7 @@ canonize-once text =
   where
     once-of : (all : List (List ℕ)) (f : List ℕ) (fs : List (List ℕ)) → all ≡ f ∷ fs → list_all has_no_slash all ≡ true
         → list_all is_form all ≡ true
-        → canonize (join_with_byte 0x2f (ordered all)) ≡ join_with_byte 0x2f (ordered all)
+        → canonize (join_with_byte 0x2f (ordered_chunks all)) ≡ join_with_byte 0x2f (ordered_chunks all)
     once-of all f fs is n h = rw is (joined-once f fs (rw is at n) (rw is at h))
 
 -- what holds of each chunk in order holds of each chunk
@@ -306,27 +306,27 @@ sink-back test (c ∷ cs) h = split (is_star c)
     (λ k. rw (sink-run c cs t k) at h)
     (λ k. and_second (test (codes "**")) (list_all test (c ∷ cs)) (rw (sink-other c cs t k) at h)))
 
-ordered-back : (test : List ℕ → Bool) → test (codes "**") ≡ true → (cs : List (List ℕ)) → list_all test (ordered cs) ≡ true
+ordered-back : (test : List ℕ → Bool) → test (codes "**") ≡ true → (cs : List (List ℕ)) → list_all test (ordered_chunks cs) ≡ true
     → list_all test cs ≡ true
 ordered-back test run [] h = refl
 ordered-back test run (c ∷ cs) h = split (is_double_star c)
     (λ k.
     let is : c ≡ codes "**" = (bytes_decides c (codes "**")).0 k in
     both (test c) (list_all test cs) (rw is run)
-    (ordered-back test run cs (sink-back test (ordered cs) (rw (ordered-run c cs k) at h))))
+    (ordered-back test run cs (sink-back test (ordered_chunks cs) (rw (ordered-run c cs k) at h))))
     (λ k.
-    let h' : (test c && list_all test (ordered cs)) ≡ true = rw (ordered-plain c cs k) at h in
-    both (test c) (list_all test cs) (and_first (test c) (list_all test (ordered cs)) h')
-    (ordered-back test run cs (and_second (test c) (list_all test (ordered cs)) h')))
+    let h' : (test c && list_all test (ordered_chunks cs)) ≡ true = rw (ordered-plain c cs k) at h in
+    both (test c) (list_all test cs) (and_first (test c) (list_all test (ordered_chunks cs)) h')
+    (ordered-back test run cs (and_second (test c) (list_all test (ordered_chunks cs)) h')))
 
 joined-canonical : (f : List ℕ) (fs : List (List ℕ)) → list_all has_no_slash (f ∷ fs) ≡ true
-    → is_canonical (join_with_byte 0x2f (ordered (f ∷ fs))) ≡ list_all is_chunk (f ∷ fs)
+    → is_canonical (join_with_byte 0x2f (ordered_chunks (f ∷ fs))) ≡ list_all is_chunk (f ∷ fs)
 joined-canonical f fs n =
     let (d, ds, is) = ordered-some f fs in
     let plain : list_all has_no_slash (d ∷ ds) ≡ true = rw is at (ordered-chunks has_no_slash refl (f ∷ fs) n) in
     let back : list_all is_chunk (d ∷ ds) ≡ true → list_all is_chunk (f ∷ fs) ≡ true =
     λ h. ordered-back is_chunk refl (f ∷ fs) (rw is h) in
-    both_ways (is_canonical (join_with_byte 0x2f (ordered (f ∷ fs)))) (list_all is_chunk (f ∷ fs))
+    both_ways (is_canonical (join_with_byte 0x2f (ordered_chunks (f ∷ fs)))) (list_all is_chunk (f ∷ fs))
     (λ h.
     let h' : (list_all is_chunk (d ∷ ds) && has_ordered_stars (d ∷ ds)) ≡ true = rw (is, chunks-of_joined d ds plain) at h in
     back (and_first (list_all is_chunk (d ∷ ds)) (has_ordered_stars (d ∷ ds)) h'))
@@ -340,5 +340,5 @@ form-where text =
     (forms-no_slash (chunks text) (chunks-whole text))
   where
     where-of : (all : List (List ℕ)) (f : List ℕ) (fs : List (List ℕ)) → all ≡ f ∷ fs → list_all has_no_slash all ≡ true
-        → is_canonical (join_with_byte 0x2f (ordered all)) ≡ list_all is_chunk all
+        → is_canonical (join_with_byte 0x2f (ordered_chunks all)) ≡ list_all is_chunk all
     where-of all f fs is n = rw is (joined-canonical f fs (rw is at n))

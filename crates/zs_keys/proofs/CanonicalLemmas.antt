@@ -30,12 +30,6 @@ pub fits_behind-stars : (flag : Bool) (c : List ℕ) (cs ds : List (List ℕ)) �
     → (is_double_star c || is_star c) ≡ true → fits_behind flag ds ≡ false
 fits_behind-stars flag c cs ds h on stars = rw (h, on, stars) refl
 
--- what is left of the test behind a chunk that passes
-and-turn : (a b c d : Bool) → (a && (b && (not c && d))) ≡ (not (a && (b && c)) && (a && (b && d)))
-and-turn true true c d = refl
-and-turn true false c d = refl
-and-turn false b c d = refl
-
 -- the order behind a chunk is that of the rest, and the rest begins as it may
 ordered-cons : (c : List ℕ) (cs : List (List ℕ)) → has_ordered_stars (c ∷ cs)
     ≡ (not (is_double_star c && begins_with_stars cs) && has_ordered_stars cs)

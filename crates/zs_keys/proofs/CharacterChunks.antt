@@ -16,17 +16,17 @@ use Rattle.zs_keys.proofs.PrefixLemmas.{chunks-some}
 use Rattle.zs_keys.proofs.Encoding.{follows, Encodes, encoding}
 use Rattle.zs_keys.proofs.Characters.{units-by_bytes, included-by_bytes}
 
-abbrev bytes : List ℕ → List ℕ
+abbrev pub bytes : List ℕ → List ℕ
 bytes cs = encode_utf8_all cs
 
-scalar-first : (x : ℕ) (u : List ℕ) → all_scalars (x ∷ u) ≡ true → IsScalar x
+pub scalar-first : (x : ℕ) (u : List ℕ) → all_scalars (x ∷ u) ≡ true → IsScalar x
 scalar-first x u s = and_first (scalar x) (all_scalars u) s
 
-scalar-rest : (x : ℕ) (u : List ℕ) → all_scalars (x ∷ u) ≡ true → all_scalars u ≡ true
+pub scalar-rest : (x : ℕ) (u : List ℕ) → all_scalars (x ∷ u) ≡ true → all_scalars u ≡ true
 scalar-rest x u s = and_second (scalar x) (all_scalars u) s
 
 -- equal texts have equal bytes, and no others
-same-by_bytes : (c d : List ℕ) → bytes_eq (bytes c) (bytes d) ≡ bytes_eq c d
+pub same-by_bytes : (c d : List ℕ) → bytes_eq (bytes c) (bytes d) ≡ bytes_eq c d
 same-by_bytes c d = both_ways (bytes_eq (bytes c) (bytes d)) (bytes_eq c d)
     (λ h. (bytes_decides c d).1 (encodes_same c d ((bytes_decides (bytes c) (bytes d)).0 h)))
     (λ h. (bytes_decides (bytes c) (bytes d)).1 (ap (λ (x : List ℕ). bytes x) ((bytes_decides c d).0 h)))
@@ -39,14 +39,14 @@ run-bytes : bytes (codes "**") ≡ codes "**"
 unfolding encode
 run-bytes = refl
 
-star-by_bytes : (c : List ℕ) → is_star (bytes c) ≡ is_star c
+pub star-by_bytes : (c : List ℕ) → is_star (bytes c) ≡ is_star c
 star-by_bytes c = ap (λ (x : List ℕ). bytes_eq (bytes c) x) (sym star-bytes) ∙ same-by_bytes c (codes "*")
 
-run-by_bytes : (c : List ℕ) → is_double_star (bytes c) ≡ is_double_star c
+pub run-by_bytes : (c : List ℕ) → is_double_star (bytes c) ≡ is_double_star c
 run-by_bytes c = ap (λ (x : List ℕ). bytes_eq (bytes c) x) (sym run-bytes) ∙ same-by_bytes c (codes "**")
 
 -- a sign of the language is one byte, and no other character has that byte
-sign_apart : (n b c : ℕ) (t : List ℕ) → n < 128 → Encodes c b t → (b == n) ≡ (c == n)
+pub sign_apart : (n b c : ℕ) (t : List ℕ) → n < 128 → Encodes c b t → (b == n) ≡ (c == n)
 sign_apart n b c t small e = lead e.lead
   where
     lead : (((c < 128) × (b ≡ c) × (t ≡ [])) ⊎ ((128 ≤ c) × (192 ≤ b))) → (b == n) ≡ (c == n)
@@ -70,7 +70,7 @@ verbatim-by_bytes (x ∷ c) s =
     rw e.is (sign_apart 0x40 b x t (omega arith) e)
 
 -- a byte that follows is no sign
-follows-no : (n b : ℕ) → n < 128 → follows b ≡ true → (b == n) ≡ false
+pub follows-no : (n b : ℕ) → n < 128 → follows b ≡ true → (b == n) ≡ false
 follows-no n b small h = grind (arith, nat_tests)
 
 all-no : (n : ℕ) (t : List ℕ) → n < 128 → list_all follows t ≡ true → list_all (λ b. not (b == n)) t ≡ true
@@ -124,7 +124,7 @@ chunks-front (b ∷ l) e c cs h is =
     let no : (b == 0x2f) ≡ false = not_true (b == 0x2f) (and_first (not (b == 0x2f)) (list_all (λ a. not (a == 0x2f)) l) h) in
     rw (no, chunks-front l e c cs (and_second (not (b == 0x2f)) (list_all (λ a. not (a == 0x2f)) l) h) is) refl
 
-chunks-of_bytes : (cs : List ℕ) → all_scalars cs ≡ true → chunks (bytes cs) ≡ map (λ c. bytes c) (chunks cs)
+pub chunks-of_bytes : (cs : List ℕ) → all_scalars cs ≡ true → chunks (bytes cs) ≡ map (λ c. bytes c) (chunks cs)
 chunks-of_bytes [] s = refl
 chunks-of_bytes (x ∷ xs) s =
     let (c, rest, is) = chunks-some xs in
@@ -136,7 +136,7 @@ chunks-of_bytes (x ∷ xs) s =
     (encoding-no 0x2f x (omega arith) (scalar-first x xs s) h) ih))
 
 -- each chunk of a text is one of characters
-chunks-scalar : (cs : List ℕ) → all_scalars cs ≡ true → list_all all_scalars (chunks cs) ≡ true
+pub chunks-scalar : (cs : List ℕ) → all_scalars cs ≡ true → list_all all_scalars (chunks cs) ≡ true
 chunks-scalar [] s = refl
 chunks-scalar (x ∷ xs) s =
     let (c, rest, is) = chunks-some xs in

@@ -10,7 +10,7 @@ use Rattle.std.proofs.lemmas.Bool.Decides.{nat_tests}
 use Rattle.std.proofs.lemmas.Str.{encodes_same}
 use Rattle.zs_keys.specs.Matching.{meets, some_rest, is_any}
 use Rattle.zs_keys.specs.Rules.{meets-wild-end, meets-wild, meets-end-wild, meets-left_end, meets-right_end, meets-pair}
-use Rattle.zs_keys.specs.Symmetry.{meets_comm, same_unit_comm}
+use Rattle.zs_keys.proofs.Symmetry.{meets_comm, same_unit_comm}
 use Rattle.zs_keys.proofs.Bools.{split, or_cases, and_first, and_second, both_ways, not_true}
 use Rattle.zs_keys.proofs.Behind.{behind-wild, behind-later, behind-here}
 use Rattle.zs_keys.proofs.Encoding.{follows, Encodes, encoding}

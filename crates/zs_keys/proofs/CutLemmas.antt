@@ -5,7 +5,7 @@ use Rattle.std.specs.Cmp.Lexicographic.{bytes_decides}
 use Rattle.zs_keys.specs.Text.{is_double_star, is_verbatim}
 use Rattle.zs_keys.specs.Matching.{meets, is_free, chunk_meets}
 use Rattle.zs_keys.specs.Rules.{meets-ends, meets-left_end, meets-right_end, meets-pair}
-use Rattle.zs_keys.specs.Symmetry.{chunk_meets_comm}
+use Rattle.zs_keys.proofs.Symmetry.{chunk_meets_comm}
 use Rattle.zs_keys.specs.Segments.{front, behind}
 use Rattle.zs_keys.proofs.Bools.{split, not_true, not_false}
 use Rattle.zs_keys.proofs.SegmentLemmas.{cut}

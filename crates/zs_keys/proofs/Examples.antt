@@ -3,7 +3,7 @@ use Rattle.std.proofs.Common.{◌≡◌, true, false, refl, [], ◌∷◌}
 use Rattle.std.specs.Prelude.{codes, Some, None}
 use Rattle.zs_keys.specs.Text.{chunks, is_canonical}
 use Rattle.zs_keys.specs.Matching.{meets, intersects, includes}
-use Rattle.zs_keys.specs.Canonize.{squeezed, sink, ordered, canonize}
+use Rattle.zs_keys.specs.Canonize.{squeezed_chunk, sink, ordered_chunks, canonize}
 use Rattle.zs_keys.specs.Prefix.{before_slash, nonwild_prefix}
 
 slash-splits : chunks (codes "a//") ≡ codes "a" ∷ [] ∷ [] ∷ []
@@ -131,27 +131,27 @@ unfolding meets
 verbatim-not_included = refl
 
 stars-sink : canonize (codes "a/**/*/$*") ≡ codes "a/*/*/**"
-unfolding squeezed sink ordered
+unfolding squeezed_chunk sink ordered_chunks
 stars-sink = refl
 
 any-squeezed : canonize (codes "a$*$*$*b/$*$*") ≡ codes "a$*b/*"
-unfolding squeezed sink ordered
+unfolding squeezed_chunk sink ordered_chunks
 any-squeezed = refl
 
 runs-join : canonize (codes "**/*/**/*/x/**/**") ≡ codes "*/*/**/x/**"
-unfolding squeezed sink ordered
+unfolding squeezed_chunk sink ordered_chunks
 runs-join = refl
 
 stars-stay : canonize (codes "*/*/a") ≡ codes "*/*/a"
-unfolding squeezed sink ordered
+unfolding squeezed_chunk sink ordered_chunks
 stars-stay = refl
 
 faults-stay : canonize (codes "a//$x/") ≡ codes "a//$x/"
-unfolding squeezed sink ordered
+unfolding squeezed_chunk sink ordered_chunks
 faults-stay = refl
 
 nothing-stays : canonize [] ≡ []
-unfolding squeezed sink ordered
+unfolding squeezed_chunk sink ordered_chunks
 nothing-stays = refl
 
 prefix-whole : nonwild_prefix (codes "a/b") ≡ Some (codes "a/b")

@@ -1,12 +1,12 @@
 -- A key expression that includes another one has a key in common with it.
 use Rattle.std.proofs.Common.{◌≡◌, ℕ, Bool, true, false, not, ◌&&◌, ◌||◌, ◌==◌, List, [], ◌∷◌, refl, sym, ◌∙◌, arith}
 use Rattle.std.specs.Prelude.{bytes_eq}
-use Rattle.std.specs.Cmp.{nat_eq_equiv}
-use Rattle.std.specs.Cmp.Lexicographic.{bytes_decides, nat_list_eq_equiv}
+use Rattle.std.specs.Cmp.Lexicographic.{bytes_decides}
 use Rattle.std.proofs.lemmas.Bool.Decides.{nat_tests}
 use Rattle.zs_keys.specs.Text.{chunks, is_star, is_double_star, is_verbatim}
 use Rattle.zs_keys.specs.Matching.{meets, units, is_any, units_meet, units_include, is_free, chunk_meets, chunk_includes, includes, intersects}
 use Rattle.zs_keys.specs.Rules.{meets-ends, meets-wild-end, meets-wild, meets-left_end, meets-right_end, meets-pair}
+use Rattle.zs_keys.proofs.EqualLemmas.{chunk-itself}
 use Rattle.zs_keys.proofs.Bools.{split, or_cases, or_left, or_right, and_second, and_first, both, not_true}
 
 module _ {X : Type 0} (wild wild' free : X → Bool) (fits same : X → X → Bool)
@@ -48,26 +48,6 @@ same-plain a b h k = let same : b ≡ a = grind (arith, nat_tests) in rw same h
 
 units-weaker : (a b : List ℕ) → units_include a b ≡ true → units_meet a b ≡ true
 units-weaker = weaker is_any is_any (λ _. true) (λ a b. a == b) (λ a b. a == b) same-plain (λ a b h k. k)
-
-behind-any : (x : ℕ) (xs : List ℕ) → is_any x ≡ true → units_meet xs xs ≡ true → units_meet (x ∷ xs) xs ≡ true
-behind-any x [] w h = meets-wild-end is_any is_any (λ _. true) (λ a b. a == b) x [] w ∙ h
-behind-any x (y ∷ ys) w h =
-    meets-wild is_any is_any (λ _. true) (λ a b. a == b) x y (y ∷ ys) ys w
-    ∙ or_left (units_meet (y ∷ ys) (y ∷ ys)) (units_meet (x ∷ y ∷ ys) ys) h
-
--- units have a text in common with themselves
-units-itself : (u : List ℕ) → units_meet u u ≡ true
-units-itself [] = meets-ends is_any is_any (λ _. true) (λ a b. a == b)
-units-itself (x ∷ xs) = split (is_any x)
-    (λ w. meets-wild is_any is_any (λ _. true) (λ a b. a == b) x x xs xs w
-    ∙ or_right (units_meet xs (x ∷ xs)) (units_meet (x ∷ xs) xs) (behind-any x xs w (units-itself xs)))
-    (λ w. meets-pair is_any is_any (λ _. true) (λ a b. a == b) x x xs xs w w
-    ∙ both (x == x) (units_meet xs xs) (nat_eq_equiv.refl x) (units-itself xs))
-
-chunk-itself : (c : List ℕ) → chunk_meets c c ≡ true
-chunk-itself c = split (is_verbatim c)
-    (λ v. rw v (nat_list_eq_equiv.refl c))
-    (λ v. rw v (or_right (is_star c || is_star c) (units_meet (units c) (units c)) (units-itself (units c))))
 
 abbrev wide : List ℕ → List ℕ → Bool
 wide c d = is_star c || (not (is_star d) && units_include (units c) (units d))

@@ -1,5 +1,6 @@
 mod Examples
 pub mod Bools
+pub mod Symmetry
 pub mod CanonicalLemmas
 pub mod Cut
 pub mod Boundaries
@@ -8,7 +9,10 @@ pub mod OrderLemmas
 pub mod Encoding
 pub mod Characters
 pub mod CharacterChunks
+pub mod CharacterCanonical
 pub mod IncludeMeets
+pub mod EqualLemmas
+pub mod PlainLemmas
 pub mod CanonicalForm
 pub mod DeclarationLemmas
 pub mod PrefixLemmas

@@ -3,7 +3,7 @@ use Rattle.std.proofs.Common.{◌≡◌, ℕ, Bool, true, false, List, [], ◌�
 use Rattle.std.specs.Prelude.{codes, if◌then◌else◌}
 use Rattle.std.specs.List.{join_with_byte}
 use Rattle.zs_keys.specs.Text.{is_star, is_double_star}
-use Rattle.zs_keys.specs.Canonize.{sink, ordered}
+use Rattle.zs_keys.specs.Canonize.{sink, ordered_chunks}
 use Rattle.zs_keys.specs.Writing.{with_chunks}
 use Rattle.zs_keys.proofs.Bools.{split}
 
@@ -29,16 +29,16 @@ pub sink-run : (c : List ℕ) (cs : List (List ℕ)) → is_star c ≡ false →
 unfolding sink
 sink-run c cs h k = rw (h, k) refl
 
-pub ordered-run : (c : List ℕ) (cs : List (List ℕ)) → is_double_star c ≡ true → ordered (c ∷ cs) ≡ sink (ordered cs)
-unfolding ordered
+pub ordered-run : (c : List ℕ) (cs : List (List ℕ)) → is_double_star c ≡ true → ordered_chunks (c ∷ cs) ≡ sink (ordered_chunks cs)
+unfolding ordered_chunks
 ordered-run c cs h = rw h refl
 
-pub ordered-plain : (c : List ℕ) (cs : List (List ℕ)) → is_double_star c ≡ false → ordered (c ∷ cs) ≡ c ∷ ordered cs
-unfolding ordered
+pub ordered-plain : (c : List ℕ) (cs : List (List ℕ)) → is_double_star c ≡ false → ordered_chunks (c ∷ cs) ≡ c ∷ ordered_chunks cs
+unfolding ordered_chunks
 ordered-plain c cs h = rw h refl
 
-pub ordered-none : ordered [] ≡ []
-unfolding ordered
+pub ordered-none : ordered_chunks [] ≡ []
+unfolding ordered_chunks
 ordered-none = refl
 
 pub sink-none : sink [] ≡ codes "**" ∷ []
@@ -63,18 +63,18 @@ abbrev waiting : Bool → List (List ℕ) → List (List ℕ)
 waiting b cs = if b then sink cs else cs
 
 pub run-waits : (b : Bool) (c : List ℕ) (cs : List (List ℕ)) → is_double_star c ≡ true
-    → waiting b (ordered (c ∷ cs)) ≡ sink (ordered cs)
-run-waits b c cs h = rw (ordered-run c cs h) (split b (λ t. rw t (sink-twice (ordered cs))) (λ t. rw t refl))
+    → waiting b (ordered_chunks (c ∷ cs)) ≡ sink (ordered_chunks cs)
+run-waits b c cs h = rw (ordered-run c cs h) (split b (λ t. rw t (sink-twice (ordered_chunks cs))) (λ t. rw t refl))
 
 pub star-first : (b : Bool) (c : List ℕ) (cs : List (List ℕ)) → is_double_star c ≡ false → is_star c ≡ true
-    → waiting b (ordered (c ∷ cs)) ≡ c ∷ waiting b (ordered cs)
+    → waiting b (ordered_chunks (c ∷ cs)) ≡ c ∷ waiting b (ordered_chunks cs)
 star-first b c cs h k =
-    rw (ordered-plain c cs h) (split b (λ t. rw t (sink-star c (ordered cs) k)) (λ t. rw t refl))
+    rw (ordered-plain c cs h) (split b (λ t. rw t (sink-star c (ordered_chunks cs) k)) (λ t. rw t refl))
 
 pub other-first : (b : Bool) (c : List ℕ) (cs : List (List ℕ)) → is_double_star c ≡ false → is_star c ≡ false
-    → waiting b (ordered (c ∷ cs)) ≡ (if b then codes "**" ∷ (c ∷ ordered cs) else c ∷ ordered cs)
+    → waiting b (ordered_chunks (c ∷ cs)) ≡ (if b then codes "**" ∷ (c ∷ ordered_chunks cs) else c ∷ ordered_chunks cs)
 other-first b c cs h k =
-    rw (ordered-plain c cs h) (split b (λ t. rw t (sink-other c (ordered cs) k h)) (λ t. rw t refl))
+    rw (ordered-plain c cs h) (split b (λ t. rw t (sink-other c (ordered_chunks cs) k h)) (λ t. rw t refl))
 
-pub waiting-none : (b : Bool) → waiting b (ordered []) ≡ (if b then codes "**" ∷ [] else [])
+pub waiting-none : (b : Bool) → waiting b (ordered_chunks []) ≡ (if b then codes "**" ∷ [] else [])
 waiting-none b = rw ordered-none (split b (λ t. rw t sink-none) (λ t. rw t refl))

@@ -4,7 +4,7 @@ use Rattle.std.proofs.Common.{◌≡◌, Bool, true, false, ◌||◌, List, [], 
 use Rattle.std.specs.List.{list_any}
 use Rattle.zs_keys.specs.Matching.{meets, some_rest}
 use Rattle.zs_keys.specs.Rules.{meets-wild, meets-wild_right, meets-right_end, meets-pair}
-use Rattle.zs_keys.specs.Symmetry.{meets_comm}
+use Rattle.zs_keys.proofs.Symmetry.{meets_comm}
 use Rattle.zs_keys.specs.Walk.{last_piece}
 use Rattle.zs_keys.proofs.Bools.{split, or_cases, or_left, or_right, or_rest, and_second, both_ways, or_none_left, or_none_right}
 use Rattle.zs_keys.proofs.Behind.{behind-wild, behind-later, behind-here}

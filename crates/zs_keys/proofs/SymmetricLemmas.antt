@@ -2,7 +2,7 @@
 use Rattle.std.proofs.Common.{◌≡◌, Bool, true, false, ◌||◌, List, [], ◌∷◌, refl, ◌∙◌}
 use Rattle.std.specs.List.{list_any}
 use Rattle.zs_keys.specs.Matching.{meets, some_rest}
-use Rattle.zs_keys.specs.Symmetry.{meets_comm}
+use Rattle.zs_keys.proofs.Symmetry.{meets_comm}
 use Rattle.zs_keys.specs.Walk.{last_piece, Onto}
 use Rattle.zs_keys.proofs.Bools.{split, or_left}
 use Rattle.zs_keys.proofs.Behind.{behind-wild}

@@ -14,9 +14,6 @@ module _ {X : Type 0} (wild wild' : X → Bool) (same : X → X → Bool) (p q :
   abbrev S : List X → List X → Bool
   S a b = some_rest (λ _. true) (M a) b
 
-  pub onto-start : Onto wild wild' same p q p q
-  onto-start = record { answer = refl; later = λ _ s. s; wilds = refl; left = omega arith; right = omega arith }
-
   -- the walk goes on behind two elements that pair
   pub onto-next : (p1 q1 : List X) (x y : X) (xs ys : List X) → Onto wild wild' same p q p1 q1 → p1 ≡ x ∷ xs
       → q1 ≡ y ∷ ys → wild x ≡ false → wild' y ≡ false → same x y ≡ true → Onto wild wild' same p q xs ys

@@ -8,13 +8,13 @@ abbrev pub without_repeat : List ℕ → List ℕ
 without_repeat text = if starts_with (λ a b. a == b) text (codes "$*$*") then drop 2 text else text
 
 -- each run of `$*` becomes one
-unfoldable pub squeezed : List ℕ → List ℕ
-squeezed [] = []
-squeezed (byte ∷ bytes) = without_repeat (byte ∷ squeezed bytes)
+unfoldable pub squeezed_chunk : List ℕ → List ℕ
+squeezed_chunk [] = []
+squeezed_chunk (byte ∷ bytes) = without_repeat (byte ∷ squeezed_chunk bytes)
 
 -- and then a chunk that is `$*` alone becomes `*`
 abbrev pub canonized_chunk : List ℕ → List ℕ
-canonized_chunk chunk = if bytes_eq (squeezed chunk) (codes "$*") then codes "*" else squeezed chunk
+canonized_chunk chunk = if bytes_eq (squeezed_chunk chunk) (codes "$*") then codes "*" else squeezed_chunk chunk
 
 -- a chunk `**` goes behind the `*` that follow it, and is one with a `**` that it meets there
 unfoldable pub sink : List (List ℕ) → List (List ℕ)
@@ -24,10 +24,10 @@ sink (c ∷ cs) =
     else (if is_double_star c then c ∷ cs else codes "**" ∷ (c ∷ cs))
 
 -- so each run of `*` and `**` that has a `**` ends with its only one
-unfoldable pub ordered : List (List ℕ) → List (List ℕ)
-ordered [] = []
-ordered (c ∷ cs) = if is_double_star c then sink (ordered cs) else c ∷ ordered cs
+unfoldable pub ordered_chunks : List (List ℕ) → List (List ℕ)
+ordered_chunks [] = []
+ordered_chunks (c ∷ cs) = if is_double_star c then sink (ordered_chunks cs) else c ∷ ordered_chunks cs
 
 -- the canonical form of a text; it is canonical where the text has no other fault
 abbrev pub canonize : List ℕ → List ℕ
-canonize text = join_with_byte 0x2f (ordered (map canonized_chunk (chunks text)))
+canonize text = join_with_byte 0x2f (ordered_chunks (map canonized_chunk (chunks text)))

@@ -1,11 +1,10 @@
 -- Laws of the definitions, by which a reader may check them.
-use Rattle.std.specs.Prelude.{◌≡◌, ℕ, List, IsTrue, bytes_eq, chars, map}
-use Rattle.std.specs.Hash as fed
+use Rattle.std.specs.Prelude.{◌≡◌, ℕ, List, IsTrue, chars, map}
 use Rattle.std.specs.List.{list_all}
 use Rattle.zs_keys.specs.Text.{chunks, is_chunk, is_canonical}
 use Rattle.zs_keys.specs.Matching.{intersects, includes}
 use Rattle.zs_keys.specs.Canonize.{canonized_chunk, canonize}
-use Rattle.zs_keys.specs.Key.{Key, join_text}
+use Rattle.zs_keys.specs.Key.{join_text}
 
 -- two key expressions have a key in common, or not, from either side
 abbrev pub MeetBothWays : List ℕ → List ℕ → Type 0
@@ -32,11 +31,11 @@ IsFormOnce text = canonize (canonize text) ≡ canonize text
 abbrev pub HasFormWhere : List ℕ → Type 0
 HasFormWhere text = is_canonical (canonize text) ≡ list_all is_chunk (map canonized_chunk (chunks text))
 
--- key expressions with equal texts hand a hasher the same, whatever their declarations
-abbrev pub HashAlike : Key → Key → Type 0
-HashAlike left right = IsTrue (bytes_eq left.text right.text) → fed.str left.text ≡ fed.str right.text
-
 -- matching and inclusion are those of the characters of two texts, although they are defined over bytes
 abbrev pub IsByCharacters : List ℕ → List ℕ → Type 0
 IsByCharacters left right =
     (intersects (chars left) (chars right) ≡ intersects left right) × (includes (chars left) (chars right) ≡ includes left right)
+
+-- so is the test of canonical texts
+abbrev pub IsCanonicalByCharacters : List ℕ → Type 0
+IsCanonicalByCharacters text = is_canonical (chars text) ≡ is_canonical text

@@ -1,12 +1,13 @@
 pub mod Stream
 pub mod Memory
 pub mod Text
+pub mod Plain
+pub mod KeyText
 pub mod Matching
 pub mod Rules
 pub mod Chunks
 pub mod Units
 pub mod Key
-pub mod Symmetry
 pub mod Walk
 pub mod Segments
 pub mod Inclusion

@@ -23,7 +23,8 @@ meets wild wild' free same (x ∷ xs) ys =
     if wild x then some_rest free (meets wild wild' free same xs) ys
     else pairs_first wild' free same x (meets wild wild' free same xs) ys
 
--- the units of a chunk: its characters, with `$` for each `$*`
+-- the units of a chunk: its characters, with `$` for each `$*`. It is right in canonical chunks alone, where a `*` stands
+-- only behind a `$` and each `$` before one
 abbrev pub units : List ℕ → List ℕ
 units chunk = filter (λ byte. not (byte == 0x2a)) chunk
 

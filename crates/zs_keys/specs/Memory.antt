@@ -1,13 +1,21 @@
 -- What contracts see of the sources and sinks that live in memory.
-use Rattle.std.specs.Prelude.{ℕ, ◌+◌, ◌-◌, ◌^◌, min, List, Contains}
+use Rattle.std.specs.Prelude.{ℕ, List, Contains}
+use Rattle.zs_keys.specs.Stream.{count_after}
+
+-- a source that never fails: the bytes that it still holds, how many reads there were, and how many of them gave bytes
+pub record Holding : Type 0 where
+  pub left : List ℕ
+  pub reads : ℕ
+  pub pieces : ℕ
 
 -- a source: the bytes that it still holds, the most that one read gives, the numbers of the reads that fail,
--- how many reads there were, and how many faults
+-- how many reads there were, how many of them gave bytes, and how many faults
 pub record Supply : Type 0 where
   pub left : List ℕ
   pub cut : ℕ
   pub fail : List ℕ
   pub reads : ℕ
+  pub pieces : ℕ
   pub faults : ℕ
 
 -- a sink: the bytes that it took, the most that one write takes, the numbers of the writes that fail and of those
@@ -21,18 +29,14 @@ pub record Store : Type 0 where
   pub faults : ℕ
   pub short : ℕ
 
--- the number of the next call, from 1; it stays at the last value of a `u64`
-abbrev pub number_after : ℕ → ℕ
-number_after calls = min (calls + 1) (2 ^ 64 - 1)
-
 -- the next read is one of those that fail
 abbrev pub IsFailingRead : Supply → Type 0
-IsFailingRead s = Contains s.fail (number_after s.reads)
+IsFailingRead s = Contains s.fail (count_after s.reads 1)
 
 -- the next write is one of those that fail
 abbrev pub IsFailingWrite : Store → Type 0
-IsFailingWrite s = Contains s.fail (number_after s.writes)
+IsFailingWrite s = Contains s.fail (count_after s.writes 1)
 
 -- the next write is one of those that take nothing
 abbrev pub IsStuckWrite : Store → Type 0
-IsStuckWrite s = Contains s.stuck (number_after s.writes)
+IsStuckWrite s = Contains s.stuck (count_after s.writes 1)

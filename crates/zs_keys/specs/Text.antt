@@ -3,7 +3,8 @@
 -- All signs of the language (`/`, `*`, `$`, `#`, `?`, `@`) are ASCII, and no byte of a longer character is below 128.
 -- So a text has the same chunks and signs whether it is read by bytes or by characters. A `$*` may stop inside a
 -- character of the other text; but what follows it begins a character, and a byte that begins one never equals
--- a byte inside one. So matching has the same answer too: the law `IsByCharacters` of `Laws` says so.
+-- a byte inside one. So matching has the same answer too. The laws `IsByCharacters` and
+-- `IsCanonicalByCharacters` of `Laws` say so.
 use Rattle.std.specs.Prelude.{ℕ, Bool, true, false, not, ◌&&◌, ◌||◌, List, [], ◌∷◌, ◌==◌, bytes_eq, codes, if◌then◌else◌}
 use Rattle.std.specs.List.{slice_split, list_all}
 

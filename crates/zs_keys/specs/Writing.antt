@@ -13,5 +13,5 @@ with_chunks is_first text [] = text
 with_chunks is_first text (c ∷ cs) = with_chunks false (with_chunk is_first text c) cs
 
 -- all of the form, where its rest, but for a `**` that still waits, is these chunks
-abbrev pub written : Writing → List (List ℕ) → List ℕ
-written w cs = with_chunks w.is_first (string_bytes w.text) (if w.has_run then sink cs else cs)
+abbrev pub written_text : Writing → List (List ℕ) → List ℕ
+written_text w cs = with_chunks w.is_first (string_bytes w.text) (if w.has_run then sink cs else cs)

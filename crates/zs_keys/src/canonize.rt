@@ -1,15 +1,15 @@
 //! The canonical form of a text.
 
 ghost use Rattle.std.specs.Prelude.{◌≡◌, ◌≤◌, ◌++◌, ◌∷◌, List, ℕ, [], length, MatchOption, IfOk, OnOk, string_bytes, codes, false, if◌then◌else◌};
-ghost use Rattle.zs_keys.specs.Canonize.{squeezed, canonized_chunk, canonize, ordered};
+ghost use Rattle.zs_keys.specs.Canonize.{squeezed_chunk, canonized_chunk, canonize, ordered_chunks};
 
 use crate::chunks::Chunks;
 use std::alloc::{AllocError, Global};
 
 /// Where a `$*` and then another one begin with a `$` and these bytes: what stands behind the first.
 fn behind_repeat(back: &str) -> Option<&str>
-    ensures { MatchOption result (squeezed (0x24 ∷ back.now) ≡ 0x24 ∷ squeezed back.now)
-        (λ behind. (squeezed (0x24 ∷ back.now) ≡ squeezed behind.now)
+    ensures { MatchOption result (squeezed_chunk (0x24 ∷ back.now) ≡ 0x24 ∷ squeezed_chunk back.now)
+        (λ behind. (squeezed_chunk (0x24 ∷ back.now) ≡ squeezed_chunk behind.now)
         × (length behind.now ≤ length back.now)) }
 {
     let Some(behind) = back.strip_prefix('*') else {
@@ -23,8 +23,8 @@ fn behind_repeat(back: &str) -> Option<&str>
 
 /// Writes a `$`, unless it begins a repeat; returns what is left to be written of it and what stands behind it.
 fn push_dollar<'a>(text: &mut String, back: &'a str) -> Result<&'a str, AllocError>
-    ensures { IfOk result (λ rest. (string_bytes text.new ++ squeezed rest.now
-        ≡ string_bytes text.old ++ squeezed (0x24 ∷ back.now))
+    ensures { IfOk result (λ rest. (string_bytes text.new ++ squeezed_chunk rest.now
+        ≡ string_bytes text.old ++ squeezed_chunk (0x24 ∷ back.now))
         × (length rest.now ≤ length back.now)) }
 {
     if let Some(behind) = behind_repeat(back) {
@@ -35,8 +35,8 @@ fn push_dollar<'a>(text: &mut String, back: &'a str) -> Result<&'a str, AllocErr
 }
 
 /// A chunk in which each run of `$*` is one.
-fn squeezed(alloc: Global, chunk: &str) -> Result<String, AllocError>
-    ensures { IfOk result (λ text. string_bytes text ≡ squeezed chunk.now) }
+fn squeezed_chunk(alloc: Global, chunk: &str) -> Result<String, AllocError>
+    ensures { IfOk result (λ text. string_bytes text ≡ squeezed_chunk chunk.now) }
 {
     let mut text = String::new(alloc);
     let mut rest = chunk;
@@ -52,7 +52,7 @@ fn squeezed(alloc: Global, chunk: &str) -> Result<String, AllocError>
 fn canonized_chunk(alloc: Global, chunk: &str) -> Result<String, AllocError>
     ensures { IfOk result (λ text. string_bytes text ≡ canonized_chunk chunk.now) }
 {
-    let text = squeezed(alloc, chunk)?;
+    let text = squeezed_chunk(alloc, chunk)?;
     if text.as_str() == "$*" {
         return String::from_str(alloc, "*");
     }
@@ -68,7 +68,7 @@ pub(crate) struct Writing {
 }
 
 impl Writing {
-    ghost use Rattle.zs_keys.specs.Writing.{with_chunk, with_chunks, written};
+    ghost use Rattle.zs_keys.specs.Writing.{with_chunk, with_chunks, written_text};
 
     /// Writes a chunk, behind a `/` where it is not the first.
     fn push(&mut self, chunk: &str) -> Result<(), AllocError>
@@ -86,8 +86,8 @@ impl Writing {
 
     /// Takes the next chunk of the text: a `**` waits until no star follows.
     fn put(&mut self, chunk: &str) -> Result<(), AllocError>
-        ensures { OnOk result ((cs : List (List ℕ)) → written self.new (ordered cs)
-            ≡ written self.old (ordered (chunk.now ∷ cs))) }
+        ensures { OnOk result ((cs : List (List ℕ)) → written_text self.new (ordered_chunks cs)
+            ≡ written_text self.old (ordered_chunks (chunk.now ∷ cs))) }
     {
         if chunk == "**" {
             self.has_run = true;

@@ -12,7 +12,7 @@ use crate::key_expr::KeyExpr;
 use std::alloc::{AllocError, Global};
 
 /// Two texts, one behind the other.
-fn joined(alloc: Global, front: &str, back: &str) -> Result<String, AllocError>
+fn joined_text(alloc: Global, front: &str, back: &str) -> Result<String, AllocError>
     ensures { IfOk result (λ text. string_bytes text ≡ front.now ++ back.now) }
 {
     let mut text = String::from_str(alloc, front)?;
@@ -21,10 +21,10 @@ fn joined(alloc: Global, front: &str, back: &str) -> Result<String, AllocError>
 }
 
 /// Two texts with a `/` between them.
-fn joined_by_slash(alloc: Global, front: &str, back: &str) -> Result<String, AllocError>
+fn slash_joined_text(alloc: Global, front: &str, back: &str) -> Result<String, AllocError>
     ensures { IfOk result (λ text. string_bytes text ≡ front.now ++ (0x2f ∷ back.now)) }
 {
-    let mut text = joined(alloc, front, "/")?;
+    let mut text = joined_text(alloc, front, "/")?;
     text.push_str(back)?;
     Ok(text)
 }
@@ -41,7 +41,7 @@ impl<'a> KeyExpr<'a> {
     ghost use Rattle.zs_keys.specs.Key.{undeclared, text_refusal, concat_refusal, IsCause, join_text, join_key, kept_declaration};
 
     /// The text with a suffix put behind it, and the same declaration. Unlike [`concat`](KeyExpr::concat) it lets
-    /// stars meet, where a canonical text comes out.
+    /// stars meet, where a canonical text comes out. Without a suffix it is a copy, which shares the text where it can.
     ///
     /// # Errors
     ///
@@ -51,7 +51,10 @@ impl<'a> KeyExpr<'a> {
             × (text_refusal key.text ≡ None)) }
         ensures err { IfErr result (λ error. IsCause error (text_refusal (self.now.text ++ suffix.now))) }
     {
-        let text = joined(alloc, self.as_str(), suffix)?;
+        if suffix.is_empty() {
+            return self.borrowing_clone().into_owned(alloc);
+        }
+        let text = joined_text(alloc, self.as_str(), suffix)?;
         KeyExpr::of_parts(text, self.declaration())
     }
 
@@ -111,7 +114,7 @@ impl<'a> KeyExpr<'a> {
         ensures ok { IfOk result (λ key. (key ≡ join_key self.now suffix.now) × (text_refusal key.text ≡ None)) }
         ensures err { IfErr result (λ error. IsCause error (text_refusal (join_text self.now.text suffix.now))) }
     {
-        let text = joined_by_slash(alloc, self.as_str(), suffix)?;
+        let text = slash_joined_text(alloc, self.as_str(), suffix)?;
         let form = canonize(alloc, text.as_str())?;
         let declaration = self.declaration_in(form.as_str());
         Ok(KeyExpr::of_parts(form, declaration)?)

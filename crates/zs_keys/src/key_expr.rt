@@ -6,15 +6,15 @@ ghost use Rattle.zs_keys.specs.Prefix.{nonwild_prefix};
 ghost use Rattle.zs_keys.specs.Text.{is_canonical};
 ghost use Rattle.zs_keys.specs.Matching.{intersects, includes};
 
-use crate::canonical::is_canonical;
 use crate::declaration::Declared;
 use crate::inclusion::includes;
 use crate::key_error::KeyError;
-use crate::matching::intersects;
+use crate::key_text::KeyText;
+use crate::matching::texts_meet;
+use crate::plain::{is_plain, plainness};
 use crate::prefix::nonwild_prefix;
 use crate::steps::Steps;
 use std::alloc::Global;
-use std::borrow::CowStr;
 use std::marker::Model;
 use std::sync::ledger::Ledger;
 
@@ -25,23 +25,26 @@ use std::sync::ledger::Ledger;
 /// and Display see the text alone.
 #[derive(Drop)]
 pub struct KeyExpr<'a> {
-    text: CowStr<'a>,
+    text: KeyText<'a>,
+    plain: bool,
     declaration: Option<Declared>,
 }
 
 impl<'a> Model for KeyExpr<'a> {
-    ghost use Rattle.std.specs.Prelude.{IsTrue, IsCharBoundary};
+    ghost use Rattle.std.specs.Prelude.{◌≡◌, IsTrue, IsCharBoundary};
     ghost use Rattle.std.specs.Option.{ForSome};
-    ghost use Rattle.std.specs.Cow.{cow_str_bytes};
+    ghost use Rattle.zs_keys.specs.KeyText.{key_text_bytes};
+    ghost use Rattle.zs_keys.specs.Plain.{is_plain};
     ghost use Rattle.zs_keys.specs.Text.{is_canonical};
     ghost use Rattle.zs_keys.specs.Key.{Key};
 
     ghost Value = { Key };
 
-    ghost view = { λ k. record { text = cow_str_bytes k.text; declaration = k.declaration } };
+    ghost view = { λ k. record { text = key_text_bytes k.text; declaration = k.declaration } };
 
-    ghost invariant = { λ k. IsTrue (is_canonical (cow_str_bytes k.text))
-        × ForSome k.declaration (λ d. IsCharBoundary (cow_str_bytes k.text) d.prefix_len) };
+    ghost invariant = { λ k. IsTrue (is_canonical (key_text_bytes k.text))
+        × ForSome k.declaration (λ d. IsCharBoundary (key_text_bytes k.text) d.prefix_len)
+        × (k.plain ≡ is_plain (key_text_bytes k.text)) };
 }
 
 impl<'a> KeyExpr<'a> {
@@ -58,11 +61,12 @@ impl<'a> KeyExpr<'a> {
         ensures ok { IfOk result (λ key. key ≡ undeclared text.now) }
         ensures err { IfErr result (λ error. error ≡ KeyError.BadKeyExpr) }
     {
-        if !is_canonical(text) {
+        let Some(plain) = plainness(text) else {
             return Err(KeyError::BadKeyExpr);
-        }
+        };
         Ok(KeyExpr {
-            text: CowStr::Borrowed(text),
+            text: KeyText::Borrowed(text),
+            plain,
             declaration: None,
         })
     }
@@ -89,11 +93,12 @@ impl<'a> KeyExpr<'a> {
             × (text_refusal key.text ≡ None)) }
         ensures err { IfErr result (λ error. text_refusal (string_bytes text) ≡ Some error) }
     {
-        if !is_canonical(text.as_str()) {
+        let Some(plain) = plainness(text.as_str()) else {
             return Err(KeyError::BadKeyExpr);
-        }
+        };
         Ok(KeyExpr {
-            text: CowStr::Owned(text),
+            text: KeyText::Own(text),
+            plain,
             declaration,
         })
     }
@@ -111,12 +116,13 @@ impl<'a> KeyExpr<'a> {
         ensures { result ≡ undeclared self.now.text }
     {
         KeyExpr {
-            text: CowStr::Borrowed(self.text.as_str()),
+            text: self.text.lend(),
+            plain: self.plain,
             declaration: None,
         }
     }
 
-    /// The text, as a string of its own.
+    /// The text, as a string of its own. It is copied only where it is borrowed or shared.
     ///
     /// # Errors
     ///
@@ -125,7 +131,7 @@ impl<'a> KeyExpr<'a> {
         ensures ok { IfOk result (λ text. string_bytes text ≡ self.entry.text) }
         ensures err { IfErr result (λ error. error ≡ KeyError.NoMemory) }
     {
-        Ok(self.text.into_owned(alloc)?)
+        Ok(self.text.into_string(alloc)?)
     }
 
     /// How it was declared, if it was. The declared prefix ends at a character of the text.
@@ -143,6 +149,7 @@ impl<'a> KeyExpr<'a> {
     {
         KeyExpr {
             text: self.text,
+            plain: self.plain,
             declaration: Some(declared),
         }
     }
@@ -153,11 +160,13 @@ impl<'a> KeyExpr<'a> {
     {
         KeyExpr {
             text: self.text,
+            plain: self.plain,
             declaration: None,
         }
     }
 
-    /// The same key expression with a text of its own.
+    /// The same key expression with a text of its own, which its copies share from now on: a copy of what is borrowed
+    /// from it takes no memory.
     ///
     /// # Errors
     ///
@@ -166,9 +175,11 @@ impl<'a> KeyExpr<'a> {
         ensures ok { IfOk result (λ key. key ≡ self.entry) }
         ensures err { IfErr result (λ error. error ≡ KeyError.NoMemory) }
     {
+        let declaration = self.declaration;
         Ok(KeyExpr {
-            text: CowStr::Owned(self.text.into_owned(alloc)?),
-            declaration: self.declaration,
+            text: self.text.into_shared(alloc)?,
+            plain: self.plain,
+            declaration,
         })
     }
 
@@ -177,7 +188,8 @@ impl<'a> KeyExpr<'a> {
         ensures { result ≡ self.now }
     {
         KeyExpr {
-            text: CowStr::Borrowed(self.text.as_str()),
+            text: self.text.lend(),
+            plain: self.plain,
             declaration: self.declaration,
         }
     }
@@ -192,10 +204,14 @@ impl<'a> KeyExpr<'a> {
     }
 
     /// [`intersects`](KeyExpr::intersects) for a caller that counts no steps.
+    #[tactic(auto, using(crate::proofs::EqualLemmas::equal_steps))]
     pub fn meets(&self, other: &KeyExpr<'_>) -> bool
         ensures { result ≡ intersects self.now.text other.now.text }
     {
-        intersects(self.as_str(), other.as_str())
+        if self.plain && other.plain {
+            return self.as_str() == other.as_str();
+        }
+        texts_meet(self.as_str(), other.as_str())
     }
 
     /// Whether each key of the other key expression is one of this one.
@@ -213,7 +229,8 @@ impl<'a> KeyExpr<'a> {
             return None;
         };
         Some(KeyExpr {
-            text: CowStr::Borrowed(front),
+            text: KeyText::Borrowed(front),
+            plain: is_plain(front),
             declaration: None,
         })
     }

@@ -1,8 +1,10 @@
 //! Laws of the definitions. Each function does nothing: its contract is the law, for all texts.
 
-ghost use Rattle.zs_keys.specs.Laws.{MeetBothWays, MeetsWhatItIncludes, IsOwnForm, IsFormOnce, HasFormWhere, JoinsToCanonical, HashAlike, IsByCharacters};
+ghost use Rattle.std.specs.Prelude.{◌≡◌, IsTrue};
+ghost use Rattle.zs_keys.specs.Laws.{MeetBothWays, MeetsWhatItIncludes, IsOwnForm, IsFormOnce, HasFormWhere, JoinsToCanonical, IsByCharacters, IsCanonicalByCharacters};
 
 use crate::key_expr::KeyExpr;
+use std::hash::Hash;
 
 /// Whether two key expressions have a key in common does not depend on their order.
 pub fn intersects_is_symmetric(left: &str, right: &str)
@@ -35,12 +37,18 @@ pub fn canonical_form_is_canonical(text: &str)
     ensures { HasFormWhere text.now }
 {}
 
-/// Equal key expressions have equal hashes, whatever their declarations.
+/// Key expressions that compare as equal feed a hasher the same, whatever their declarations.
 pub fn equal_keys_hash_alike(left: &KeyExpr<'_>, right: &KeyExpr<'_>)
-    ensures { HashAlike left.now right.now }
+    ensures { IsTrue (⟦<KeyExpr<'static> as PartialEq>⟧.eq left.now right.now)
+        → ⟦<KeyExpr<'static> as Hash>⟧.hash_input left.now ≡ ⟦<KeyExpr<'static> as Hash>⟧.hash_input right.now }
 {}
 
 /// The definitions speak of the bytes of two texts, and have the same answers over their characters.
 pub fn matching_is_by_characters(left: &str, right: &str)
     ensures { IsByCharacters left.now right.now }
+{}
+
+/// A text is canonical by its bytes exactly where it is by its characters.
+pub fn canonical_texts_are_by_characters(text: &str)
+    ensures { IsCanonicalByCharacters text.now }
 {}

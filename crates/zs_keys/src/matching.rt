@@ -1,15 +1,14 @@
 //! Which key expressions have a key in common.
 
-ghost use Rattle.std.specs.Prelude.{◌≡◌, ℕ, List, ◌==◌, refl};
+ghost use Rattle.std.specs.Prelude.{◌≡◌, ℕ, List, ◌==◌};
 ghost use Rattle.zs_keys.specs.Matching.{meets, chunk_meets, is_any, is_free, intersects};
 ghost use Rattle.zs_keys.specs.Text.{is_double_star};
 ghost use Rattle.zs_keys.specs.Chunks.{chunks_left};
 ghost use Rattle.zs_keys.specs.Units.{units_left};
 ghost use Rattle.zs_keys.specs.Segments.{segment_left};
-ghost use Rattle.zs_keys.specs.Symmetry.{same_unit_comm, chunk_meets_comm};
 
 use crate::chunks::Chunks;
-use crate::pattern::{Pattern, Symmetric, matches_list};
+use crate::pattern::{Pattern, matches_list};
 use crate::segment::{Segment, next_verbatim};
 use crate::units::Units;
 use crate::verbatim::is_verbatim;
@@ -52,18 +51,17 @@ impl<'a> Pattern for Units<'a> {
     }
 }
 
-impl<'a> Symmetric for Units<'a> {
-    ghost one_wild = { refl };
-
-    ghost even = { same_unit_comm };
-}
-
-/// Whether two chunks other than `**` have a chunk in common.
-fn chunk_meets(left: &str, right: &str) -> bool
+/// Whether two chunks other than `**` have a chunk in common. It takes any texts, and is meant for chunks of canonical
+/// ones.
+#[tactic(auto, using(crate::proofs::EqualLemmas::equal_steps))]
+pub fn chunk_meets(left: &str, right: &str) -> bool
     ensures { result ≡ chunk_meets left.now right.now }
 {
+    if left == right {
+        return true;
+    }
     if is_verbatim(left) || is_verbatim(right) {
-        return left == right;
+        return false;
     }
     left == "*" || right == "*" || matches_list(Units::of(left), Units::of(right))
 }
@@ -106,12 +104,6 @@ impl<'a> Pattern for Segment<'a> {
     }
 }
 
-impl<'a> Symmetric for Segment<'a> {
-    ghost one_wild = { refl };
-
-    ghost even = { chunk_meets_comm };
-}
-
 /// Whether two lists of chunks have a key in common: between verbatim chunks they match apart from one another.
 #[tactic(auto, using(crate::proofs::CutLemmas::meet_steps))]
 fn chunks_meet(left: Chunks<'_>, right: Chunks<'_>) -> bool
@@ -138,9 +130,10 @@ fn chunks_meet(left: Chunks<'_>, right: Chunks<'_>) -> bool
     }
 }
 
-/// Whether two key expressions have a key in common.
-pub(crate) fn intersects(left: &str, right: &str) -> bool
+/// Whether two key expressions have a key in common, by their texts. It takes any texts, and is meant for canonical ones.
+#[tactic(auto, using(crate::proofs::EqualLemmas::equal_steps))]
+pub fn texts_meet(left: &str, right: &str) -> bool
     ensures { result ≡ intersects left.now right.now }
 {
-    chunks_meet(Chunks::of(left), Chunks::of(right))
+    left == right || chunks_meet(Chunks::of(left), Chunks::of(right))
 }

@@ -1,8 +1,8 @@
 //! Sources and sinks that live in memory.
 
-ghost use Rattle.std.specs.Prelude.{◌≡◌, ℕ, ◌+◌, ◌-◌, ◌^◌, ◌<◌, ◌≤◌, ◌↔◌, List, [], ◌++◌, length, take, drop, min, Some, IfOk, OnErr, IsOk, IsErr, Contains, vec_len};
-ghost use Rattle.zs_keys.specs.Stream.{HasRisen, PutsOn, HoldsNothing};
-ghost use Rattle.zs_keys.specs.Memory.{number_after, IsFailingRead, IsFailingWrite, IsStuckWrite};
+ghost use Rattle.std.specs.Prelude.{◌≡◌, ℕ, ◌+◌, ◌-◌, ◌^◌, ◌<◌, ◌≤◌, ◌↔◌, List, [], ◌++◌, length, take, drop, min, Some, IfOk, OnOk, OnErr, IsOk, IsErr, Contains, vec_len};
+ghost use Rattle.zs_keys.specs.Stream.{HasRisen, PutsOn, HoldsNothing, count_after, pieces_after};
+ghost use Rattle.zs_keys.specs.Memory.{IsFailingRead, IsFailingWrite, IsStuckWrite};
 
 use crate::stream::{Failed, Sink, Source};
 use std::alloc::Global;
@@ -19,12 +19,11 @@ fn copy_front(from: &[u8], most: usize, into: &mut [u8]) -> usize
     count
 }
 
-/// One fault more, up to the last value.
-fn one_more(faults: u64) -> u64
-    ensures later { faults ≤ result }
-    ensures risen { HasRisen faults result }
+/// A count with one more, up to the last value.
+fn one_more(count: u64) -> u64
+    ensures { result ≡ count_after count 1 }
 {
-    faults.saturating_add(1)
+    count.saturating_add(1)
 }
 
 /// A source over bytes in memory that never fails.
@@ -32,12 +31,21 @@ fn one_more(faults: u64) -> u64
 pub struct SteadySource {
     bytes: Vec<u8>,
     place: usize,
+    reads: u64,
+    pieces: u64,
 }
 
 impl Model for SteadySource {
-    ghost Value = { List ℕ };
+    ghost use Rattle.std.specs.Prelude.{◌≤◌, drop, vec_len};
+    ghost use Rattle.zs_keys.specs.Memory.{Holding};
 
-    ghost view = { λ s. drop s.place s.bytes.items };
+    ghost Value = { Holding };
+
+    ghost view = { λ s. record {
+      left = drop s.place s.bytes.items;
+      reads = s.reads;
+      pieces = s.pieces;
+    } };
 
     ghost invariant = { λ s. s.place ≤ vec_len s.bytes };
 }
@@ -45,25 +53,40 @@ impl Model for SteadySource {
 impl SteadySource {
     /// A source that holds these bytes.
     pub fn new(bytes: Vec<u8>) -> SteadySource
-        ensures { result ≡ bytes.items }
+        ensures { result ≡ record { left = bytes.items; reads = 0; pieces = 0 } }
     {
-        SteadySource { bytes, place: 0 }
+        SteadySource {
+            bytes,
+            place: 0,
+            reads: 0,
+            pieces: 0,
+        }
     }
 }
 
 impl Source for SteadySource {
-    ghost left = { λ s. Some s };
+    ghost left = { λ s. Some s.left };
+
+    ghost reads = { λ s. s.reads };
+
+    ghost pieces = { λ s. s.pieces };
 
     ghost faults = { λ _. 0 };
 
     fn read(&mut self, into: &mut [u8]) -> Result<usize, Failed>
         ensures steady { IsOk result }
         ensures within { IfOk result (λ count. count ≤ length into.new) }
-        ensures taken { IfOk result (λ count. self.old ≡ take count into.new ++ self.new) }
-        ensures ended { result ≡ Ok 0 → 0 < length into.new → HoldsNothing (Some self.old) }
+        ensures taken { IfOk result (λ count. self.old.left ≡ take count into.new ++ self.new.left) }
+        ensures ended { result ≡ Ok 0 → 0 < length into.new → HoldsNothing (Some self.old.left) }
+        ensures counted { self.new.reads ≡ count_after self.old.reads 1 }
+        ensures given { self.new.pieces ≡ pieces_after self.old.pieces result }
     {
+        self.reads = one_more(self.reads);
         let count = copy_front(&self.bytes[self.place..], into.len(), into);
         self.place += count;
+        if count > 0 {
+            self.pieces = one_more(self.pieces);
+        }
         Ok(count)
     }
 }
@@ -76,6 +99,7 @@ pub struct MemorySource {
     cut: usize,
     fail: Vec<u64>,
     reads: u64,
+    pieces: u64,
     faults: u64,
 }
 
@@ -90,6 +114,7 @@ impl Model for MemorySource {
       cut = s.cut;
       fail = s.fail.items;
       reads = s.reads;
+      pieces = s.pieces;
       faults = s.faults;
     } };
 
@@ -100,7 +125,7 @@ impl MemorySource {
     /// A source that gives at most `cut` bytes per read, and fails at the reads whose numbers, from 1, are in `fail`.
     pub fn new(bytes: Vec<u8>, cut: usize, fail: Vec<u64>) -> MemorySource
         requires { 0 < cut }
-        ensures { result ≡ record { left = bytes.items; cut = cut; fail = fail.items; reads = 0; faults = 0 } }
+        ensures { result ≡ record { left = bytes.items; cut = cut; fail = fail.items; reads = 0; pieces = 0; faults = 0 } }
     {
         MemorySource {
             bytes,
@@ -108,6 +133,7 @@ impl MemorySource {
             cut,
             fail,
             reads: 0,
+            pieces: 0,
             faults: 0,
         }
     }
@@ -115,6 +141,10 @@ impl MemorySource {
 
 impl Source for MemorySource {
     ghost left = { λ s. Some s.left };
+
+    ghost reads = { λ s. s.reads };
+
+    ghost pieces = { λ s. s.pieces };
 
     ghost faults = { λ s. s.faults };
 
@@ -127,16 +157,20 @@ impl Source for MemorySource {
         ensures failed { OnErr result (HasRisen self.old.faults self.new.faults) }
         ensures listed { IsErr result ↔ IsFailingRead self.old }
         ensures unlisted { ¬ IsFailingRead self.old → self.new.faults ≡ self.old.faults }
-        ensures counted { self.new.reads ≡ number_after self.old.reads }
+        ensures counted { self.new.reads ≡ count_after self.old.reads 1 }
+        ensures given { self.new.pieces ≡ pieces_after self.old.pieces result }
         ensures same { (self.new.cut ≡ self.old.cut) × (self.new.fail ≡ self.old.fail) }
     {
-        self.reads = self.reads.saturating_add(1);
+        self.reads = one_more(self.reads);
         if self.fail.contains(&self.reads) {
             self.faults = one_more(self.faults);
             return Err(Failed);
         }
         let count = copy_front(&self.bytes[self.place..], self.cut, into);
         self.place += count;
+        if count > 0 {
+            self.pieces = one_more(self.pieces);
+        }
         Ok(count)
     }
 }
@@ -229,10 +263,13 @@ impl Sink for MemorySink {
         ensures stuck_listed { ¬ IsFailingWrite self.old → IsStuckWrite self.old → result ≡ Ok 0 }
         ensures unlisted { ¬ IsFailingWrite self.old → ¬ IsStuckWrite self.old → ¬ HasRisen self.old.short self.new.short
             → self.new.faults ≡ self.old.faults }
-        ensures counted { self.new.writes ≡ number_after self.old.writes }
+        ensures counted { self.new.writes ≡ count_after self.old.writes 1 }
+        ensures never_short { OnOk result (self.new.short ≡ self.old.short) }
+        ensures listed_short { IsFailingWrite self.old → self.new.short ≡ self.old.short }
+        ensures short { ¬ IsFailingWrite self.old → OnErr result (self.new.short ≡ count_after self.old.short 1) }
         ensures same { (self.new.cut ≡ self.old.cut) × (self.new.fail ≡ self.old.fail) × (self.new.stuck ≡ self.old.stuck) }
     {
-        self.writes = self.writes.saturating_add(1);
+        self.writes = one_more(self.writes);
         if self.fail.contains(&self.writes) {
             self.faults = one_more(self.faults);
             return Err(Failed);

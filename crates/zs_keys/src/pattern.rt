@@ -143,15 +143,10 @@ fn last_piece<P: Pattern>(list: P) -> P
     piece
 }
 
-/// A pattern that reads the same as a left and as a right list.
-pub(crate) trait Symmetric: Pattern {
-    ghost one_wild: { Self.wild_right ≡ Self.wild };
-
-    ghost even: { (x y : Self.Seen) → Self.same x y ≡ Self.same y x };
-}
-
-/// Whether the left list, with a wild element before it, matches the right one.
-fn stands_anywhere<P: Symmetric>(left: P, right: P) -> bool
+/// Whether the left list, with a wild element before it, matches the right one, where both read the same on either side.
+fn stands_anywhere<P: Pattern>(left: P, right: P) -> bool
+    requires one_wild { P.wild_right ≡ P.wild }
+    requires even { (x y : P.Seen) → P.same x y ≡ P.same y x }
     ensures { result ≡ meets_behind P.wild P.wild_right P.same (P.elements left) (P.elements right) }
 {
     if !has_wild(right) {
@@ -162,8 +157,10 @@ fn stands_anywhere<P: Symmetric>(left: P, right: P) -> bool
     stands_behind(left_end, right_end) || stands_behind(right_end, left_end)
 }
 
-/// Whether two lists match.
-pub(crate) fn matches_list<P: Symmetric>(left: P, right: P) -> bool
+/// Whether two lists match that read the same on either side.
+pub(crate) fn matches_list<P: Pattern>(left: P, right: P) -> bool
+    requires one_wild { P.wild_right ≡ P.wild }
+    requires even { (x y : P.Seen) → P.same x y ≡ P.same y x }
     ensures { result ≡ meets_free P.wild P.wild_right P.same (P.elements left) (P.elements right) }
 {
     match walk_both(left, right) {

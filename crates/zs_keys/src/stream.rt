@@ -1,7 +1,7 @@
 //! Where bytes come from and go to, with a count of what went wrong.
 
 ghost use Rattle.std.specs.Prelude.{◌≡◌, ℕ, ◌<◌, ◌≤◌, List, [], length, take, Option, None, IfOk, OnErr};
-ghost use Rattle.zs_keys.specs.Stream.{HasRisen, TakesOff, PutsOn, HoldsNothing};
+ghost use Rattle.zs_keys.specs.Stream.{HasRisen, TakesOff, PutsOn, HoldsNothing, count_after, pieces_after};
 
 /// A read or a write that failed. The count of faults of its source or sink has risen.
 #[derive(Clone, Copy, Debug, PartialEq, Eq)]
@@ -9,10 +9,15 @@ pub struct Failed;
 
 /// Something that bytes are read from.
 ///
-/// `left` is the bytes that it still holds, where it tells them. `faults` counts what went wrong in it; a count that
-/// stands at the last value of a `u64` passes for one that has just risen.
+/// `left` is the bytes that it still holds, where it tells them. `reads` counts the reads, and `pieces` those of them
+/// that gave bytes, so that the others failed or saw the end. `faults` counts what went wrong in it. Each count stands
+/// still at the last value of a `u64`, and a count of faults that stands there passes for one that has just risen.
 pub trait Source {
     ghost left: { Self → Option (List ℕ) } = { λ _. None };
+
+    ghost reads: { Self → ℕ };
+
+    ghost pieces: { Self → ℕ };
 
     ghost faults: { Self → ℕ };
 
@@ -22,6 +27,9 @@ pub trait Source {
         ensures within { IfOk result (λ count. count ≤ length into.new) }
         ensures taken { IfOk result (λ count. TakesOff (left self.old) (take count into.new) (left self.new)) }
         ensures ended { result ≡ Ok 0 → 0 < length into.new → HoldsNothing (left self.old) }
+        ensures kept { OnErr result (TakesOff (left self.old) [] (left self.new)) }
+        ensures counted { reads self.new ≡ count_after (reads self.old) 1 }
+        ensures given { pieces self.new ≡ pieces_after (pieces self.old) result }
         ensures later { faults self.old ≤ faults self.new }
         ensures failed { OnErr result (HasRisen (faults self.old) (faults self.new)) };
 }

@@ -4,7 +4,7 @@ ghost use Rattle.std.specs.Prelude.{◌≡◌, ◌<◌, length};
 
 use crate::{
     Declared, Failed, KeyError, KeyExpr, MemorySink, MemorySource, Sink, Source, SteadySource,
-    Steps,
+    Steps, chunk_meets, texts_meet,
 };
 use std::alloc::{AllocError, Global};
 use std::marker::Brand;
@@ -375,6 +375,26 @@ fn texts(rt: HostRuntime) -> Result<(), Fail> {
     let text = owned.into_string(rt.alloc())?;
     assert_eq!(rt; KeyExpr::from_string(text)?.as_str(), "a/b");
     Ok(())
+}
+
+#[test]
+fn shared_texts(rt: HostRuntime) -> Result<(), Fail> {
+    let alloc = rt.alloc();
+    let owned = KeyExpr::from_string(String::from_str(alloc, "a/b")?)?.into_owned(alloc)?;
+    let copy = owned.borrowing_clone().into_owned(alloc)?;
+    assert_eq!(rt; copy, owned);
+    assert_eq!(rt; owned.with_suffix(alloc, "")?, owned);
+    assert_eq!(rt; copy.into_string(alloc)?.as_str(), "a/b");
+    assert_eq!(rt; owned.into_string(alloc)?.as_str(), "a/b");
+    Ok(())
+}
+
+#[test]
+fn plain_texts(rt: HostRuntime) {
+    assert!(rt; texts_meet("a/*", "a/b"));
+    assert!(rt; !texts_meet("a/*", "a/@b"));
+    assert!(rt; chunk_meets("a$*", "ab"));
+    assert!(rt; !chunk_meets("*", "@b"));
 }
 
 #[test]

@@ -1,6 +1,6 @@
 use Rattle.zs_keys.specs.Text.{chunks, is_double_star}
 use Rattle.zs_keys.specs.Matching.{is_free, chunk_meets}
-use Rattle.zs_keys.specs.Symmetry.{meets_comm, chunk_meets_comm}
+use Rattle.zs_keys.proofs.Symmetry.{meets_comm, chunk_meets_comm}
 use Rattle.zs_keys.proofs.CutLemmas.{double_star-free}
 use Rattle.zs_keys.proofs.laws.intersects_is_symmetric.Goals as goal
 

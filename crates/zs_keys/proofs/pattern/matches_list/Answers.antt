@@ -13,5 +13,5 @@ pub returns-in-RightWild : goal.returns-in-RightWild
 returns-in-RightWild g c =
     let (y, is_wild, onto) = c.in-RightWild.ensures in
     c.stands_anywhere-in-RightWild.ensures
-    ∙ sym (match-right g.P.Pattern.wild g.P.Pattern.wild_right g.P.Pattern.same g.met.P.Symmetric.one_wild g.met.P.Symmetric.even
+    ∙ sym (match-right g.P.Pattern.wild g.P.Pattern.wild_right g.P.Pattern.same c.requires.one_wild c.requires.even
     _ _ _ _ y is_wild onto)
