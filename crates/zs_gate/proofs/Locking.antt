@@ -6,22 +6,16 @@ use mathlib.Core.Logic.{dite}
 use native.Mathlib.Decide.{ℕ_discrete}
 use lib.ListN.{get_elem?}
 use prog.Atomic.{either}
-use Rattle.atomic_table.specs.Table.{Me, step, keeps, takes, gives, rest, put_back, opening, Allows, Enters}
+use Rattle.atomic_table.specs.Table.{Me, step, keeps, takes, gives, rest, put_back, Allows}
 use Rattle.atomic_table.proofs.Lists.{set_here, exchanged}
-use Rattle.zs_gate.specs.Locks.{IsLocked, takes_value, sits, puts_value}
+use Rattle.zs_gate.specs.Locks.{IsLocked, TakesValue, PutsValue}
 
 pub exchange_leaves : (n : ℕ) → either (n == 0) 1 n ≢ 0
 exchange_leaves n = exchanged n 0 1 (λ k. k ≢ 0) (λ _ z. absurd (omega arith)) (λ ne. ne)
 
 module _ {T K : Type 0} (holds : K → T → Type 0) (key : K) where
-  pub opens : (value : T) → holds key value → IsLocked holds key (opening (0 ∷ []) (Some value ∷ []) key)
-  opens value fact = (refl, refl, λ _. (value, refl, fact))
-
-  pub sit_allowed : (slots : ℕ) → Enters (IsLocked holds key) slots 0 (λ n w. sits {T = T} (step slots 0 0 0 none) (key, []) n (w, []))
-  sit_allowed slots s kept homes small = (key, kept, refl)
-
   module _ (slots id : ℕ) (me : Me (Option T) K) where
-    pub take_allowed : (f : ℕ → ℕ) → ((n : ℕ) → f n ≢ 0) → me ≡ (key, []) → Allows (IsLocked holds key) slots id me 0 f (takes_value holds (step slots 0 0 0 none) me)
+    pub take_allowed : (f : ℕ → ℕ) → ((n : ℕ) → f n ≢ 0) → me ≡ (key, []) → Allows (IsLocked holds key) slots id me 0 f (TakesValue holds (step slots 0 0 0 none) me)
     take_allowed f never is s kept homes at small =
         let found = slice_index s.words 0 in
         let one : 0 < length s.words = omega (arith, kept.0) in
@@ -39,7 +33,7 @@ module _ {T K : Type 0} (holds : K → T → Type 0) (key : K) where
         ))
         (λ out. (me.0, keeps, tt, (words, kept.1, λ z. absurd (gone z)), (refl, (λ free. absurd (out free)), (λ _. refl))))
 
-    pub put_allowed : (value : T) → me.1 ≡ (0, Some value) ∷ [] → holds key value → Allows (IsLocked holds key) slots id me 0 (λ _. 0) (puts_value (step slots 0 0 0 none) me)
+    pub put_allowed : (value : T) → me.1 ≡ (0, Some value) ∷ [] → holds key value → Allows (IsLocked holds key) slots id me 0 (λ _. 0) (PutsValue (step slots 0 0 0 none) me)
     put_allowed value is fact s kept homes at small =
         let there : 0 < length s.homes = omega (arith, kept.1) in
         let back : put_back s.homes me.1 ≡ set s.homes 0 (some (Some value)) = ap (put_back s.homes) is in (

@@ -11,7 +11,7 @@ use Rattle.zs_gate.specs.declared.view.View.{View}
 use Rattle.zs_gate.specs.declared.view.View.TheVariants.{Keeper, Door, Out, Inside, Knock, Spent}
 use Rattle.zs_gate.specs.declared.view.Phase.TheVariants.{Open, Draining, Drained}
 use Rattle.zs_gate.specs.Rule.{IsKept, Kept}
-use Rattle.zs_gate.specs.Plays.{Mine, enters, retreats, leaves, drains, looks, looks_alone, checks, one_more, one_less}
+use Rattle.zs_gate.specs.Plays.{Mine, Enters, Retreats, Leaves, Drains, Looks, LooksAlone, Checks, one_more, one_less}
 use Rattle.atomic_table.proofs.Lists.{set_again}
 use Rattle.zs_gate.proofs.Steps as steps
 
@@ -26,8 +26,8 @@ moves slots id me f then does s kept homes at small =
     let here : slice_index (set s.words 0 (f word)) 0 ≡ f word = get_or-set_same s.words 0 (f word) 0 one in
     (r.0, keeps, tt, (length-set s.words 0 (f word) ∙ kept.0, subst (λ n. IsKept n (set s.views id r.0)) (sym here) r.1), r.2)
 
-pub enter_allowed : (slots id : ℕ) (me : Mine) (noted : Bool) → me.0 ≡ Out noted → Allows Kept slots id me 0 (λ n. (n + 2) % 2 ^ 64) (enters (step slots 0 2 0 none) me)
-enter_allowed slots id me noted is = moves slots id me (λ n. (n + 2) % 2 ^ 64) (enters (step slots 0 2 0 none) me)
+pub enter_allowed : (slots id : ℕ) (me : Mine) (noted : Bool) → me.0 ≡ Out noted → Allows Kept slots id me 0 (λ n. (n + 2) % 2 ^ 64) (Enters (step slots 0 2 0 none) me)
+enter_allowed slots id me noted is = moves slots id me (λ n. (n + 2) % 2 ^ 64) (Enters (step slots 0 2 0 none) me)
     (λ word views kept at small.
     let out : get_elem? views id ≡ some (Out noted) = at ∙ ap some is in
     let bound = steps.word_fits word views id kept in
@@ -36,16 +36,16 @@ enter_allowed slots id me noted is = moves slots id me (λ n. (n + 2) % 2 ^ 64) 
     (λ even. (Inside, subst (λ n. IsKept n (set views id Inside)) fits (steps.enters_inside word views id kept noted out even), ((λ _. refl), (λ odd. absurd (odd even)), refl)))
     (λ odd. (Knock, subst (λ n. IsKept n (set views id Knock)) fits (steps.enters_late word views id kept noted out odd), ((λ even. absurd (odd even)), (λ _. refl), refl))))
 
-pub retreat_allowed : (slots id : ℕ) (me : Mine) → me.0 ≡ Knock → Allows Kept slots id me 0 (λ n. (n + 18446744073709551614) % 2 ^ 64) (retreats (step slots 0 2 0 none) me)
-retreat_allowed slots id me is = moves slots id me (λ n. (n + 18446744073709551614) % 2 ^ 64) (retreats (step slots 0 2 0 none) me)
+pub retreat_allowed : (slots id : ℕ) (me : Mine) → me.0 ≡ Knock → Allows Kept slots id me 0 (λ n. (n + 18446744073709551614) % 2 ^ 64) (Retreats (step slots 0 2 0 none) me)
+retreat_allowed slots id me is = moves slots id me (λ n. (n + 18446744073709551614) % 2 ^ 64) (Retreats (step slots 0 2 0 none) me)
     (λ word views kept at small.
     let knock : get_elem? views id ≡ some Knock = at ∙ ap some is in
     let counts = steps.knock_counts word views id kept knock in
     let fits : word - 2 ≡ (word + 18446744073709551614) % 2 ^ 64 = omega arith in
     (Out true, subst (λ n. IsKept n (set views id (Out true))) fits (steps.retreats_out word views id kept knock), (refl, refl)))
 
-pub leave_allowed : (slots id : ℕ) (me : Mine) → me.0 ≡ Inside → Allows Kept slots id me 0 (λ n. (n + 18446744073709551614) % 2 ^ 64) (leaves (step slots 0 2 0 none) me)
-leave_allowed slots id me is = moves slots id me (λ n. (n + 18446744073709551614) % 2 ^ 64) (leaves (step slots 0 2 0 none) me)
+pub leave_allowed : (slots id : ℕ) (me : Mine) → me.0 ≡ Inside → Allows Kept slots id me 0 (λ n. (n + 18446744073709551614) % 2 ^ 64) (Leaves (step slots 0 2 0 none) me)
+leave_allowed slots id me is = moves slots id me (λ n. (n + 18446744073709551614) % 2 ^ 64) (Leaves (step slots 0 2 0 none) me)
     (λ word views kept at small.
     let inside : get_elem? views id ≡ some Inside = at ∙ ap some is in
     let counts = steps.inside_counts word views id kept inside in
@@ -58,15 +58,15 @@ set_bit n even =
     let half : n / 2 * 2 ^ 1 ≡ n = omega arith in
     subst (λ k. k + 1 ≡ bit_or k 1) half (sym (or_shifted (n / 2) 1 1 (omega arith)))
 
-pub drain_allowed : (slots id : ℕ) (me : Mine) (has_door : Bool) → me.0 ≡ Keeper has_door Open → Allows Kept slots id me 0 (λ n. bit_or n 1) (drains (step slots 0 1 0 none) me)
-drain_allowed slots id me has_door is = moves slots id me (λ n. bit_or n 1) (drains (step slots 0 1 0 none) me)
+pub drain_allowed : (slots id : ℕ) (me : Mine) (has_door : Bool) → me.0 ≡ Keeper has_door Open → Allows Kept slots id me 0 (λ n. bit_or n 1) (Drains (step slots 0 1 0 none) me)
+drain_allowed slots id me has_door is = moves slots id me (λ n. bit_or n 1) (Drains (step slots 0 1 0 none) me)
     (λ word views kept at small.
     let open_one : get_elem? views id ≡ some (Keeper has_door Open) = at ∙ ap some is in
     let even = steps.open_even word views id kept has_door open_one in
     (Keeper has_door (Draining 0 0), subst (λ n. IsKept n (set views id (Keeper has_door (Draining 0 0)))) (set_bit word even) (steps.drains_on word views id kept has_door open_one), (rw is, refl)))
 
-pub look_allowed : (slots id : ℕ) (me : Mine) (times count : ℕ) → me.0 ≡ Keeper false (Draining times count) → Allows Kept slots id me 0 (λ n. n) (looks (step slots 0 0 0 none) me)
-look_allowed slots id me times count is = moves slots id me (λ n. n) (looks (step slots 0 0 0 none) me)
+pub look_allowed : (slots id : ℕ) (me : Mine) (times count : ℕ) → me.0 ≡ Keeper false (Draining times count) → Allows Kept slots id me 0 (λ n. n) (Looks (step slots 0 0 0 none) me)
+look_allowed slots id me times count is = moves slots id me (λ n. n) (Looks (step slots 0 0 0 none) me)
     (λ word views kept at small.
     let draining : get_elem? views id ≡ some (Keeper false (Draining times count)) = at ∙ ap some is in
     let odd = steps.draining_odd word views id kept false times count draining in
@@ -75,14 +75,14 @@ look_allowed slots id me times count is = moves slots id me (λ n. n) (looks (st
     (λ none. (Keeper false Drained, steps.looks_last word views id kept false times count draining (omega arith), (bound, (λ _. refl), (λ some_in. absurd (some_in none)), refl)))
     (λ some_in. (Keeper false (Draining (times + 1) (word / 2)), steps.looks_again word views id kept false times count (word / 2) draining, (bound, (λ none. absurd (some_in none)), (λ _. rw is), refl))))
 
-pub look_alone_allowed : (slots id : ℕ) (me : Mine) (times count : ℕ) → me.0 ≡ Keeper true (Draining times count) → Allows Kept slots id me 0 (λ n. n) (looks_alone (step slots 0 0 0 none) me)
-look_alone_allowed slots id me times count is = moves slots id me (λ n. n) (looks_alone (step slots 0 0 0 none) me)
+pub look_alone_allowed : (slots id : ℕ) (me : Mine) (times count : ℕ) → me.0 ≡ Keeper true (Draining times count) → Allows Kept slots id me 0 (λ n. n) (LooksAlone (step slots 0 0 0 none) me)
+look_alone_allowed slots id me times count is = moves slots id me (λ n. n) (LooksAlone (step slots 0 0 0 none) me)
     (λ word views kept at small.
     let draining : get_elem? views id ≡ some (Keeper true (Draining times count)) = at ∙ ap some is in
     (Keeper true Drained, steps.looks_last word views id kept true times count draining (steps.alone word views id kept times count draining), (refl, refl)))
 
-pub check_allowed : (slots id : ℕ) (me : Mine) → Allows Kept slots id me 0 (λ n. n) (checks (step slots 0 0 0 none) me)
-check_allowed slots id me = moves slots id me (λ n. n) (checks (step slots 0 0 0 none) me)
+pub check_allowed : (slots id : ℕ) (me : Mine) → Allows Kept slots id me 0 (λ n. n) (Checks (step slots 0 0 0 none) me)
+check_allowed slots id me = moves slots id me (λ n. n) (Checks (step slots 0 0 0 none) me)
     (λ word views kept at small.
     (me.0, subst (IsKept word) (sym (set_again views id me.0 at)) kept, (steps.number_fits word views id kept me.0 at, (refl, refl))))
 

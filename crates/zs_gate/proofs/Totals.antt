@@ -5,7 +5,7 @@ use lib.ListN.{get_elem?}
 use Rattle.zs_gate.specs.declared.view.View.{View}
 use Rattle.zs_gate.specs.declared.view.View.TheVariants.{Keeper, Door, Out, Inside, Knock, Spent}
 use Rattle.zs_gate.specs.declared.view.Phase.TheVariants.{Open, Draining, Drained}
-use Rattle.zs_gate.specs.Views.{total, keeper, keeps_door, marked, drained, door, number, pass, counted, inside, late}
+use Rattle.zs_gate.specs.Views.{total, keeper, door_keeper, marked_keeper, drained_keeper, door, number, pass, counted_pass, inside_pass, late_pass}
 
 pub total-set : (f : View → ℕ) (views : List View) (i : ℕ) (v w : View) → get_elem? views i ≡ some v → total f (set views i w) + f v ≡ total f views + f w
 total-set f [] i v w at = absurd (some-ne-none v (sym at))
@@ -19,28 +19,28 @@ total-snoc f (x ∷ xs) w = let ih = total-snoc f xs w in omega arith
 -- what the totals of the new views are to those of the old: `gone` went, `came` came
 pub record Sums (old new : List View) (gone came : (View → ℕ) → ℕ) : Type 0 where
   pub keepers : total keeper new + gone keeper ≡ total keeper old + came keeper
-  pub door_keepers : total keeps_door new + gone keeps_door ≡ total keeps_door old + came keeps_door
-  pub marks : total marked new + gone marked ≡ total marked old + came marked
-  pub drains : total drained new + gone drained ≡ total drained old + came drained
+  pub door_keepers : total door_keeper new + gone door_keeper ≡ total door_keeper old + came door_keeper
+  pub marks : total marked_keeper new + gone marked_keeper ≡ total marked_keeper old + came marked_keeper
+  pub drains : total drained_keeper new + gone drained_keeper ≡ total drained_keeper old + came drained_keeper
   pub doors : total door new + gone door ≡ total door old + came door
   pub numbers : total number new + gone number ≡ total number old + came number
   pub passes : total pass new + gone pass ≡ total pass old + came pass
-  pub counts : total counted new + gone counted ≡ total counted old + came counted
-  pub insides : total inside new + gone inside ≡ total inside old + came inside
-  pub lates : total late new + gone late ≡ total late old + came late
+  pub counts : total counted_pass new + gone counted_pass ≡ total counted_pass old + came counted_pass
+  pub insides : total inside_pass new + gone inside_pass ≡ total inside_pass old + came inside_pass
+  pub lates : total late_pass new + gone late_pass ≡ total late_pass old + came late_pass
 
 sums : (old new : List View) (gone came : (View → ℕ) → ℕ) → ((f : View → ℕ) → total f new + gone f ≡ total f old + came f) → Sums old new gone came
 sums old new gone came is = record {
   keepers = is keeper;
-  door_keepers = is keeps_door;
-  marks = is marked;
-  drains = is drained;
+  door_keepers = is door_keeper;
+  marks = is marked_keeper;
+  drains = is drained_keeper;
   doors = is door;
   numbers = is number;
   passes = is pass;
-  counts = is counted;
-  insides = is inside;
-  lates = is late;
+  counts = is counted_pass;
+  insides = is inside_pass;
+  lates = is late_pass;
 }
 
 -- one view changed
@@ -63,67 +63,67 @@ total-le f g le (v ∷ vs) = let h = le v in let ih = total-le f g le vs in omeg
 
 -- what the weights are to one another, whatever the views are
 pub record Bounds (views : List View) : Type 0 where
-  pub marks : total marked views ≤ total keeper views
-  pub door_keepers : total keeps_door views ≤ total keeper views
-  pub drains : total drained views ≤ total marked views
-  pub insides : total inside views ≤ total counted views
-  pub counts : total counted views ≤ total pass views
-  pub lates : total late views ≤ total pass views
+  pub marks : total marked_keeper views ≤ total keeper views
+  pub door_keepers : total door_keeper views ≤ total keeper views
+  pub drains : total drained_keeper views ≤ total marked_keeper views
+  pub insides : total inside_pass views ≤ total counted_pass views
+  pub counts : total counted_pass views ≤ total pass views
+  pub lates : total late_pass views ≤ total pass views
   pub numbers : total door views ≡ 0 → total number views ≡ 0
 
-marked_le : (v : View) → marked v ≤ keeper v
-marked_le (Keeper has_door Open) = omega arith
-marked_le (Keeper has_door (Draining looks count)) = omega arith
-marked_le (Keeper has_door Drained) = omega arith
-marked_le (Door out) = omega arith
-marked_le (Out noted) = omega arith
-marked_le Inside = omega arith
-marked_le Knock = omega arith
-marked_le Spent = omega arith
+marked_keeper_le : (v : View) → marked_keeper v ≤ keeper v
+marked_keeper_le (Keeper has_door Open) = omega arith
+marked_keeper_le (Keeper has_door (Draining looks count)) = omega arith
+marked_keeper_le (Keeper has_door Drained) = omega arith
+marked_keeper_le (Door out) = omega arith
+marked_keeper_le (Out noted) = omega arith
+marked_keeper_le Inside = omega arith
+marked_keeper_le Knock = omega arith
+marked_keeper_le Spent = omega arith
 
-keeps_door_le : (v : View) → keeps_door v ≤ keeper v
-keeps_door_le (Keeper true phase) = omega arith
-keeps_door_le (Keeper false phase) = omega arith
-keeps_door_le (Door out) = omega arith
-keeps_door_le (Out noted) = omega arith
-keeps_door_le Inside = omega arith
-keeps_door_le Knock = omega arith
-keeps_door_le Spent = omega arith
+door_keeper_le : (v : View) → door_keeper v ≤ keeper v
+door_keeper_le (Keeper true phase) = omega arith
+door_keeper_le (Keeper false phase) = omega arith
+door_keeper_le (Door out) = omega arith
+door_keeper_le (Out noted) = omega arith
+door_keeper_le Inside = omega arith
+door_keeper_le Knock = omega arith
+door_keeper_le Spent = omega arith
 
-drained_le : (v : View) → drained v ≤ marked v
-drained_le (Keeper has_door Open) = omega arith
-drained_le (Keeper has_door (Draining looks count)) = omega arith
-drained_le (Keeper has_door Drained) = omega arith
-drained_le (Door out) = omega arith
-drained_le (Out noted) = omega arith
-drained_le Inside = omega arith
-drained_le Knock = omega arith
-drained_le Spent = omega arith
+drained_keeper_le : (v : View) → drained_keeper v ≤ marked_keeper v
+drained_keeper_le (Keeper has_door Open) = omega arith
+drained_keeper_le (Keeper has_door (Draining looks count)) = omega arith
+drained_keeper_le (Keeper has_door Drained) = omega arith
+drained_keeper_le (Door out) = omega arith
+drained_keeper_le (Out noted) = omega arith
+drained_keeper_le Inside = omega arith
+drained_keeper_le Knock = omega arith
+drained_keeper_le Spent = omega arith
 
-inside_le : (v : View) → inside v ≤ counted v
-inside_le (Keeper has_door phase) = omega arith
-inside_le (Door out) = omega arith
-inside_le (Out noted) = omega arith
-inside_le Inside = omega arith
-inside_le Knock = omega arith
-inside_le Spent = omega arith
+inside_pass_le : (v : View) → inside_pass v ≤ counted_pass v
+inside_pass_le (Keeper has_door phase) = omega arith
+inside_pass_le (Door out) = omega arith
+inside_pass_le (Out noted) = omega arith
+inside_pass_le Inside = omega arith
+inside_pass_le Knock = omega arith
+inside_pass_le Spent = omega arith
 
-counted_le : (v : View) → counted v ≤ pass v
-counted_le (Keeper has_door phase) = omega arith
-counted_le (Door out) = omega arith
-counted_le (Out noted) = omega arith
-counted_le Inside = omega arith
-counted_le Knock = omega arith
-counted_le Spent = omega arith
+counted_pass_le : (v : View) → counted_pass v ≤ pass v
+counted_pass_le (Keeper has_door phase) = omega arith
+counted_pass_le (Door out) = omega arith
+counted_pass_le (Out noted) = omega arith
+counted_pass_le Inside = omega arith
+counted_pass_le Knock = omega arith
+counted_pass_le Spent = omega arith
 
-late_le : (v : View) → late v ≤ pass v
-late_le (Keeper has_door phase) = omega arith
-late_le (Door out) = omega arith
-late_le (Out true) = omega arith
-late_le (Out false) = omega arith
-late_le Inside = omega arith
-late_le Knock = omega arith
-late_le Spent = omega arith
+late_pass_le : (v : View) → late_pass v ≤ pass v
+late_pass_le (Keeper has_door phase) = omega arith
+late_pass_le (Door out) = omega arith
+late_pass_le (Out true) = omega arith
+late_pass_le (Out false) = omega arith
+late_pass_le Inside = omega arith
+late_pass_le Knock = omega arith
+late_pass_le Spent = omega arith
 
 number-none : (v : View) → door v ≡ 0 → number v ≡ 0
 number-none (Keeper has_door phase) none = refl
@@ -142,11 +142,11 @@ numbers-none (v ∷ vs) none =
 
 pub bounds : (views : List View) → Bounds views
 bounds views = record {
-  marks = total-le marked keeper marked_le views;
-  door_keepers = total-le keeps_door keeper keeps_door_le views;
-  drains = total-le drained marked drained_le views;
-  insides = total-le inside counted inside_le views;
-  counts = total-le counted pass counted_le views;
-  lates = total-le late pass late_le views;
+  marks = total-le marked_keeper keeper marked_keeper_le views;
+  door_keepers = total-le door_keeper keeper door_keeper_le views;
+  drains = total-le drained_keeper marked_keeper drained_keeper_le views;
+  insides = total-le inside_pass counted_pass inside_pass_le views;
+  counts = total-le counted_pass pass counted_pass_le views;
+  lates = total-le late_pass pass late_pass_le views;
   numbers = numbers-none views;
 }

@@ -13,11 +13,11 @@ gate_of (Closed keeper) = keeper.gate
 gate_of (Drained gate) = gate
 
 -- the keeper once the group is closed: it marked the gate, and no one waits for it any longer
-abbrev pub closed : Watch → Watch
-closed (Open gate) = Closed (record { gate = gate; looks = 0; count = 0 })
-closed (Draining keeper) = Closed keeper
-closed (Closed keeper) = Closed keeper
-closed (Drained gate) = Drained gate
+abbrev pub watch_after_close : Watch → Watch
+watch_after_close (Open gate) = Closed (record { gate = gate; looks = 0; count = 0 })
+watch_after_close (Draining keeper) = Closed keeper
+watch_after_close (Closed keeper) = Closed keeper
+watch_after_close (Drained gate) = Drained gate
 
 pub record GroupSeen : Type 0 where
   pub gate : TableId

@@ -24,17 +24,17 @@ module _ {T K : Type 0} (holds : K → T → Type 0) where
   HasTaken me = (value : T) × (me.1 ≡ (0, Some value) ∷ []) × holds me.0 value
 
   -- a step that takes the value where the word was 0
-  abbrev pub takes_value : Step (Option T) → Me (Option T) K → ℕ → Me (Option T) K → Type 0
-  takes_value step me found after = (after.0 ≡ me.0) × (found ≡ 0 → HasTaken after) × (found ≢ 0 → after ≡ me)
+  abbrev pub TakesValue : Step (Option T) → Me (Option T) K → ℕ → Me (Option T) K → Type 0
+  TakesValue step me found after = (after.0 ≡ me.0) × (found ≡ 0 → HasTaken after) × (found ≢ 0 → after ≡ me)
 
 -- a seat whose value was read out of it
 abbrev pub IsOut : {T K : Type 0} → Me (Option T) K → Type 0
 IsOut me = me.1 ≡ (0, None) ∷ []
 
 -- a new seat knows the key, as the first seat does
-abbrev pub sits : {T K : Type 0} → Step (Option T) → Me (Option T) K → ℕ → Me (Option T) K → Type 0
-sits step me found after = after ≡ me
+abbrev pub Sits : {T K : Type 0} → Step (Option T) → Me (Option T) K → ℕ → Me (Option T) K → Type 0
+Sits step me found after = after ≡ me
 
 -- a step that puts the value back
-abbrev pub puts_value : {T K : Type 0} → Step (Option T) → Me (Option T) K → ℕ → Me (Option T) K → Type 0
-puts_value step me found after = after.1 ≡ []
+abbrev pub PutsValue : {T K : Type 0} → Step (Option T) → Me (Option T) K → ℕ → Me (Option T) K → Type 0
+PutsValue step me found after = after.1 ≡ []

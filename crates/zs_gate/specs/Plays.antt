@@ -17,46 +17,46 @@ abbrev pub Told : Type 1
 Told = Step (Unit {0}) → Mine → ℕ → Mine → Type 0
 
 -- enter: inside where the word was even, else a knock
-abbrev pub enters : Told
-enters step me found after = (found % 2 ≡ 0 → after.0 ≡ Inside) × (found % 2 ≢ 0 → after.0 ≡ Knock) × (after.1 ≡ me.1)
+abbrev pub Enters : Told
+Enters step me found after = (found % 2 ≡ 0 → after.0 ≡ Inside) × (found % 2 ≢ 0 → after.0 ≡ Knock) × (after.1 ≡ me.1)
 
 -- retreat: out, with the note that the mark was seen
-abbrev pub retreats : Told
-retreats step me found after = Becomes me after (Out true)
+abbrev pub Retreats : Told
+Retreats step me found after = Becomes me after (Out true)
 
 -- leave: out
-abbrev pub leaves : Told
-leaves step me found after = Becomes me after (Out false)
+abbrev pub Leaves : Told
+Leaves step me found after = Becomes me after (Out false)
 
 -- the keeper's view once it has set the mark
-abbrev pub draining : View → View
-draining (Keeper has_door phase) = Keeper has_door (Draining 0 0)
-draining _ = Spent
+abbrev pub keeper_after_mark : View → View
+keeper_after_mark (Keeper has_door phase) = Keeper has_door (Draining 0 0)
+keeper_after_mark _ = Spent
 
 -- drain: the keeper has set the mark
-abbrev pub drains : Told
-drains step me found after = Becomes me after (draining me.0)
+abbrev pub Drains : Told
+Drains step me found after = Becomes me after (keeper_after_mark me.0)
 
 -- the keeper's view after a look that counted passes
-abbrev pub looked : View → ℕ → View
-looked (Keeper has_door (Draining looks count)) more = Keeper has_door (Draining (looks + 1) more)
-looked _ more = Spent
+abbrev pub keeper_after_look : View → ℕ → View
+keeper_after_look (Keeper has_door (Draining looks count)) more = Keeper has_door (Draining (looks + 1) more)
+keeper_after_look _ more = Spent
 
 -- look: drained where the word is 1, so that it counts no one; else one look more, with the count
-abbrev pub looks : Told
-looks step me found after =
+abbrev pub Looks : Told
+Looks step me found after =
     (found < 2 ^ 34)
     × (found / 2 ≡ 0 → after.0 ≡ Keeper false Drained)
-    × (found / 2 ≢ 0 → after.0 ≡ looked me.0 (found / 2))
+    × (found / 2 ≢ 0 → after.0 ≡ keeper_after_look me.0 (found / 2))
     × (after.1 ≡ me.1)
 
 -- the look of a keeper that has the door finds no one
-abbrev pub looks_alone : Told
-looks_alone step me found after = Becomes me after (Keeper true Drained)
+abbrev pub LooksAlone : Told
+LooksAlone step me found after = Becomes me after (Keeper true Drained)
 
 -- a look at the word that changes nothing: no door has a larger number
-abbrev pub checks : Told
-checks step me found after = (number me.0 < 2 ^ 32) × Becomes me after me.0
+abbrev pub Checks : Told
+Checks step me found after = (number me.0 < 2 ^ 32) × Becomes me after me.0
 
 -- the door with one pass more
 abbrev pub one_more : View → View

@@ -18,20 +18,20 @@ keeper (Keeper has_door phase) = 1
 keeper _ = 0
 
 -- a keeper that has the door
-abbrev pub keeps_door : View → ℕ
-keeps_door (Keeper has_door phase) = one_if has_door
-keeps_door _ = 0
+abbrev pub door_keeper : View → ℕ
+door_keeper (Keeper has_door phase) = one_if has_door
+door_keeper _ = 0
 
 -- a keeper that has set the mark
-abbrev pub marked : View → ℕ
-marked (Keeper has_door Open) = 0
-marked (Keeper has_door _) = 1
-marked _ = 0
+abbrev pub marked_keeper : View → ℕ
+marked_keeper (Keeper has_door Open) = 0
+marked_keeper (Keeper has_door _) = 1
+marked_keeper _ = 0
 
 -- a keeper that has found no one inside
-abbrev pub drained : View → ℕ
-drained (Keeper has_door Drained) = 1
-drained _ = 0
+abbrev pub drained_keeper : View → ℕ
+drained_keeper (Keeper has_door Drained) = 1
+drained_keeper _ = 0
 
 -- the door
 abbrev pub door : View → ℕ
@@ -51,21 +51,21 @@ pass Knock = 1
 pass _ = 0
 
 -- a pass that the word counts
-abbrev pub counted : View → ℕ
-counted Inside = 1
-counted Knock = 1
-counted _ = 0
+abbrev pub counted_pass : View → ℕ
+counted_pass Inside = 1
+counted_pass Knock = 1
+counted_pass _ = 0
 
 -- a pass that is inside
-abbrev pub inside : View → ℕ
-inside Inside = 1
-inside _ = 0
+abbrev pub inside_pass : View → ℕ
+inside_pass Inside = 1
+inside_pass _ = 0
 
 -- a pass that has found the mark
-abbrev pub late : View → ℕ
-late (Out noted) = one_if noted
-late Knock = 1
-late _ = 0
+abbrev pub late_pass : View → ℕ
+late_pass (Out noted) = one_if noted
+late_pass Knock = 1
+late_pass _ = 0
 
 -- what a view says, of those that say it
 abbrev pub noted_of : View → Bool

@@ -1,7 +1,7 @@
 // A gate with its door and its keeper, as it lies under a group's lock.
 ghost use Rattle.std.specs.Prelude.{◌≡◌, ◌≢◌, ◌+◌, ◌↔◌, IfOk, IfSome, IfNone, OnErr};
 ghost use Rattle.zs_gate.specs.declared.watch.Watch.TheVariants.{Open, Drained as IsDrained};
-ghost use Rattle.zs_gate.specs.Groups.{closed, gate_of, IsWaiting, IsClosed};
+ghost use Rattle.zs_gate.specs.Groups.{watch_after_close, gate_of, IsWaiting, IsClosed};
 
 use crate::gate::{Door, NoPass};
 use crate::keeper::{Draining, Keeper};
@@ -46,16 +46,21 @@ impl Group {
         self.door.out
     }
 
-    // A pass more, which is inside; or none, where it found the mark.
+    // A pass more, which is inside; or none, where it found the mark, so never while the watch is open.
     pub fn admit(&mut self) -> Result<Option<Inside>, NoPass>
         ensures some { IfOk result (λ given. IfSome given (λ inside. (inside ≡ self.old.gate) × (self.new ≡ record self.old { out = self.old.out + 1 }))) }
         ensures none { IfOk result (λ given. IfNone given (self.new ≡ self.old)) }
+        ensures marked { IfOk result (λ given. IfNone given (self.old.watch ≢ Open self.old.gate)) }
         ensures full { (result ≡ Err NoPass.Full) ↔ (self.old.out ≡ 4294967295) }
         ensures err { OnErr result (self.new ≡ self.old) }
     {
         match self.door.pass()?.enter() {
             Ok(inside) => Ok(Some(inside)),
             Err(pass) => {
+                if let Watch::Open(keeper) = &mut self.watch {
+                    keeper.excludes(pass);
+                    unreachable!()
+                }
                 self.door.take_back(pass);
                 Ok(None)
             }
@@ -72,7 +77,7 @@ impl Group {
 
     // Marks the gate. Whoever waits is to wait no longer.
     pub fn close(self) -> Group
-        ensures { result ≡ record self { watch = closed self.watch } }
+        ensures { result ≡ record self { watch = watch_after_close self.watch } }
     {
         let Group { door, watch } = self;
         let watch = match watch {
@@ -88,13 +93,14 @@ impl Group {
     pub fn look(self) -> (Group, Option<Waited>)
         ensures same { (result.0.gate ≡ self.gate) × (result.0.out ≡ self.out) }
         ensures drained { result.1 ≡ Some Waited.Drained → result.0.watch ≡ IsDrained self.gate }
-        ensures closed { result.1 ≡ Some Waited.WasClosed → IsClosed self.watch × (result.0 ≡ self) }
+        ensures closed { (result.1 ≡ Some Waited.WasClosed) ↔ IsClosed self.watch }
+        ensures left { IsClosed self.watch → result.0 ≡ self }
         ensures none { result.1 ≡ None → IsWaiting result.0.watch }
     {
         let Group { door, watch } = self;
         let (watch, waited) = match watch {
-            Watch::Open(keeper) => looked(keeper.drain()),
-            Watch::Draining(draining) => looked(draining),
+            Watch::Open(keeper) => look_once(keeper.drain()),
+            Watch::Draining(draining) => look_once(draining),
             Watch::Closed(draining) => (Watch::Closed(draining), Some(Waited::WasClosed)),
             Watch::Drained(drained) => (Watch::Drained(drained), Some(Waited::Drained)),
         };
@@ -103,7 +109,7 @@ impl Group {
 }
 
 // One look.
-fn looked(draining: Draining) -> (Watch, Option<Waited>)
+fn look_once(draining: Draining) -> (Watch, Option<Waited>)
     ensures gate { gate_of result.0 ≡ draining.gate }
     ensures drained { result.1 ≡ Some Waited.Drained → result.0 ≡ IsDrained draining.gate }
     ensures closed { result.1 ≢ Some Waited.WasClosed }

@@ -82,13 +82,12 @@ impl Keeper {
     }
 
     /// A pass that found the mark and a keeper that hasn't drained the gate never stand together: no one can call this.
-    pub fn excludes(self, late: Pass)
-        requires { late ≡ record { gate = self; noted = true } }
+    pub fn excludes(&mut self, late: Pass)
+        requires { late ≡ record { gate = self.old; noted = true } }
         ensures { ⊥ }
     {
-        let Keeper { post } = self;
         let Pass { post: late } = late;
-        post.clash_late(late);
+        self.post.clash_late(late);
     }
 
     // A sight of the gate's mark, for whoever has no seat.

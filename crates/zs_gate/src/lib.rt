@@ -10,6 +10,7 @@
 //! follows for callers: `Drained::excludes` and `Keeper::excludes`.
 #![tactic(auto)]
 
+mod events;
 mod gate;
 mod group;
 mod keeper;
@@ -20,6 +21,7 @@ mod sync_group;
 mod view;
 mod watch;
 
+pub use events::Events;
 pub use gate::{Door, Gate, NoPass};
 pub use keeper::{Drained, Draining, Keeper};
 pub use lock::{Fact, KeyedLock, Taken};

@@ -34,9 +34,9 @@ impl<T, K, F: Fact<T, K>> TableRule<Option<T>, K, K> for Rule<F> {
 struct Sit;
 
 impl<T, K> Play<Option<T>, K> for Sit {
-    ghost use Rattle.zs_gate.specs.Locks.{sits};
+    ghost use Rattle.zs_gate.specs.Locks.{Sits};
 
-    ghost then = { sits };
+    ghost then = { Sits };
 }
 
 struct TakeValue<F> {
@@ -44,17 +44,17 @@ struct TakeValue<F> {
 }
 
 impl<T, K, F: Fact<T, K>> Play<Option<T>, K> for TakeValue<F> {
-    ghost use Rattle.zs_gate.specs.Locks.{takes_value};
+    ghost use Rattle.zs_gate.specs.Locks.{TakesValue};
 
-    ghost then = { takes_value F.holds };
+    ghost then = { TakesValue F.holds };
 }
 
 struct PutValue;
 
 impl<T, K> Play<Option<T>, K> for PutValue {
-    ghost use Rattle.zs_gate.specs.Locks.{puts_value};
+    ghost use Rattle.zs_gate.specs.Locks.{PutsValue};
 
-    ghost then = { puts_value };
+    ghost then = { PutsValue };
 }
 
 /// A lock round a value of which a fact holds, by a key that is fixed as the lock is made. Contracts see which lock it

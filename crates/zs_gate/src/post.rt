@@ -5,7 +5,7 @@ ghost use Rattle.atomic_table.specs.Seated.{TableId, table_id_coded};
 ghost use Rattle.zs_gate.specs.declared.view.View.TheVariants.{Keeper, Door, Out, Inside, Knock};
 ghost use Rattle.zs_gate.specs.declared.view.Phase.TheVariants.{Open, Draining, Drained};
 ghost use Rattle.zs_gate.specs.Views.{number};
-ghost use Rattle.zs_gate.specs.Plays.{draining, looked, one_more, one_less};
+ghost use Rattle.zs_gate.specs.Plays.{keeper_after_mark, keeper_after_look, one_more, one_less};
 ghost use Rattle.zs_gate.specs.Places.{Place};
 
 use crate::view::{
@@ -132,7 +132,7 @@ impl Post {
     // The keeper sets the mark.
     pub fn mark(&mut self)
         requires { (has_door : Bool) × (self.old.knows ≡ Keeper has_door Open) }
-        ensures { self.new ≡ record { gate = self.old.gate; knows = draining self.old.knows } }
+        ensures { self.new ≡ record { gate = self.old.gate; knows = keeper_after_mark self.old.knows } }
     {
         self.board.shared.fetch_or::<Drain>(&mut self.seat, 0, 1);
     }
@@ -143,7 +143,7 @@ impl Post {
         ensures gate { self.new.gate ≡ self.old.gate }
         ensures count { result < 2 ^ 33 }
         ensures none { result ≡ 0 → self.new.knows ≡ Keeper false Drained }
-        ensures some { result ≢ 0 → self.new.knows ≡ looked self.old.knows result }
+        ensures some { result ≢ 0 → self.new.knows ≡ keeper_after_look self.old.knows result }
     {
         self.board.shared.load::<Look>(&mut self.seat, 0) / 2
     }
@@ -176,9 +176,9 @@ impl Post {
     }
 
     // An open keeper never meets a pass that found the mark.
-    pub fn clash_late(mut self, late: Post)
-        requires keeper { self.knows ≡ Keeper false Open }
-        requires late { late ≡ record { gate = self.gate; knows = Out true } }
+    pub fn clash_late(&mut self, late: Post)
+        requires keeper { self.old.knows ≡ Keeper false Open }
+        requires late { late ≡ record { gate = self.old.gate; knows = Out true } }
         ensures { ⊥ }
     {
         let Post { board: _, seat } = late;

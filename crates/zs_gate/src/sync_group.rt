@@ -3,16 +3,16 @@ ghost use Rattle.std.specs.Prelude.{◌≡◌, ◌≤◌, IfOk, IfSome};
 ghost use Rattle.std.specs.Arc.{arc_value};
 ghost use Rattle.atomic_table.specs.Seated.{TableId, table_id_coded};
 
+use crate::events::Events;
 use crate::gate::{Gate, NoPass};
 use crate::group::Group;
 use crate::keeper::Keeper;
 use crate::lock::{Fact, KeyedLock};
 use crate::pass::Inside;
-use crate::post::{LOW_HALF, Sight};
+use crate::post::Sight;
 use std::alloc::{AllocError, Global};
 use std::marker::Model;
 use std::snapshot::Snapshot;
-use std::sync::atomic::{AtomicU64, Ordering};
 use std::sync::{Arc, Wait};
 
 /// What became of a wait.
@@ -38,7 +38,7 @@ struct Shared {
     lock: KeyedLock<Group, Snapshot<Keeper>, OfGate>,
     sight: Sight,
     // It rises where a notifier was released or the group closed, and those who wait sleep on it.
-    events: AtomicU64,
+    events: Events,
     ghost one_gate: { sight ≡ lock.key.value },
 }
 
@@ -78,21 +78,6 @@ impl Model for Notifier {
 }
 
 impl Shared {
-    fn event(&self) -> u64 {
-        self.events.load(Ordering::SeqCst)
-    }
-
-    // Tells those who wait.
-    fn tell(&self) {
-        self.events.fetch_add(1, Ordering::SeqCst);
-        self.events.wake_all();
-    }
-
-    // Sleeps until an event after `seen`. It may also return for no reason.
-    fn sleep<R: Wait>(&self, rt: &R, seen: u64) {
-        self.events.park(rt, (seen & LOW_HALF) as u32);
-    }
-
     // One look under the lock.
     fn look<R: Wait>(&self, rt: &R) -> Option<Waited> {
         let (group, taken) = self.lock.take(rt);
@@ -122,7 +107,7 @@ impl SyncGroup {
         let shared = Shared {
             lock,
             sight,
-            events: AtomicU64::new(0),
+            events: Events::new(),
         };
         Ok(SyncGroup {
             shared: Arc::new(alloc, shared)?,
@@ -145,12 +130,12 @@ impl SyncGroup {
     {
         let shared = Arc::try_clone(&self.shared)?;
         for _ in rt.forever() {
-            let seen = shared.event();
+            let seen = shared.events.count();
             match shared.admit(rt) {
                 Ok(Some(inside)) => return Ok(Some(Notifier { shared, inside })),
                 Ok(None) => return Ok(None),
                 Err(NoPass::NoMemory) => return Err(AllocError),
-                Err(NoPass::Full) => shared.sleep(rt, seen),
+                Err(NoPass::Full) => shared.events.sleep(rt, seen),
             }
         }
         unreachable!()
@@ -160,17 +145,17 @@ impl SyncGroup {
     pub fn close<R: Wait>(&self, rt: &R) {
         let (group, taken) = self.shared.lock.take(rt);
         taken.put(group.close());
-        self.shared.tell();
+        self.shared.events.tell();
     }
 
     /// Waits until every notifier is released. From its begin on there are no new ones.
     pub fn wait<R: Wait>(&self, rt: &R) -> Waited {
         for _ in rt.forever() {
-            let seen = self.shared.event();
+            let seen = self.shared.events.count();
             if let Some(waited) = self.shared.look(rt) {
                 return waited;
             }
-            self.shared.sleep(rt, seen);
+            self.shared.events.sleep(rt, seen);
         }
         unreachable!()
     }
@@ -198,6 +183,6 @@ impl Notifier {
         let (mut group, taken) = shared.lock.take(rt);
         group.dismiss(inside);
         taken.put(group);
-        shared.tell();
+        shared.events.tell();
     }
 }

@@ -38,59 +38,59 @@ impl TableRule<(), View, ()> for Rule {
 pub struct Enter;
 
 impl Play<(), View> for Enter {
-    ghost use Rattle.zs_gate.specs.Plays.{enters};
+    ghost use Rattle.zs_gate.specs.Plays.{Enters};
 
-    ghost then = { enters };
+    ghost then = { Enters };
 }
 
 pub struct Retreat;
 
 impl Play<(), View> for Retreat {
-    ghost use Rattle.zs_gate.specs.Plays.{retreats};
+    ghost use Rattle.zs_gate.specs.Plays.{Retreats};
 
-    ghost then = { retreats };
+    ghost then = { Retreats };
 }
 
 pub struct Leave;
 
 impl Play<(), View> for Leave {
-    ghost use Rattle.zs_gate.specs.Plays.{leaves};
+    ghost use Rattle.zs_gate.specs.Plays.{Leaves};
 
-    ghost then = { leaves };
+    ghost then = { Leaves };
 }
 
 pub struct Drain;
 
 impl Play<(), View> for Drain {
-    ghost use Rattle.zs_gate.specs.Plays.{drains};
+    ghost use Rattle.zs_gate.specs.Plays.{Drains};
 
-    ghost then = { drains };
+    ghost then = { Drains };
 }
 
 pub struct Look;
 
 impl Play<(), View> for Look {
-    ghost use Rattle.zs_gate.specs.Plays.{looks};
+    ghost use Rattle.zs_gate.specs.Plays.{Looks};
 
-    ghost then = { looks };
+    ghost then = { Looks };
 }
 
 // The look of a keeper that has taken the door in.
 pub struct LookAlone;
 
 impl Play<(), View> for LookAlone {
-    ghost use Rattle.zs_gate.specs.Plays.{looks_alone};
+    ghost use Rattle.zs_gate.specs.Plays.{LooksAlone};
 
-    ghost then = { looks_alone };
+    ghost then = { LooksAlone };
 }
 
 // A look that shows a number to be within the rule's bound.
 pub struct Check;
 
 impl Play<(), View> for Check {
-    ghost use Rattle.zs_gate.specs.Plays.{checks};
+    ghost use Rattle.zs_gate.specs.Plays.{Checks};
 
-    ghost then = { checks };
+    ghost then = { Checks };
 }
 
 // The keeper gives the door out, once, as the gate opens.
