@@ -1,0 +1,43 @@
+//! What takes the items of a callback.
+ghost use Rattle.std.specs.Prelude.{◌≡◌, Bool, true, false};
+ghost use Rattle.zs_handlers.specs.Handled.{IsTaken};
+
+use std::sync::Wait;
+use zs_gate::{Drained, Inside};
+
+/// What became of an item that a handler was given, with what the handler tells of the call.
+#[derive(Debug, Drop)]
+pub enum Handled<T, D> {
+    /// The handler has the item.
+    Taken(D),
+    /// The handler gives this item up: the one that it was given, or an older one in its place.
+    Evicted(T, D),
+}
+
+/// What the senders of the channels tell of a call: that it was made. Only they make one.
+#[derive(Clone, Copy, Debug, PartialEq, Eq)]
+pub struct Took(());
+
+impl Took {
+    pub(crate) fn new() -> Took {
+        Took(())
+    }
+}
+
+/// Takes the items of a callback, and hears when the callback has ended.
+///
+/// Code over any handler can't make a `Done`, so each that it holds came from a call of a handler.
+pub trait Handler<T> {
+    /// What a call tells.
+    type Done: Drop;
+
+    // Whether items may be given up. A handler that says no takes each item.
+    ghost evicts: { Bool } = { true };
+
+    /// Takes an item. The caller is inside of the callback's gate, so the callback ends only after this call.
+    fn on<R: Wait>(&self, rt: &R, inside: &Inside, item: T) -> Handled<T, Self::Done>
+        ensures { evicts ≡ false → IsTaken result };
+
+    /// Hears that the callback has ended: no call of `on` is under way any more, and none will be.
+    fn ended<R: Wait>(&self, rt: &R, drained: &Drained) -> Self::Done;
+}
