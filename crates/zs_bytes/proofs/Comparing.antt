@@ -1,6 +1,6 @@
 -- Two readers that go on side by side.
 use Rattle.std.proofs.Common.{◌≡◌, ℕ, ◌+◌, ◌≤◌, ◌<◌, List, [], ◌++◌, length, take, drop, sym, ap, ◌∙◌, arith, length-drop, refl, Bool, true, false, not, IsTrue}
-use Rattle.std.proofs.lemmas.List.{take_all, length-take, take-take, drop-take}
+use Rattle.std.proofs.lemmas.List.{length-take, take-take, drop-take}
 use Rattle.std.specs.Str.{bytes_eq}
 use Rattle.std.proofs.lemmas.Slice.Eq.{bytes_eq-Decides}
 use Rattle.std.proofs.lemmas.Bool.{false≢true}
@@ -32,13 +32,6 @@ IsAlong-more left right l r l' r' piece is front left_after taken right_after = 
   left_after = moved-moved left l l' is.count (length piece) _ is.left_after left_after refl;
   right_after = moved-moved right r r' is.count (length piece) _ is.right_after right_after refl;
 }
-
--- nothing is left on one side, so all was the same
-pub all-along : (left right l r : Reading) → IsAlong left right l r → unread l ≡ [] → unread left ≡ unread right
-all-along left right l r is none =
-    let short : length (unread left) ≤ is.count = omega (arith, length-drop is.count (unread left), ap (λ (t : List ℕ). length t) (sym (unread-moved left l is.count is.left_after) ∙ none)) in
-    let length = is.length in
-    sym (take_all is.count (unread left) short) ∙ is.same ∙ take_all is.count (unread right) (omega arith)
 
 -- a piece of the one is not there in the other
 pub not-along : (left right l r : Reading) (piece : List ℕ) → IsAlong left right l r → piece ≡ take (length piece) (unread l) → ¬ (take (length piece) (unread r) ≡ piece) → ¬ (unread left ≡ unread right)

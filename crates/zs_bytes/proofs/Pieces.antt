@@ -16,11 +16,6 @@ IsAt-take slices rest0 rest piece0 piece left place n count is same cut within =
       within = let at = is.within in omega (arith, length-drop place (concat slices), ap (λ (t : List ℕ). length t) front, length-append piece (concat rest));
     }
 
--- what the next bytes of a reader are
-pub front-take : (bytes piece rest taken : List ℕ) (place n : ℕ) → drop place bytes ≡ piece ++ rest → taken ≡ take n piece → n ≤ length piece → taken ≡ take n (drop place bytes)
-front-take bytes piece rest taken place n front cut within =
-    cut ∙ sym (take-append-le n piece rest within) ∙ ap (λ (t : List ℕ). take n t) (sym front)
-
 -- after a write of m bytes behind the first a of a buffer, its first a + m are those of the source
 pub take-written : (buffer part source : List ℕ) (a m : ℕ) → a ≤ length buffer → m ≤ length part → take a buffer ≡ take a source → take m part ≡ take m (drop a source) → take (a + m) (put_mid a (length buffer - a) buffer part) ≡ take (a + m) source
 take-written buffer part source a m within fits before more =

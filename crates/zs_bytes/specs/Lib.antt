@@ -1,5 +1,6 @@
 pub mod Payload
 pub mod Reading
 pub mod Slices
+pub mod Text
 pub mod Written
 pub mod Loading

@@ -3,7 +3,7 @@
 ghost use Rattle.std.specs.Prelude.{◌≡◌, ◌≢◌, ℕ, ◌+◌, ◌<◌, ◌≤◌, Bool, true, List, [], length, Some, IfOk};
 ghost use Rattle.zs_bytes.specs.Loading.{ReadsOn};
 ghost use Rattle.zs_bytes.specs.Payload.{one_slice};
-ghost use Rattle.zs_keys.specs.Stream.{HasRisen};
+ghost use Rattle.zs_keys.specs.Stream.{HasRisen, count_after};
 
 use crate::payload::ZBytes;
 use std::alloc::{AllocError, Global};
@@ -38,8 +38,12 @@ fn read_once<S: Source>(source: &mut S, bytes: &mut Vec<u8>, turns: u64) -> Resu
     ensures read { IfOk result (λ more. (left : List ℕ) → S.left source.old ≡ Some left
         → (now : List ℕ) × (S.left source.new ≡ Some now) × ReadsOn bytes.old.items left bytes.new.items now more) }
     ensures turns { result ≡ Ok true → 0 < turns }
+    ensures reads { result ≡ Ok true → S.reads source.new ≡ count_after (S.reads source.old) 1 }
+    ensures pieces { result ≡ Ok true → S.pieces source.new ≡ count_after (S.pieces source.old) 1 }
+    ensures most { S.pieces source.new ≤ S.pieces source.old + turns }
     ensures read_fault { result ≡ Err ReadError.ReadFault → HasRisen (S.faults source.old) (S.faults source.new) }
-    ensures out_of_turns { result ≡ Err ReadError.OutOfTurns → (turns ≡ 0) × (S.left source.new ≡ S.left source.old) }
+    ensures out_of_turns { result ≡ Err ReadError.OutOfTurns → (turns ≡ 0) × (S.left source.new ≡ S.left source.old)
+        × (S.reads source.new ≡ S.reads source.old) × (S.pieces source.new ≡ S.pieces source.old) }
     ensures later { S.faults source.old ≤ S.faults source.new }
 {
     if turns == 0 {
@@ -54,6 +58,10 @@ fn read_once<S: Source>(source: &mut S, bytes: &mut Vec<u8>, turns: u64) -> Resu
 }
 
 /// All that a source gives up to its end, in at most `turns` reads that give bytes.
+///
+/// # Errors
+///
+/// `OutOfTurns` where `turns` reads were made, and each gave bytes, so that none saw the end.
 pub fn from_reader<S: Source>(
     alloc: Global,
     source: &mut S,
@@ -62,8 +70,11 @@ pub fn from_reader<S: Source>(
     ensures whole { IfOk result (λ made. (left : List ℕ) → S.left source.old ≡ Some left
         → (made ≡ one_slice left) × (S.left source.new ≡ Some [])) }
     ensures read_fault { result ≡ Err ReadError.ReadFault → HasRisen (S.faults source.old) (S.faults source.new) }
-    ensures out_of_turns { result ≡ Err ReadError.OutOfTurns → (left : List ℕ) → S.left source.old ≡ Some left
+    ensures out_of_turns { result ≡ Err ReadError.OutOfTurns → (S.reads source.new ≡ count_after (S.reads source.old) turns)
+        × (S.pieces source.new ≡ count_after (S.pieces source.old) turns) }
+    ensures taken { result ≡ Err ReadError.OutOfTurns → (left : List ℕ) → S.left source.old ≡ Some left
         → (now : List ℕ) × (S.left source.new ≡ Some now) × (length now + turns ≤ length left) }
+    ensures most { S.pieces source.new ≤ S.pieces source.old + turns }
     ensures later { S.faults source.old ≤ S.faults source.new }
 {
     let mut bytes = Vec::new(alloc);

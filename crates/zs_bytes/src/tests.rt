@@ -102,8 +102,12 @@ fn made_of_each(rt: HostRuntime) -> Result<(), Fail> {
     let wrong = ZBytes::from_array(alloc, b"\xff")?;
     assert_eq!(rt; wrong.try_to_string(alloc).err(), Some(TextError::Utf8));
     assert!(rt; wrong != made[0]);
-    let text = Text::of(alloc, "äb")?.try_clone(alloc)?;
-    assert_eq!(rt; text.as_str(), "äb");
+    for text in [Text::of(alloc, "äb")?, Text::fixed("äb")] {
+        assert_eq!(rt; text.as_str(), "äb");
+        assert_eq!(rt; text.try_clone(alloc)?.as_str(), "äb");
+        assert!(rt; !text.is_empty());
+    }
+    assert!(rt; Text::fixed("").is_empty());
     Ok(())
 }
 

@@ -1,23 +1,53 @@
-ghost use Rattle.std.specs.Prelude.{◌≡◌, IfOk, encode_utf8_all};
+ghost use Rattle.std.specs.Prelude.{◌≡◌, ◌↔◌, [], IsTrue, IfOk, encode_utf8_all};
 ghost use Rattle.std.specs.Str.{chars};
+ghost use Rattle.zs_bytes.specs.Text.{held_bytes};
 
 use std::alloc::{AllocError, Global};
+use std::fmt;
 use std::marker::Model;
+use std::sync::ArcStr;
 
-/// A text of its own memory. Contracts see it as the list of its characters.
-#[derive(Debug, Drop)]
+/// Where a text lies.
+#[derive(Drop)]
+enum Held {
+    Fixed(&'static str),
+    Shared(ArcStr),
+}
+
+impl Held {
+    fn as_str(&self) -> &str
+        ensures { result.now ≡ held_bytes self.now }
+    {
+        match self {
+            Held::Fixed(text) => text,
+            Held::Shared(text) => text.as_str(),
+        }
+    }
+
+    fn try_clone(&self) -> Result<Held, AllocError>
+        ensures { IfOk result (λ copy. held_bytes copy ≡ held_bytes self.now) }
+    {
+        Ok(match self {
+            Held::Fixed(text) => Held::Fixed(text),
+            Held::Shared(text) => Held::Shared(text.clone()?),
+        })
+    }
+}
+
+/// A text that is never changed. Its copies share its memory. Contracts see it as the list of its characters.
+#[derive(Drop)]
 pub struct Text {
-    text: String,
+    held: Held,
 }
 
 impl Model for Text {
     ghost use Rattle.std.specs.Prelude.{ℕ, List};
     ghost use Rattle.std.specs.Str.{chars};
-    ghost use Rattle.std.specs.String.{string_bytes};
+    ghost use Rattle.zs_bytes.specs.Text.{held_bytes};
 
     ghost Value = { List ℕ };
 
-    ghost view = { λ t. chars (string_bytes t.text) };
+    ghost view = { λ t. chars (held_bytes t.held) };
 }
 
 impl Text {
@@ -26,8 +56,17 @@ impl Text {
         ensures { IfOk result (λ made. made ≡ chars text.now) }
     {
         Ok(Text {
-            text: String::from_str(alloc, text)?,
+            held: Held::Shared(ArcStr::from_str(alloc, text)?),
         })
+    }
+
+    /// A text of the program's own, which takes no memory, nor do its copies.
+    pub fn fixed(text: &'static str) -> Text
+        ensures { result ≡ chars text.now }
+    {
+        Text {
+            held: Held::Fixed(text),
+        }
     }
 
     /// The text, as its characters and as their UTF-8 bytes.
@@ -35,13 +74,28 @@ impl Text {
         ensures characters { chars result.now ≡ self.now }
         ensures bytes { result.now ≡ encode_utf8_all self.now }
     {
-        self.text.as_str()
+        self.held.as_str()
     }
 
-    /// The same text in memory of its own.
-    pub fn try_clone(&self, alloc: Global) -> Result<Text, AllocError>
+    /// Whether it has no character.
+    pub fn is_empty(&self) -> bool
+        ensures { IsTrue result ↔ (self.now ≡ []) }
+    {
+        self.as_str().is_empty()
+    }
+
+    /// The same text, in the same memory.
+    pub fn try_clone(&self, _alloc: Global) -> Result<Text, AllocError>
         ensures { IfOk result (λ copy. copy ≡ self.now) }
     {
-        Text::of(alloc, self.as_str())
+        Ok(Text {
+            held: self.held.try_clone()?,
+        })
+    }
+}
+
+impl fmt::Debug for Text {
+    fn fmt<W: fmt::Write>(&self, f: &mut fmt::Formatter<W>) -> fmt::Result {
+        fmt::Debug::fmt(&self.as_str(), f)
     }
 }
