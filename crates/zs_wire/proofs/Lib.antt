@@ -1,0 +1,6 @@
+pub mod Cutting
+pub mod Trimming
+pub mod Joining
+pub mod Found
+pub mod Pairs
+pub mod Reading

@@ -1,0 +1,3 @@
+pub mod SampleKind
+pub mod Parameters
+pub mod Laws

@@ -1,0 +1,53 @@
+ghost use Rattle.std.specs.Prelude.{◌≡◌, IfOk};
+
+use crate::body::{Body, Value};
+use crate::origin::EntityGlobalId;
+use crate::quality::QoSType;
+use crate::wire_expr::WireExpr;
+use std::alloc::{AllocError, Global};
+
+/// What a response says: a value of its key, or why there is none.
+#[derive(Debug, Drop)]
+pub enum Answered {
+    Reply(Body),
+    Err(Value),
+}
+
+impl Answered {
+    /// The same answer. It shares the memory of the payload and the attachment.
+    pub fn try_clone(&self, alloc: Global) -> Result<Answered, AllocError>
+        ensures { IfOk result (λ copy. copy ≡ self.now) }
+    {
+        match self {
+            Answered::Reply(body) => Ok(Answered::Reply(body.try_clone(alloc)?)),
+            Answered::Err(value) => Ok(Answered::Err(value.try_clone(alloc)?)),
+        }
+    }
+}
+
+/// One reply to a query.
+#[derive(Debug, Drop)]
+pub struct Response {
+    /// The query's number.
+    pub rid: u32,
+    pub wire: WireExpr,
+    pub answered: Answered,
+    pub qos: QoSType,
+    /// The queryable that replies, where it is known.
+    pub responder: Option<EntityGlobalId>,
+}
+
+impl Response {
+    /// The same response. It shares the memory of the payload and the attachment.
+    pub fn try_clone(&self, alloc: Global) -> Result<Response, AllocError>
+        ensures { IfOk result (λ copy. copy ≡ self.now) }
+    {
+        Ok(Response {
+            rid: self.rid,
+            wire: self.wire.try_clone(alloc)?,
+            answered: self.answered.try_clone(alloc)?,
+            qos: self.qos,
+            responder: self.responder,
+        })
+    }
+}
