@@ -1,6 +1,7 @@
-use Rattle.std.specs.Prelude.{ℕ, ◌==◌, if◌then◌else◌}
+use Rattle.std.specs.Prelude.{ℕ, ◌≡◌, ◌≤◌, ◌==◌, if◌then◌else◌, Result, MatchResult}
 use Rattle.zs_sample.specs.declared.quality.Priority.{Priority}
 use Rattle.zs_sample.specs.declared.quality.Priority.TheVariants.{RealTime, InteractiveHigh, InteractiveLow, DataHigh, Data, DataLow, Background}
+use Rattle.zs_sample.specs.declared.quality.BadPriority.{BadPriority}
 
 -- the number that stands for a priority in messages
 abbrev pub number_of : Priority → ℕ
@@ -21,3 +22,7 @@ priority_of n =
     if n == 4 then DataHigh else
     if n == 6 then DataLow else
     if n == 7 then Background else Data
+
+-- the priority with this number, or the error exactly outside 1 to 7
+abbrev pub IsPriorityOf : ℕ → Result Priority BadPriority → Type 0
+IsPriorityOf n answer = MatchResult answer (λ priority. number_of priority ≡ n) (λ _. ¬ ((1 ≤ n) × (n ≤ 7)))

@@ -17,3 +17,6 @@ impl Default for Locality {
         Locality::Any
     }
 }
+
+/// How a configuration names whom a publisher may reach.
+pub type PublisherLocalityConf = Locality;

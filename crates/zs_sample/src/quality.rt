@@ -1,18 +1,21 @@
 ghost use Rattle.std.specs.Prelude.{◌≡◌, if◌then◌else◌};
 ghost use Rattle.zs_sample.specs.Quality.{number_of, priority_of};
 
-/// What a router does with a message that finds its queue full: it drops it, or the sender waits.
-#[derive(Clone, Copy, Debug, PartialEq, Eq, Hash)]
-pub enum CongestionControl {
-    Drop,
-    Block,
-}
-
 /// Whether a message may be lost on the way.
 #[derive(Clone, Copy, Debug, PartialEq, Eq, Hash)]
 pub enum Reliability {
     BestEffort,
     Reliable,
+}
+
+impl Default for Reliability {
+    ghost use Rattle.zs_sample.specs.declared.quality.Reliability.{Reliability};
+
+    ghost is_default = { λ r. r ≡ Reliability.Reliable };
+
+    fn default() -> Reliability {
+        Reliability::Reliable
+    }
 }
 
 impl Reliability {
@@ -31,29 +34,40 @@ impl Reliability {
 /// How urgent a message is, from 1, the most urgent, to 7. `Data` is what a message has by itself.
 #[derive(Clone, Copy, Debug, PartialEq, Eq, Hash)]
 pub enum Priority {
-    RealTime,
-    InteractiveHigh,
-    InteractiveLow,
-    DataHigh,
-    Data,
-    DataLow,
-    Background,
+    RealTime = 1,
+    InteractiveHigh = 2,
+    InteractiveLow = 3,
+    DataHigh = 4,
+    Data = 5,
+    DataLow = 6,
+    Background = 7,
 }
 
+/// How a configuration names a priority.
+pub type PriorityConf = Priority;
+
+/// A number that stands for no priority of a user's message: none of 1 to 7.
+#[derive(Clone, Copy, Debug, PartialEq, Eq)]
+pub struct BadPriority;
+
 impl Priority {
+    /// What a message has by itself.
+    pub const DEFAULT: Priority = Priority::Data;
+
+    /// The most urgent one.
+    pub const MAX: Priority = Priority::RealTime;
+
+    /// The least urgent one.
+    pub const MIN: Priority = Priority::Background;
+
+    /// How many there are.
+    pub const NUM: usize = 7;
+
     /// The number that stands for it in messages, from 1 to 7.
     pub fn number(self) -> u8
         ensures { result ≡ number_of self }
     {
-        match self {
-            Priority::RealTime => 1,
-            Priority::InteractiveHigh => 2,
-            Priority::InteractiveLow => 3,
-            Priority::DataHigh => 4,
-            Priority::Data => 5,
-            Priority::DataLow => 6,
-            Priority::Background => 7,
-        }
+        self as u8
     }
 
     /// The priority of a message that says this number. A number outside 1 to 7, as the protocol's
@@ -61,24 +75,40 @@ impl Priority {
     pub fn handed_out(number: u8) -> Priority
         ensures { result ≡ priority_of number }
     {
-        match number {
-            1 => Priority::RealTime,
-            2 => Priority::InteractiveHigh,
-            3 => Priority::InteractiveLow,
-            4 => Priority::DataHigh,
-            6 => Priority::DataLow,
-            7 => Priority::Background,
-            _ => Priority::Data,
+        match Priority::try_from(number) {
+            Ok(priority) => priority,
+            Err(BadPriority) => Priority::DEFAULT,
         }
     }
 }
 
-/// The quality of service of a message, as it stands in the message.
-#[derive(Clone, Copy, Debug, PartialEq, Eq, Hash)]
-pub struct QoSType {
-    /// From 0, the protocol's own `Control`, to 7.
-    pub priority: u8,
-    pub congestion: CongestionControl,
-    /// Whether it goes out at once, and isn't batched with others.
-    pub express: bool,
+impl Default for Priority {
+    ghost use Rattle.zs_sample.specs.declared.quality.Priority.{Priority};
+
+    ghost is_default = { λ p. p ≡ Priority.Data };
+
+    fn default() -> Priority {
+        Priority::DEFAULT
+    }
+}
+
+impl TryFrom<u8> for Priority {
+    type Error = BadPriority;
+
+    ghost use Rattle.zs_sample.specs.Quality.{IsPriorityOf};
+
+    ghost try_from_gives = { IsPriorityOf };
+
+    fn try_from(number: u8) -> Result<Priority, BadPriority> {
+        match number {
+            1 => Ok(Priority::RealTime),
+            2 => Ok(Priority::InteractiveHigh),
+            3 => Ok(Priority::InteractiveLow),
+            4 => Ok(Priority::DataHigh),
+            5 => Ok(Priority::Data),
+            6 => Ok(Priority::DataLow),
+            7 => Ok(Priority::Background),
+            _ => Err(BadPriority),
+        }
+    }
 }

@@ -1,61 +1,23 @@
 ghost use Rattle.std.specs.Prelude.{◌≡◌, IfOk};
+ghost use Rattle.std.specs.Option.{option_copied, option_copied_mut};
 
 use crate::encoding::Encoding;
-use crate::quality::{CongestionControl, Priority, Reliability};
+use crate::quality::{Priority, Reliability};
+use crate::sample_fields::SampleFields;
 use std::alloc::{AllocError, Global};
 use std::marker::Model;
 use zs_bytes::ZBytes;
 use zs_keys::KeyExpr;
-
-/// Whether a sample brings a value for its key, or says that the key has none any more.
-#[derive(Clone, Copy, Debug, PartialEq, Eq, Hash)]
-pub enum SampleKind {
-    Put,
-    Delete,
-}
-
-/// The fields of a sample.
-#[derive(Drop)]
-pub struct SampleFields {
-    pub key_expr: KeyExpr<'static>,
-    pub payload: ZBytes,
-    pub kind: SampleKind,
-    pub encoding: Encoding,
-    pub express: bool,
-    pub priority: Priority,
-    pub congestion_control: CongestionControl,
-    pub reliability: Reliability,
-}
-
-impl SampleFields {
-    /// The same fields in memory of their own.
-    pub fn try_clone(&self, alloc: Global) -> Result<SampleFields, AllocError>
-        ensures { IfOk result (λ copy. copy ≡ self.now) }
-    {
-        let Ok(key_expr) = self.key_expr.borrowing_clone().into_owned(alloc) else {
-            return Err(AllocError);
-        };
-        Ok(SampleFields {
-            key_expr,
-            payload: self.payload.try_clone(alloc)?,
-            kind: self.kind,
-            encoding: self.encoding.try_clone(alloc)?,
-            express: self.express,
-            priority: self.priority,
-            congestion_control: self.congestion_control,
-            reliability: self.reliability,
-        })
-    }
-}
+use zs_wire::{CongestionControl, SampleKind, SourceInfo, Timestamp};
 
 /// What a subscriber is handed: a publication on a key. Contracts see its fields.
-#[derive(Drop)]
+#[derive(Debug, Drop)]
 pub struct Sample {
     fields: SampleFields,
 }
 
 impl Model for Sample {
-    ghost use Rattle.zs_sample.specs.declared.sample.SampleFields.{SampleFields};
+    ghost use Rattle.zs_sample.specs.declared.sample_fields.SampleFields.{SampleFields};
 
     ghost Value = { SampleFields };
 
@@ -63,6 +25,9 @@ impl Model for Sample {
 }
 
 impl Sample {
+    ghost use Rattle.std.specs.Borrow.{sem};
+    ghost use Rattle.zs_sample.specs.Sample.{LendsPayload, LendsAttachment};
+
     /// A sample of these fields.
     pub fn from_fields(fields: SampleFields) -> Sample
         ensures { result ≡ fields }
@@ -140,5 +105,42 @@ impl Sample {
         ensures { result ≡ self.now.reliability }
     {
         self.fields.reliability
+    }
+
+    /// When it was made, where that is known.
+    pub fn timestamp(&self) -> Option<&Timestamp>
+        ensures { option_copied result ≡ self.now.timestamp }
+    {
+        self.fields.timestamp.as_ref()
+    }
+
+    /// Who made it, and as his how manieth, where that is known.
+    pub fn source_info(&self) -> Option<&SourceInfo>
+        ensures { option_copied result ≡ self.now.source_info }
+    {
+        self.fields.source_info.as_ref()
+    }
+
+    /// What was sent along beside the payload.
+    pub fn attachment(&self) -> Option<&ZBytes>
+        ensures { option_copied result ≡ self.now.attachment }
+    {
+        self.fields.attachment.as_ref()
+    }
+
+    /// Its bytes, to be changed.
+    pub fn payload_mut(&mut self) -> &mut ZBytes
+        ensures value { result.now ≡ self.old.payload }
+        ensures* writes_back { sem 𝓛 (LendsPayload self.entry result) }
+    {
+        &mut self.fields.payload
+    }
+
+    /// What was sent along beside the payload, to be changed.
+    pub fn attachment_mut(&mut self) -> Option<&mut ZBytes>
+        ensures value { option_copied_mut result ≡ self.old.attachment }
+        ensures* writes_back { sem 𝓛 (LendsAttachment self.entry result) }
+    {
+        self.fields.attachment.as_mut()
     }
 }
