@@ -1,0 +1,13 @@
+pub mod Bools
+pub mod Cut
+pub mod Codes
+pub mod Beside
+pub mod Plain
+pub mod Missed
+pub mod Turns
+pub mod RunLemmas
+pub mod HitLemmas
+pub mod Numbers
+pub mod Sorted
+pub mod EditLemmas
+pub mod MatchLemmas

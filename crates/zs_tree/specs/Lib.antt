@@ -1,0 +1,6 @@
+pub mod Code
+pub mod Rows
+pub mod Chunks
+pub mod Entries
+pub mod Runs
+pub mod Walk

@@ -1,0 +1,18 @@
+//! A tree of key expressions, each with a number, that finds those which have a key in common with a given one without
+//! testing all.
+#![tactic(auto)]
+
+mod chunks;
+mod code;
+mod edits;
+mod entry;
+mod least;
+mod matching;
+mod runs;
+mod search;
+#[cfg(test)]
+mod tests;
+mod tree;
+mod walk;
+
+pub use tree::KeyTree;
