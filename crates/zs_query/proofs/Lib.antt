@@ -1,0 +1,9 @@
+pub mod Ascending
+pub mod Searching
+pub mod Requesting
+pub mod Getting
+pub mod ByKey
+pub mod Order
+pub mod Keeping
+pub mod Standing
+pub mod Arrival

@@ -1,0 +1,9 @@
+pub mod Ascending
+pub mod Unfinished
+pub mod Marks
+pub mod Kept
+pub mod Gets
+pub mod ByKey
+pub mod Laws
+pub mod QueryData
+pub mod QueryLoans

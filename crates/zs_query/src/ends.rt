@@ -1,0 +1,57 @@
+ghost use Rattle.std.specs.Prelude.{◌≡◌, ◌==◌, length, slice_get};
+ghost use Rattle.std.specs.Option.{option_copied};
+
+use crate::replies::Replies;
+use std::marker::Model;
+
+/// The ends of gets: the number of each, and the replies that it hands out at last.
+#[derive(Debug, Drop)]
+pub struct Ends {
+    items: Vec<(u32, Replies)>,
+}
+
+impl Model for Ends {
+    ghost use Rattle.std.specs.Prelude.{ℕ, List};
+    ghost use Rattle.zs_sample.specs.Reply.{Replied};
+
+    ghost Value = { List (ℕ × List Replied) };
+
+    ghost view = { λ e. e.items.items };
+}
+
+impl Ends {
+    /// These ends.
+    pub(crate) fn of(items: Vec<(u32, Replies)>) -> Ends
+        ensures { result ≡ items.items }
+    {
+        Ends { items }
+    }
+
+    /// How many there are.
+    pub fn len(&self) -> usize
+        ensures { result ≡ length self.now }
+    {
+        self.items.len()
+    }
+
+    /// Whether there is none.
+    pub fn is_empty(&self) -> bool
+        ensures { result ≡ (length self.now == 0) }
+    {
+        self.items.is_empty()
+    }
+
+    /// The end at that place, if there is one.
+    pub fn get(&self, index: usize) -> Option<&(u32, Replies)>
+        ensures { option_copied result ≡ slice_get self.now index }
+    {
+        self.items.get(index)
+    }
+
+    /// The ends as a list.
+    pub fn into_vec(self) -> Vec<(u32, Replies)>
+        ensures { result.items ≡ self }
+    {
+        self.items
+    }
+}

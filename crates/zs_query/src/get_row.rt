@@ -1,0 +1,70 @@
+ghost use Rattle.std.specs.Prelude.{◌≡◌};
+ghost use Rattle.zs_query.specs.Gets.{wants, less, takes_key, names};
+
+use crate::side::Side;
+use zs_keys::KeyExpr;
+use zs_wire::ConsolidationMode;
+
+/// What a get asked, and for whose finals it waits.
+#[derive(Debug, Drop)]
+pub struct GetRow {
+    pub number: u32,
+    pub key: KeyExpr<'static>,
+    /// Whether it takes replies on any key, and not only on those that its own has a key in common with.
+    pub any_key: bool,
+    /// Which of the replies on one key are handed out.
+    pub mode: ConsolidationMode,
+    /// Whether it waits for the final of this session's queryables.
+    pub local_wanted: bool,
+    /// Whether it waits for the network's final.
+    pub network_wanted: bool,
+    /// The moment, in milliseconds, at which it ends whatever is missing.
+    pub deadline: u64,
+    /// The querier that asked, if one did.
+    pub querier: Option<u32>,
+    /// The cancellation token that ends it, if it has one.
+    pub token: Option<u32>,
+}
+
+impl GetRow {
+    /// Whether it waits for the final of that side.
+    pub(crate) fn wants(&self, side: Side) -> bool
+        ensures { result ≡ wants side self.now }
+    {
+        match side {
+            Side::Local => self.local_wanted,
+            Side::Network => self.network_wanted,
+        }
+    }
+
+    /// Waits for the final of that side no longer.
+    pub(crate) fn take_final(&mut self, side: Side)
+        ensures { self.new ≡ less side self.old }
+    {
+        match side {
+            Side::Local => self.local_wanted = false,
+            Side::Network => self.network_wanted = false,
+        }
+    }
+
+    /// Whether it takes replies on that key.
+    pub(crate) fn takes_key(&self, key: &KeyExpr<'static>) -> bool
+        ensures { result ≡ takes_key self.now key.now.text }
+    {
+        self.any_key || self.key.meets(key)
+    }
+
+    /// Whether that querier asked.
+    pub(crate) fn is_of_querier(&self, id: u32) -> bool
+        ensures { result ≡ names id self.now.querier }
+    {
+        self.querier == Some(id)
+    }
+
+    /// Whether that token ends it.
+    pub(crate) fn has_token(&self, token: u32) -> bool
+        ensures { result ≡ names token self.now.token }
+    {
+        self.token == Some(token)
+    }
+}

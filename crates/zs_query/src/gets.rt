@@ -1,0 +1,231 @@
+ghost use Rattle.std.specs.Prelude.{◌≡◌, ◌≢◌, [], ◌∷◌, ◌||◌, true, false, not, filter, length, slice_get, IsOk, IfOk, OnOk, OnErr};
+ghost use Rattle.std.specs.Option.{is_some, option_copied};
+ghost use Rattle.zs_wire.specs.declared.request.ConsolidationMode.{ConsolidationMode};
+ghost use Rattle.zs_query.specs.Ascending.{Ascend, placed};
+ghost use Rattle.zs_query.specs.Gets.{get_at, without_get, with_get, fresh, peek_at, named, replied, error_outcome, final_outcome, after_final, is_due, ends_at, is_behind, first_row, kept_at, names};
+
+use crate::ends::Ends;
+use crate::get_row::GetRow;
+use crate::open_get::OpenGet;
+use crate::outcome::{Outcome, Peek};
+use crate::places::{find_get, get_place, gets_behind, insert_get, least_deadline};
+use crate::side::Side;
+use crate::timeout::{ends_of, is_due};
+use std::alloc::{AllocError, Global};
+use std::marker::Model;
+use zs_sample::Reply;
+
+/// The open gets, each with what it keeps of its replies. A get is found by its number by binary search, and a reply's
+/// key by its hash; a tick before the first deadline looks at no get. No call that answers want of memory has changed
+/// anything.
+#[derive(Drop)]
+pub struct Gets {
+    alloc: Global,
+    gets: Vec<OpenGet>,
+    /// No deadline is before it.
+    least: u64,
+}
+
+impl Model for Gets {
+    ghost use Rattle.std.specs.Prelude.{List};
+    ghost use Rattle.zs_query.specs.declared.open_get.OpenGet.{OpenGet};
+    ghost use Rattle.zs_query.specs.Gets.{AreInOrder};
+
+    ghost Value = { List OpenGet };
+
+    ghost view = { λ s. s.gets.items };
+
+    ghost invariant = { λ s. AreInOrder s.least s.gets.items };
+}
+
+impl Gets {
+    /// No open get. It takes its memory from `alloc`.
+    pub fn new(alloc: Global) -> Gets
+        ensures { result ≡ [] }
+    {
+        Gets {
+            alloc,
+            gets: Vec::new(alloc),
+            least: u64::MAX,
+        }
+    }
+
+    /// Whether a get of that number is open.
+    pub fn is_open(&self, number: u32) -> bool
+        ensures { result ≡ is_some (get_at number self.now) }
+    {
+        get_place(&self.gets, number).is_ok()
+    }
+
+    /// Opens a get.
+    ///
+    /// # Errors
+    ///
+    /// Want of memory alone.
+    pub fn open(&mut self, row: GetRow) -> Result<(), AllocError>
+        requires unused { is_some (get_at row.number self.old) ≡ false }
+        requires mode { row.mode ≢ ConsolidationMode.Auto }
+        requires waits { (row.local_wanted || row.network_wanted) ≡ true }
+        ensures ok { OnOk result (self.new ≡ placed (λ g. g.row.number) row.number (fresh row ∷ []) self.old) }
+        ensures err { OnErr result (self.new ≡ self.old) }
+    {
+        self.gets.reserve(1)?;
+        self.least = self.least.min(row.deadline);
+        insert_get(&mut self.gets, OpenGet::new(self.alloc, row));
+        Ok(())
+    }
+
+    /// What a reply that holds a sample would come to.
+    pub fn peek(&self, number: u32, reply: &Reply) -> Peek
+        requires { IsOk reply.now.result }
+        ensures { result ≡ peek_at (get_at number self.now) reply.now }
+    {
+        match find_get(&self.gets, number) {
+            Some(get) => get.peek(reply),
+            None => Peek::Unknown,
+        }
+    }
+
+    /// Takes a reply that holds a sample.
+    ///
+    /// # Errors
+    ///
+    /// Want of memory alone.
+    pub fn reply(&mut self, number: u32, reply: Reply) -> Result<Outcome, AllocError>
+        requires { IsOk reply.result }
+        ensures answer { IfOk result (λ outcome. outcome ≡ named (peek_at (get_at number self.old) reply) reply) }
+        ensures ok { OnOk result (self.new ≡ with_get number (replied reply) self.old) }
+        ensures err { OnErr result (self.new ≡ self.old) }
+    {
+        let Ok(at) = get_place(&self.gets, number) else {
+            return Ok(Outcome::Unknown);
+        };
+        self.gets[at].take(self.alloc, reply)
+    }
+
+    /// Takes a reply that holds an error.
+    ///
+    /// # Errors
+    ///
+    /// Want of memory alone.
+    pub fn error(&mut self, number: u32, error: Reply) -> Result<Outcome, AllocError>
+        ensures answer { IfOk result (λ outcome. outcome ≡ error_outcome (get_at number self.old) error) }
+        ensures same { self.new ≡ self.old }
+    {
+        if find_get(&self.gets, number).is_none() {
+            return Ok(Outcome::Unknown);
+        }
+        Ok(Outcome::Handed(error))
+    }
+
+    /// Takes the final of a side.
+    ///
+    /// # Errors
+    ///
+    /// Want of memory alone.
+    pub fn final_in(&mut self, number: u32, side: Side) -> Result<Outcome, AllocError>
+        ensures answer { IfOk result (λ outcome. outcome ≡ final_outcome side (get_at number self.old)) }
+        ensures ok { IfOk result (λ outcome. self.new ≡ after_final outcome side number self.old) }
+        ensures err { OnErr result (self.new ≡ self.old) }
+    {
+        let Ok(at) = get_place(&self.gets, number) else {
+            return Ok(Outcome::Unknown);
+        };
+        let get = &self.gets[at];
+        if !get.row.wants(side) {
+            return Ok(Outcome::Repeated);
+        }
+        if get.row.wants(side.other()) {
+            self.gets[at].row.take_final(side);
+            return Ok(Outcome::Counted);
+        }
+        let room = Vec::with_capacity(self.alloc, get.kept.len())?;
+        let ended = self.gets.remove(at).into_kept();
+        Ok(Outcome::Ended(ended.into_replies(room)))
+    }
+
+    /// Ends each get whose deadline is at that moment or before it. Each hands out what it kept, and then the error
+    /// `Timeout`.
+    ///
+    /// # Errors
+    ///
+    /// Want of memory alone.
+    pub fn tick(&mut self, now: u64) -> Result<Ends, AllocError>
+        ensures answer { IfOk result (λ ends. ends ≡ ends_at now self.old) }
+        ensures ok { OnOk result (self.new ≡ filter (λ g. not (is_due now g)) self.old) }
+        ensures err { OnErr result (self.new ≡ self.old) }
+    {
+        if now < self.least {
+            return Ok(Ends::of(Vec::new(self.alloc)));
+        }
+        let ends = ends_of(self.alloc, &self.gets, now)?;
+        self.gets.retain(|get| !is_due(get, now));
+        self.least = least_deadline(&self.gets);
+        Ok(ends)
+    }
+
+    /// The row of the open get with the least number above that one, or with the least of all.
+    pub fn next_open(&self, after: Option<u32>) -> Option<&GetRow>
+        ensures next { option_copied result ≡ first_row (filter (λ g. is_behind after g.row.number) self.now) }
+        ensures ascending { Ascend (λ g. g.row.number) self.now }
+    {
+        match gets_behind(&self.gets, after) {
+            [get, ..] => Some(&get.row),
+            [] => None,
+        }
+    }
+
+    /// How many replies the end of a get by its finals would hand out, 0 where it isn't open.
+    pub fn kept(&self, number: u32) -> usize
+        ensures { result ≡ length (kept_at (get_at number self.now)) }
+    {
+        match find_get(&self.gets, number) {
+            Some(get) => get.kept.len(),
+            None => 0,
+        }
+    }
+
+    /// The reply at that place of those that the end of a get by its finals would hand out.
+    pub fn kept_reply(&self, number: u32, index: usize) -> Option<&Reply>
+        ensures { option_copied result ≡ slice_get (kept_at (get_at number self.now)) index }
+    {
+        let Some(get) = find_get(&self.gets, number) else {
+            return None;
+        };
+        get.kept.get(index)
+    }
+
+    /// Ends a get, and says whether it was open.
+    pub fn cancel(&mut self, number: u32) -> bool
+        ensures answer { result ≡ is_some (get_at number self.old) }
+        ensures gets { self.new ≡ without_get number self.old }
+    {
+        let Ok(at) = get_place(&self.gets, number) else {
+            return false;
+        };
+        let _ = self.gets.remove(at);
+        true
+    }
+
+    /// Ends each get that the querier asked.
+    pub fn end_querier(&mut self, id: u32)
+        ensures { self.new ≡ filter (λ g. not (names id g.row.querier)) self.old }
+    {
+        self.gets.retain(|get| !get.row.is_of_querier(id));
+    }
+
+    /// Ends each get that has the cancellation token.
+    pub fn end_token(&mut self, token: u32)
+        ensures { self.new ≡ filter (λ g. not (names token g.row.token)) self.old }
+    {
+        self.gets.retain(|get| !get.row.has_token(token));
+    }
+
+    /// Ends all gets.
+    pub fn close(&mut self)
+        ensures { self.new ≡ [] }
+    {
+        self.gets.clear();
+        self.least = u64::MAX;
+    }
+}

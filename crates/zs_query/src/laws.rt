@@ -1,0 +1,30 @@
+//! Laws over the definitions: each is the contract of a function that does nothing.
+
+ghost use Rattle.zs_query.specs.Laws.{KeptIsLastPassing, KeptIsFreeOfOrder, GetsStandForReplies, OpensLast, HandsLast};
+
+/// Of the replies to a get, the last that passes is kept for each key, in the order of the keys' first replies.
+pub fn kept_is_last_passing()
+    ensures { KeptIsLastPassing }
+{}
+
+/// Where the replies on each key have timestamps of their own, the order in which they come makes no difference to
+/// which are kept.
+pub fn kept_is_free_of_order()
+    ensures { KeptIsFreeOfOrder }
+{}
+
+/// What an open get keeps is what the replies that it has had make it keep, and by it each further reply comes to what
+/// all those before it say.
+pub fn gets_stand_for_replies()
+    ensures { GetsStandForReplies }
+{}
+
+/// A get that is opened with a number above all others stands last.
+pub fn opens_last()
+    ensures { OpensLast }
+{}
+
+/// Query values that are handed out with numbers above all others stand last.
+pub fn hands_last()
+    ensures { HandsLast }
+{}
