@@ -3,4 +3,6 @@ pub mod Searching
 pub mod Keeping
 pub mod Walking
 pub mod Changing
+pub mod Keyed
+pub mod GroupLemmas
 pub mod Tabled

@@ -30,7 +30,7 @@ not_above local id [] up = refl
 not_above local id (row ∷ rows) up = grind (arith, nat_tests, up.0, not_above local id rows up.1)
 
 -- by its id a row is found
-takes_of_row : (local : Bool) (rows : List SubRow) → Ascend (λ row. row.id) rows → AllByRecursion (λ row. takes_by_id local rows row.id ≡ takes local row.origin) rows
+pub takes_of_row : (local : Bool) (rows : List SubRow) → Ascend (λ row. row.id) rows → AllByRecursion (λ row. takes_by_id local rows row.id ≡ takes local row.origin) rows
 takes_of_row local [] up = tt
 takes_of_row local (row ∷ rows) up = (
   grind (arith, nat_tests, not_above local row.id rows up.0),
@@ -75,7 +75,7 @@ behind_more None id later is lt = refl
 behind_more (Some after) id later is lt = grind (arith, nat_tests, is, lt)
 
 -- of ascending ids what is left is the next one, and what is left behind it
-ids_next : (after : Option ℕ) (ids : List ℕ) → Ascend (λ id. id) ids → filter (is_behind after) ids ≡ onward (λ id. filter (is_behind (Some id)) ids) (first_behind after ids)
+pub ids_next : (after : Option ℕ) (ids : List ℕ) → Ascend (λ id. id) ids → filter (is_behind after) ids ≡ onward (λ id. filter (is_behind (Some id)) ids) (first_behind after ids)
 ids_next after [] up = refl
 ids_next after (id ∷ ids) up = go (is_behind after id) refl (first_behind after ids) refl (ids_next after ids up.1)
   where

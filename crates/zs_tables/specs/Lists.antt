@@ -1,10 +1,11 @@
 -- What each number keeps beside its key: words that no public contract needs.
-use Rattle.std.specs.Prelude.{◌≡◌, ◌==◌, ◌<◌, ◌&&◌, ℕ, Bool, not, List, [], ◌∷◌, ◌++◌, map, filter, vec_len, vec_capacity, if◌then◌else◌}
+use Rattle.std.specs.Prelude.{◌≡◌, ◌==◌, ◌<◌, ◌&&◌, ℕ, Bool, true, not, List, [], ◌∷◌, ◌++◌, map, filter, vec_len, vec_capacity, if◌then◌else◌}
 use Rattle.std.specs.List.{AllByRecursion, list_any}
 use Rattle.zs_keys.specs.Key.{Key}
 use Rattle.zs_wire.specs.declared.wire_expr.Mapping.{Mapping}
 use Rattle.zs_wire.specs.declared.wire_expr.Mapping.TheVariants.{Sender, Receiver}
 use Rattle.zs_keys.specs.Matching.{intersects}
+use Rattle.zs_tree.specs.Rows.{Row}
 use Rattle.zs_tables.specs.declared.subscriber.SubRow.{SubRow}
 use Rattle.zs_tables.specs.declared.number_row.NumberRow.{NumberRow}
 use Rattle.zs_tables.specs.Ascending.{Ascend}
@@ -29,9 +30,9 @@ held_of n = record { number = n.number; key = n.key }
 abbrev pub held : List NumberRow → List NumberedKey
 held numbers = map held_of (map shown numbers)
 
--- a list may take one more id
-abbrev pub HasRoom : NumberRow → Type 0
-HasRoom row = vec_len row.matches < vec_capacity row.matches
+-- the list may take the id of a subscriber on that key, if the keys meet
+abbrev pub HasRoomFor : List ℕ → NumberRow → Type 0
+HasRoomFor text row = intersects row.key.text text ≡ true → vec_len row.matches < vec_capacity row.matches
 
 -- a list that ascends
 abbrev pub IsAscending : NumberRow → Type 0
@@ -59,6 +60,15 @@ pub record AreInOrder (rows : List SubRow) (own told : List Listed) : Type 0 whe
   pub ascending : Ascend (λ row. row.id) rows
   pub own_current : AreCurrent rows own
   pub told_current : AreCurrent rows told
+
+-- the row of a subscriber in the tree of keys
+abbrev pub keyed : SubRow → Row
+keyed row = record { id = row.id; text = row.key.text }
+
+-- rows and numbers are in order, and the tree has the keys of the rows
+pub record AreKept (rows : List SubRow) (own told : List Listed) (tree : List Row) : Type 0 where
+  pub order : AreInOrder rows own told
+  pub tree_is : tree ≡ map keyed rows
 
 -- whether the subscriber of that id takes the publication
 abbrev pub takes_by_id : Bool → List SubRow → ℕ → Bool

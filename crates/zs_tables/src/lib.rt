@@ -1,12 +1,19 @@
-//! The live subscribers of a session and its declared key numbers. Each number keeps the list of the subscribers that
-//! a publication on its key may reach, so that a publication by number tests no keys.
+//! The live subscribers of a session, its declared key numbers, and the groups of entities that share a declaration. Each
+//! number keeps the list of the subscribers that a publication on its key may reach, so that a publication by number
+//! tests no keys.
 #![tactic(auto)]
 
+pub use group_kind::GroupKind;
+pub use groups::Groups;
 pub use key_ref::KeyRef;
 pub use laws::{each_is_next, matches_ascend, next_is_least, walk_visits_all};
 pub use subscriber::SubRow;
 pub use tables::Tables;
 
+mod group_kind;
+mod group_row;
+mod grouping;
+mod groups;
 mod key_ref;
 mod laws;
 mod lists;

@@ -1,51 +1,42 @@
 //! The lists that the numbers keep.
 
-ghost use Rattle.std.specs.Prelude.{◌≡◌, ◌<◌, ◌==◌, ◌++◌, [], ◌∷◌, vec_len, vec_capacity, All, map, filter, not, IfOk, OnOk};
+ghost use Rattle.std.specs.Prelude.{◌≡◌, ◌<◌, ◌==◌, ◌++◌, [], ◌∷◌, vec_len, vec_capacity, All, map, filter, not, OnOk};
 ghost use Rattle.zs_tables.specs.Ascending.{Ascend};
-ghost use Rattle.zs_tables.specs.Recipients.{matches};
-ghost use Rattle.zs_tables.specs.Lists.{shown, HasRoom, IsAscending, noted, forgotten, emptied};
+ghost use Rattle.zs_tables.specs.Lists.{shown, HasRoomFor, IsAscending, noted, forgotten, emptied};
 
 use crate::number_row::NumberRow;
 use crate::places::id_place;
 use crate::subscriber::SubRow;
-use std::alloc::{AllocError, Global};
+use std::alloc::AllocError;
 use zs_keys::KeyExpr;
 
-/// The list of a key: the ids of the rows whose key has a key in common with it.
-pub(crate) fn matching(
-    alloc: Global,
+/// Makes room for one more id in each list whose key has a key in common with this one.
+pub(crate) fn reserve_lists(
+    numbers: &mut Vec<NumberRow>,
     key: &KeyExpr<'_>,
-    rows: &[SubRow],
-) -> Result<Vec<u32>, AllocError>
-    ensures { IfOk result (λ ids. ids.items ≡ matches key.now.text rows.now) }
-{
-    rows.iter()
-        .filter(|row| key.meets(&row.key))
-        .map(|row| row.id)
-        .collect(alloc)
-}
-
-/// Makes room for one more id in each list.
-pub(crate) fn reserve_lists(numbers: &mut Vec<NumberRow>) -> Result<(), AllocError>
+) -> Result<(), AllocError>
     ensures same { map shown numbers.new.items ≡ map shown numbers.old.items }
-    ensures room { OnOk result (All HasRoom numbers.new.items) }
+    ensures room { OnOk result (All (HasRoomFor key.now.text) numbers.new.items) }
 {
     for row in numbers.iter_mut() {
-        reserve(row)?;
+        reserve(row, key)?;
     }
     Ok(())
 }
 
-fn reserve(row: &mut NumberRow) -> Result<(), AllocError>
+fn reserve(row: &mut NumberRow, key: &KeyExpr<'_>) -> Result<(), AllocError>
     ensures same { shown row.new ≡ shown row.old }
-    ensures room { OnOk result (HasRoom row.new) }
+    ensures room { OnOk result (HasRoomFor key.now.text row.new) }
 {
-    row.matches.reserve(1)
+    if row.key.meets(key) {
+        row.matches.reserve(1)?;
+    }
+    Ok(())
 }
 
 /// Puts a new subscriber at the end of each list whose key has a key in common with its own.
 pub(crate) fn note(numbers: &mut Vec<NumberRow>, id: u32, key: &KeyExpr<'_>)
-    requires { All HasRoom numbers.old.items }
+    requires { All (HasRoomFor key.now.text) numbers.old.items }
     ensures { map shown numbers.new.items ≡ map (noted id key.now.text) (map shown numbers.old.items) }
 {
     for row in numbers.iter_mut() {
@@ -54,7 +45,7 @@ pub(crate) fn note(numbers: &mut Vec<NumberRow>, id: u32, key: &KeyExpr<'_>)
 }
 
 fn note_one(row: &mut NumberRow, id: u32, key: &KeyExpr<'_>)
-    requires { HasRoom row.old }
+    requires { HasRoomFor key.now.text row.old }
     ensures { shown row.new ≡ noted id key.now.text (shown row.old) }
 {
     if row.key.meets(key) {

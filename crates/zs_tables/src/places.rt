@@ -71,18 +71,6 @@ pub(crate) fn place(numbers: &mut Vec<NumberRow>, new: NumberRow) -> Result<(), 
     }
 }
 
-/// The rows behind the last one, if there was one.
-pub(crate) fn rows_behind(rows: &[SubRow], after: Option<u32>) -> &[SubRow]
-    requires { Ascend (λ row. row.id) rows.now }
-    ensures { result.now ≡ filter (λ row. is_behind after row.id) rows.now }
-{
-    let Some(after) = after else {
-        return rows;
-    };
-    let start = rows.partition_point(|row| row.id <= after);
-    &rows[start..]
-}
-
 /// The ids behind the last one, if there was one.
 pub(crate) fn ids_behind(ids: &[u32], after: Option<u32>) -> &[u32]
     requires { Ascend (λ id. id) ids.now }

@@ -1,16 +1,18 @@
 //! Who receives a publication next.
 
-ghost use Rattle.std.specs.Prelude.{◌≡◌, None, IsTrue};
+ghost use Rattle.std.specs.Prelude.{◌≡◌, filter};
+ghost use Rattle.zs_tree.specs.Rows.{matches as tree_matches};
 ghost use Rattle.std.specs.List.{find};
 ghost use Rattle.zs_tables.specs.Ascending.{Ascend};
 ghost use Rattle.zs_tables.specs.Lists.{takes_by_id};
-ghost use Rattle.zs_tables.specs.Recipients.{has_session, has_network, takes, recipients, first_behind};
+ghost use Rattle.zs_tables.specs.Recipients.{takes, is_behind};
 
 use crate::places::find_row;
 use crate::subscriber::SubRow;
 use std::sync::ledger::Ledger;
 use zs_keys::{KeyExpr, Steps};
 use zs_sample::Locality;
+use zs_tree::KeyTree;
 
 /// Whether subscribers of that origin take a publication that was made here, or one that came in.
 fn takes(local: bool, origin: Locality) -> bool
@@ -47,19 +49,33 @@ pub(crate) fn first_by_id(local: bool, rows: &[SubRow], ids: &[u32]) -> Option<u
     None
 }
 
-/// The first of the rows that receives a publication on that key.
-pub(crate) fn first_by_key<L: Ledger>(
+/// The first subscriber in the tree that takes a publication on that key, behind the last one, if there was one.
+pub(crate) fn first_in_tree<L: Ledger>(
     local: bool,
     rows: &[SubRow],
+    tree: &KeyTree,
     key: &KeyExpr<'_>,
+    after: Option<u32>,
     steps: &mut Steps<L>,
 ) -> Option<u32>
-    ensures { result ≡ first_behind None (recipients local key.now.text rows.now) }
+    requires rows { Ascend (λ row. row.id) rows.now }
+    requires ids { Ascend (λ id. id) (tree_matches key.now.text tree.now) }
+    ensures { result ≡ find (takes_by_id local rows.now) (filter (is_behind after) (tree_matches key.now.text tree.now)) }
 {
-    for row in rows {
-        if takes(local, row.origin) && key.intersects(&row.key, steps) {
-            return Some(row.id);
+    let mut last = after;
+    while let Some(id) = tree.least_above(key, last, steps) {
+        if takes_by_id(local, rows, id) {
+            return Some(id);
         }
+        last = Some(id);
     }
     None
+}
+
+/// Leaves those ids out of a list whose subscribers do not take it.
+pub(crate) fn keep_takers(local: bool, rows: &[SubRow], ids: &mut Vec<u32>)
+    requires { Ascend (λ row. row.id) rows.now }
+    ensures { ids.new.items ≡ filter (takes_by_id local rows.now) ids.old.items }
+{
+    ids.retain(|id| takes_by_id(local, rows, *id));
 }

@@ -4,29 +4,32 @@ ghost use Rattle.std.specs.Option.{option_map, option_copied, ForSome, is_some};
 ghost use Rattle.zs_tables.specs.Ascending.{Ascend};
 ghost use Rattle.zs_tables.specs.Numbers.{key_at, number_at, placed, without};
 ghost use Rattle.zs_tables.specs.Contents.{numbers_of, with_numbers, text_meant, IsByNumber};
-ghost use Rattle.zs_tables.specs.Recipients.{matches, next_recipient, GoesOn};
+ghost use Rattle.zs_tables.specs.Recipients.{matches, recipients, next_recipient, GoesOn};
 
 use crate::key_ref::KeyRef;
-use crate::lists::{empty_lists, forget, matching, note, put_last, reserve_lists};
+use crate::lists::{empty_lists, forget, note, put_last, reserve_lists};
 use crate::number_row::NumberRow;
 use crate::numbers::{find_in, first_of_text, take_out};
-use crate::places::{find_row, ids_behind, place, row_place, rows_behind};
-use crate::recipients::{first_by_id, first_by_key};
+use crate::places::{find_row, ids_behind, place, row_place};
+use crate::recipients::{first_by_id, first_in_tree, keep_takers};
 use crate::subscriber::SubRow;
 use std::alloc::{AllocError, Global};
 use std::marker::Model;
 use std::sync::ledger::Ledger;
 use zs_keys::{KeyExpr, Steps};
+use zs_tree::KeyTree;
 use zs_wire::Mapping;
 
-/// The live subscribers in ascending id, and the declared numbers of both mappings with their keys. Each number keeps
-/// the list of the subscribers whose key has a key in common with its own, and each change brings the lists up to
-/// date: a new subscriber is tested against each number, a new key against each subscriber, and a look-up by number
-/// against none. No call that answers want of memory has changed anything.
+/// The live subscribers in ascending id, and the declared numbers of both mappings with their keys. A tree of the
+/// subscribers' keys finds those that a key reaches. Each number keeps the list of the subscribers whose key has a key
+/// in common with its own, and each change brings the lists up to date: a new subscriber is tested against each number,
+/// a new number takes its list from the tree, and a look-up by number tests no keys. No call that answers want of
+/// memory has changed anything.
 #[derive(Drop)]
 pub struct Tables {
     alloc: Global,
     rows: Vec<SubRow>,
+    tree: KeyTree,
     own: Vec<NumberRow>,
     told: Vec<NumberRow>,
 }
@@ -34,13 +37,13 @@ pub struct Tables {
 impl Model for Tables {
     ghost use Rattle.std.specs.Prelude.{map};
     ghost use Rattle.zs_tables.specs.Contents.{Contents};
-    ghost use Rattle.zs_tables.specs.Lists.{shown, held, AreInOrder};
+    ghost use Rattle.zs_tables.specs.Lists.{shown, held, AreKept};
 
     ghost Value = { Contents };
 
     ghost view = { λ t. record { rows = t.rows.items; own = held t.own.items; told = held t.told.items } };
 
-    ghost invariant = { λ t. AreInOrder t.rows.items (map shown t.own.items) (map shown t.told.items) };
+    ghost invariant = { λ t. AreKept t.rows.items (map shown t.own.items) (map shown t.told.items) t.tree };
 }
 
 impl Tables {
@@ -51,6 +54,7 @@ impl Tables {
         Tables {
             alloc,
             rows: Vec::new(alloc),
+            tree: KeyTree::new(alloc),
             own: Vec::new(alloc),
             told: Vec::new(alloc),
         }
@@ -67,8 +71,9 @@ impl Tables {
         ensures err { OnErr result (self.new ≡ self.old) }
     {
         self.rows.reserve(1)?;
-        reserve_lists(&mut self.own)?;
-        reserve_lists(&mut self.told)?;
+        reserve_lists(&mut self.own, &row.key)?;
+        reserve_lists(&mut self.told, &row.key)?;
+        self.tree.insert(&row.key, row.id)?;
         note(&mut self.own, row.id, &row.key);
         note(&mut self.told, row.id, &row.key);
         put_last(&mut self.rows, row);
@@ -85,7 +90,8 @@ impl Tables {
         };
         forget(&mut self.own, id);
         forget(&mut self.told, id);
-        let _ = self.rows.remove(at);
+        let row = self.rows.remove(at);
+        let _ = self.tree.remove(&row.key, id);
         true
     }
 
@@ -104,7 +110,8 @@ impl Tables {
             (placed (record { number = number; key = key.entry }) (numbers_of mapping self.old)) self.old) }
         ensures err { OnErr result (self.new ≡ self.old) }
     {
-        let matches = matching(self.alloc, &key, &self.rows)?;
+        let mut matches = Vec::new(self.alloc);
+        self.tree.matches_into(&key, &mut matches)?;
         let new = NumberRow {
             number,
             key,
@@ -132,6 +139,7 @@ impl Tables {
         ensures { self.new ≡ record self.old { rows = []; own = [] } }
     {
         self.rows.clear();
+        self.tree.clear();
         self.own.clear();
         empty_lists(&mut self.told);
     }
@@ -180,6 +188,26 @@ impl Tables {
         Some(&row.matches)
     }
 
+    /// Makes a list the ascending ids of the subscribers that receive a publication on that key. `local` says that the
+    /// publication was made in this session.
+    ///
+    /// # Errors
+    ///
+    /// Want of memory alone; the list is as before then.
+    pub fn recipients_into(
+        &self,
+        key: &KeyExpr<'_>,
+        local: bool,
+        into: &mut Vec<u32>,
+    ) -> Result<(), AllocError>
+        ensures ok { OnOk result (into.new.items ≡ recipients local key.now.text self.now.rows) }
+        ensures err { OnErr result (into.new.items ≡ into.old.items) }
+    {
+        self.tree.matches_into(key, into)?;
+        keep_takers(local, &self.rows, into);
+        Ok(())
+    }
+
     /// The next subscriber behind the last one, if there was one, that receives a publication on that key. `local`
     /// says that the publication was made in this session. By number it reads the list that the number keeps.
     pub fn next_recipient<L: Ledger>(
@@ -201,7 +229,7 @@ impl Tables {
                 };
                 first_by_id(local, &self.rows, ids_behind(&row.matches, after))
             }
-            KeyRef::Text(key) => first_by_key(local, rows_behind(&self.rows, after), key, steps),
+            KeyRef::Text(key) => first_in_tree(local, &self.rows, &self.tree, key, after, steps),
         }
     }
 }

@@ -1,6 +1,7 @@
-ghost use Rattle.std.specs.Prelude.{◌≡◌, ◌<◌};
+ghost use Rattle.std.specs.Prelude.{◌≡◌, ◌≢◌, ◌<◌, All};
+ghost use Rattle.zs_tables.specs.Groups.{members_of, groups_of, with_groups, joined};
 
-use crate::{KeyRef, SubRow, Tables};
+use crate::{GroupKind, Groups, KeyRef, SubRow, Tables};
 use std::marker::Brand;
 use std::process::Abort;
 use std::sync::ledger::{Blank, Ledger};
@@ -122,4 +123,49 @@ fn numbers_change(rt: HostRuntime) -> Result<(), Fail> {
     assert!(rt; lists(&tables, Mapping::Sender, 7, &[]));
     assert!(rt; tables.unset(Mapping::Sender, 8));
     Ok(())
+}
+
+/// The recipients of a publication on that key, by a list that holds something.
+fn told(rt: &impl Abort, tables: &Tables, text: &'static str, local: bool, into: &mut Vec<u32>) {
+    assert!(rt; tables.recipients_into(&key(rt, text), local, into).is_ok());
+}
+
+#[test]
+fn texts_know_their_recipients(rt: HostRuntime) -> Result<(), Fail> {
+    let mut tables = Tables::new(rt.alloc());
+    two_subscribers(&rt, &mut tables);
+    let mut ids = [9].to_vec(rt.alloc())?;
+    told(&rt, &tables, "a/b", true, &mut ids);
+    assert_eq!(rt; ids.as_slice(), [2].as_slice());
+    told(&rt, &tables, "a/*", false, &mut ids);
+    assert_eq!(rt; ids.as_slice(), [2, 3].as_slice());
+    told(&rt, &tables, "b", false, &mut ids);
+    assert!(rt; ids.is_empty());
+    Ok(())
+}
+
+fn join(rt: &impl Abort, groups: &mut Groups, kind: GroupKind, text: &'static str, id: u32) -> bool
+    requires { All (λ member. member ≢ id) (members_of text.now (groups_of kind groups.old)) }
+    ensures { groups.new ≡ with_groups kind (joined text.now id (groups_of kind groups.old)) groups.old }
+{
+    groups.join(kind, text, id).expect(rt, "memory")
+}
+
+#[test]
+fn groups_keep_the_number_of_the_first(rt: HostRuntime) {
+    let mut groups = Groups::new(rt.alloc());
+    let kind = GroupKind::Subscribers;
+    assert!(rt; join(&rt, &mut groups, kind, "a", 2));
+    assert!(rt; join(&rt, &mut groups, GroupKind::Publishers, "a", 4));
+    assert!(rt; join(&rt, &mut groups, kind, "b", 5));
+    assert!(rt; !join(&rt, &mut groups, kind, "a", 3));
+    assert_eq!(rt; groups.number(kind, "a"), Some(2));
+    assert_eq!(rt; groups.members(kind, "a"), 2);
+    assert_eq!(rt; groups.leave(kind, "a", 2), None);
+    assert_eq!(rt; groups.number(kind, "a"), Some(2));
+    assert_eq!(rt; groups.leave(kind, "a", 3), Some(2));
+    assert_eq!(rt; groups.number(kind, "a"), None);
+    assert_eq!(rt; groups.members(kind, "a"), 0);
+    assert_eq!(rt; groups.number(GroupKind::Publishers, "a"), Some(4));
+    assert_eq!(rt; groups.number(kind, "b"), Some(5));
 }

@@ -5,10 +5,10 @@ use Rattle.zs_tables.proofs.Tabled.{ascending_rows, key_found}
 use Rattle.zs_tables.proofs.tables.Tables.key_of.Goals as goal
 
 pub find_in-requires-clause-own : goal.find_in-requires-clause-own
-find_in-requires-clause-own c = rw c.deref.ensures.value (ascending_rows _ _ c.self.invariant.own_current)
+find_in-requires-clause-own c = rw c.deref.ensures.value (ascending_rows _ _ c.self.invariant.order.own_current)
 
 pub find_in-requires-clause-told : goal.find_in-requires-clause-told
-find_in-requires-clause-told c = rw c.deref-2.ensures.value (ascending_rows _ _ c.self.invariant.told_current)
+find_in-requires-clause-told c = rw c.deref-2.ensures.value (ascending_rows _ _ c.self.invariant.order.told_current)
 
 pub returns-in_default : goal.returns-in_default
 returns-in_default c =

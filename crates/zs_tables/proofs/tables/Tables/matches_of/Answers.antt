@@ -7,10 +7,10 @@ use Rattle.zs_tables.proofs.Tabled.{ascending_rows, key_found, matches_found}
 use Rattle.zs_tables.proofs.tables.Tables.matches_of.Goals as goal
 
 pub find_in-requires-clause-own : goal.find_in-requires-clause-own
-find_in-requires-clause-own c = rw c.deref.ensures.value (ascending_rows _ _ c.self.invariant.own_current)
+find_in-requires-clause-own c = rw c.deref.ensures.value (ascending_rows _ _ c.self.invariant.order.own_current)
 
 pub find_in-requires-clause-told : goal.find_in-requires-clause-told
-find_in-requires-clause-told c = rw c.deref-2.ensures.value (ascending_rows _ _ c.self.invariant.told_current)
+find_in-requires-clause-told c = rw c.deref-2.ensures.value (ascending_rows _ _ c.self.invariant.order.told_current)
 
 pub returns-in_default : goal.returns-in_default
 returns-in_default c =
@@ -20,4 +20,4 @@ returns-in_default c =
 pub returns : goal.returns
 returns c =
     rw (← c.self.view_is, c.deref-3.ensures.value)
-    (matches_found c.args.mapping c.args.number c.self.inside.rows.items c.self.inside.own.items c.self.inside.told.items _ c.self.invariant (rw (c.deref.ensures.value, c.deref-2.ensures.value) at c.in-Some.ensures))
+    (matches_found c.args.mapping c.args.number c.self.inside.rows.items c.self.inside.own.items c.self.inside.told.items _ c.self.invariant.order (rw (c.deref.ensures.value, c.deref-2.ensures.value) at c.in-Some.ensures))

@@ -1,5 +1,7 @@
-use Rattle.std.proofs.Common.{sym, refl, ◌∙◌}
+use Rattle.std.proofs.Common.{sym, refl, ap, ◌∙◌}
+use Rattle.zs_tables.specs.declared.subscriber.SubRow.{SubRow}
 use Rattle.zs_tables.specs.Lists.{forgotten}
+use Rattle.zs_tables.proofs.Keyed.{tree_without}
 use Rattle.zs_tables.proofs.Searching.{missing, any_none, filter_none, remove_here}
 use Rattle.zs_tables.proofs.Tabled.{lists_ascend, in_order_without, same_contents, held_stays}
 use Rattle.zs_tables.proofs.tables.Tables.remove.Goals as goal
@@ -15,22 +17,28 @@ returns-in_default-clause-rows c =
     rw (← c.self.view_is) (same_contents _ _ _ _ _ _ (sym (filter_none (λ row. row.id) c.args.id c.self.inside.rows.items (missing (λ row. row.id) c.args.id _ _ place))) refl refl)
 
 pub forget-requires : goal.forget-requires
-forget-requires c = lists_ascend _ _ c.self.invariant.ascending c.self.invariant.own_current
+forget-requires c = lists_ascend _ _ c.self.invariant.order.ascending c.self.invariant.order.own_current
 
 pub forget-requires-2 : goal.forget-requires-2
-forget-requires-2 c = lists_ascend _ _ c.self.invariant.ascending c.self.invariant.told_current
+forget-requires-2 c = lists_ascend _ _ c.self.invariant.order.ascending c.self.invariant.order.told_current
 
 pub invariant_of-self : goal.invariant_of-self
 invariant_of-self c =
     let place = rw c.deref.ensures.value at c.in-Ok.ensures in
-    in_order_without c.args.id _ _ _ _ _ _ c.self.invariant
-    (c.remove.ensures.items ∙ remove_here (λ row. row.id) c.args.id c.self.inside.rows.items _ c.self.invariant.ascending place.0 place.1)
-    c.forget.ensures c.forget-2.ensures
+    let rows = c.self.inside.rows.items in
+    let row = c.remove-row.result in
+    let rows_is = c.remove-row.ensures.items ∙ remove_here (λ row. row.id) c.args.id rows _ c.self.invariant.order.ascending place.0 place.1 in
+    let number = ap (λ (r : SubRow). r.id) c.remove-row.ensures.value ∙ place.1 row in
+    record {
+      order = in_order_without c.args.id _ _ _ _ _ _ c.self.invariant.order rows_is c.forget.ensures c.forget-2.ensures;
+      tree_is = tree_without c.args.id row rows c.remove-row.new.self.items c.in-Ok.at c.self.inside.tree c.remove.new.self c.self.invariant.tree_is
+          c.self.invariant.order.ascending place.0 c.remove-row.ensures.value number c.remove.ensures.rows rows_is;
+    }
 
 pub returns-clause-rows : goal.returns-clause-rows
 returns-clause-rows c =
     let place = rw c.deref.ensures.value at c.in-Ok.ensures in
     rw (← c.self.view_is) (same_contents _ _ _ _ _ _
-    (c.remove.ensures.items ∙ remove_here (λ row. row.id) c.args.id c.self.inside.rows.items _ c.self.invariant.ascending place.0 place.1)
+    (c.remove-row.ensures.items ∙ remove_here (λ row. row.id) c.args.id c.self.inside.rows.items _ c.self.invariant.order.ascending place.0 place.1)
     (held_stays (forgotten c.args.id) (λ n. refl) c.self.inside.own.items _ c.forget.ensures)
     (held_stays (forgotten c.args.id) (λ n. refl) c.self.inside.told.items _ c.forget-2.ensures))

@@ -1,0 +1,7 @@
+/// What kind of entities share a declaration.
+#[derive(Clone, Copy)]
+pub enum GroupKind {
+    Subscribers,
+    Publishers,
+    Queriers,
+}
