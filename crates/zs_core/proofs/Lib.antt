@@ -1,10 +1,15 @@
+mod Causes
+mod Changes
+mod Counts
+mod Decisions
+mod DeclaredKeys
+mod DistinctNumbers
 pub mod Filters
-pub mod Counting
-pub mod Handing
-pub mod Stepping
-pub mod Histories
-pub mod Living
-pub mod Holding
-pub mod Keeping
-pub mod Listing
-pub mod Causing
+mod KeyNumbers
+mod Keys
+mod Numbers
+mod Publications
+mod Recipients
+mod Stands
+mod Steps
+mod Subscribers

@@ -1,4 +1,5 @@
-use Rattle.std.specs.Prelude.{ℕ, Bool, true, false, not, ◌==◌, List, [], ◌∷◌, ◌++◌, Option, Some, None, option_map, Result, Ok, Err, if◌then◌else◌, encode_utf8_all}
+-- What keys stand for, by the tables.
+use Rattle.std.specs.Prelude.{ℕ, Bool, false, not, ◌&&◌, ◌==◌, List, ◌++◌, Option, Some, None, option_map, Result, Ok, Err, if◌then◌else◌, encode_utf8_all}
 use Rattle.zs_keys.specs.Key.{Key, undeclared}
 use Rattle.zs_keys.specs.Text.{is_canonical}
 use Rattle.zs_core.specs.declared.event.KeyArg.{KeyArg}
@@ -9,17 +10,20 @@ use Rattle.zs_wire.specs.declared.wire_expr.WireExpr.{WireExpr}
 use Rattle.zs_core.specs.declared.turn.Refusal.{Refusal}
 use Rattle.zs_core.specs.declared.turn.Refusal.TheVariants.{BadKeyExpr}
 use Rattle.zs_tables.specs.Contents.{numbers_of}
+use Rattle.zs_core.specs.declared.state.keys.KeyName.{KeyName}
+use Rattle.zs_core.specs.declared.state.keys.KeyName.TheVariants.{Own, Wire}
+use Rattle.zs_core.specs.Kinds.{NamedKey, NoKey, OwnKey, WireKey, is_nothing, is_whole}
 use Rattle.zs_core.specs.World.{World, tables_of}
 use Rattle.zs_tables.specs.Numbers.{key_at}
 
 -- the text of a key with a text behind it, if there is a key
-abbrev pub suffixed : List ℕ → Option Key → Option (List ℕ)
-suffixed suffix key = option_map (λ k. k.text ++ encode_utf8_all suffix) key
+abbrev pub text_with_suffix : List ℕ → Option Key → Option (List ℕ)
+text_with_suffix suffix key = option_map (λ k. k.text ++ encode_utf8_all suffix) key
 
 -- the text that a key stands for at this moment, as bytes, if it stands for one
 abbrev pub key_of : World → KeyArg → Option (List ℕ)
 key_of w (Text text) = Some (encode_utf8_all text)
-key_of w (Number number suffix) = suffixed suffix (key_at number w.keys.own)
+key_of w (Number number suffix) = text_with_suffix suffix (key_at number w.keys.own)
 
 -- the numbers of the side that a wire expression's mapping names: the network's, or this session's
 abbrev pub numbers_for : Mapping → World → List NumberedKey
@@ -29,24 +33,26 @@ numbers_for mapping w = numbers_of mapping (tables_of w)
 abbrev pub wire_of : World → WireExpr → Option (List ℕ)
 wire_of w wire =
     if wire.scope == 0 then Some (encode_utf8_all wire.suffix)
-    else suffixed wire.suffix (key_at wire.scope (numbers_for wire.mapping w))
+    else text_with_suffix wire.suffix (key_at wire.scope (numbers_for wire.mapping w))
 
--- a key that stands for a text which is no canonical key expression
-abbrev pub is_bad : Option (List ℕ) → Bool
-is_bad None = false
-is_bad (Some text) = not (is_canonical text)
+-- the text that a named key stands for
+abbrev pub text_of : World → NamedKey → Option (List ℕ)
+text_of w NoKey = None
+text_of w (OwnKey key) = key_of w key
+text_of w (WireKey wire) = wire_of w wire
 
--- no text
-abbrev pub is_nothing : List ℕ → Bool
-is_nothing [] = true
-is_nothing (c ∷ text) = false
+-- the key that the code names
+abbrev pub named_by : KeyName → NamedKey
+named_by (Own key) = OwnKey key.now
+named_by (Wire wire) = WireKey wire.now
 
--- a key argument that is a declared number and nothing behind it
-abbrev pub is_whole : KeyArg → Bool
-is_whole (Text text) = false
-is_whole (Number number suffix) = is_nothing suffix
+-- a key that is a number with nothing behind it
+abbrev pub is_number_alone : NamedKey → Bool
+is_number_alone NoKey = false
+is_number_alone (OwnKey key) = is_whole key
+is_number_alone (WireKey wire) = not (wire.scope == 0) && is_nothing wire.suffix
 
 -- the key that a text is, or why it is refused: there is no text, or it is not canonical
-abbrev pub resolved : Refusal → Option (List ℕ) → Result Key Refusal
-resolved missing None = Err missing
-resolved missing (Some text) = if is_canonical text then Ok (undeclared text) else Err BadKeyExpr
+abbrev pub resolution : Refusal → Option (List ℕ) → Result Key Refusal
+resolution missing None = Err missing
+resolution missing (Some text) = if is_canonical text then Ok (undeclared text) else Err BadKeyExpr

@@ -1,14 +1,15 @@
-use Rattle.std.specs.Prelude.{ℕ, Bool, List, map, filter, ◌&&◌, if◌then◌else◌}
+use Rattle.std.specs.Prelude.{ℕ, Bool, List, None, map, filter, ◌&&◌, if◌then◌else◌}
 use Rattle.zs_keys.specs.Key.{undeclared}
 use Rattle.zs_keys.specs.Matching.{intersects}
 use Rattle.zs_sample.specs.declared.locality.Locality.{Locality}
-use Rattle.zs_sample.specs.declared.quality.QoSType.{QoSType}
 use Rattle.zs_sample.specs.declared.quality.Reliability.TheVariants.{BestEffort, Reliable}
-use Rattle.zs_sample.specs.declared.sample.SampleFields.{SampleFields}
-use Rattle.zs_sample.specs.declared.sample.SampleKind.TheVariants.{Put as put_kind}
+use Rattle.zs_sample.specs.declared.sample_fields.SampleFields.{SampleFields}
+use Rattle.zs_wire.specs.declared.sample_kind.SampleKind.TheVariants.{Put as put_kind}
 use Rattle.zs_sample.specs.Encoding.{encoding_of}
 use Rattle.zs_sample.specs.Quality.{priority_of}
 use Rattle.zs_tables.specs.Recipients.{has_session, has_network}
+use Rattle.zs_core.specs.declared.state.publications.Content.{Content as named_content}
+use Rattle.zs_core.specs.Kinds.{Content}
 use Rattle.zs_core.specs.declared.turn.Effect.{Effect}
 use Rattle.zs_core.specs.declared.turn.Effect.TheVariants.{Hand}
 use Rattle.zs_core.specs.declared.turn.HandOver.TheVariants.{Sample as sample_for}
@@ -30,17 +31,31 @@ reaches local destination origin =
 abbrev pub allows : Publication → SubRow → Bool
 allows p row = reaches p.local p.destination row.origin && intersects p.sample.key_expr.text row.key.text
 
+-- the publication but for its key that the code names
+abbrev pub content_by : named_content → Content
+content_by c = record {
+  local = c.local;
+  destination = c.destination;
+  payload = c.payload.now;
+  encoding = c.encoding.now;
+  qos = c.qos;
+  reliable = c.reliable;
+}
+
 -- the sample of a put on this text: the empty encoding is the default, and a priority outside 1 to 7 is Data
-abbrev pub put_sample : List ℕ → List (List ℕ) → List ℕ → QoSType → Bool → SampleFields
-put_sample text payload encoding qos reliable = record {
+abbrev pub sample_on : List ℕ → Content → SampleFields
+sample_on text c = record {
   key_expr = undeclared text;
-  payload = payload;
+  payload = c.payload;
   kind = put_kind;
-  encoding = encoding_of encoding;
-  express = qos.express;
-  priority = priority_of qos.priority;
-  congestion_control = qos.congestion;
-  reliability = if reliable then Reliable else BestEffort;
+  encoding = encoding_of c.encoding;
+  timestamp = None;
+  express = c.qos.express;
+  priority = priority_of c.qos.priority;
+  congestion_control = c.qos.congestion;
+  reliability = if c.reliable then Reliable else BestEffort;
+  source_info = None;
+  attachment = None;
 }
 
 -- one sample for each subscriber that is allowed it, in the order of the rows

@@ -1,18 +1,35 @@
-use Rattle.std.specs.Prelude.{◌≡◌, List, ◌∷◌}
+-- The tables that a history leaves, and when a state stands for it.
+use Rattle.std.specs.Prelude.{◌≡◌, ℕ, ◌+◌, Bool, false, List, [], ◌∷◌}
 use Rattle.zs_core.specs.declared.event.Event.{Event}
 use Rattle.zs_core.specs.declared.settings.Settings.{Settings}
+use Rattle.zs_core.specs.declared.turn.Kind.{Kind}
 use Rattle.zs_core.specs.declared.turn.Turn.{Turn}
 use Rattle.zs_core.specs.World.{World}
-use Rattle.zs_core.specs.Turns.{turn_of}
-use Rattle.zs_core.specs.Past.{past_of, world_of}
+use Rattle.zs_core.specs.Changes.{with_change, change_for}
+use Rattle.zs_core.specs.Entry.{Entry, is_closed}
+use Rattle.zs_core.specs.Held.{is_held}
+use Rattle.zs_core.specs.Live.{is_live}
+use Rattle.zs_core.specs.Past.{past_of}
+use Rattle.zs_core.specs.Effects.{effects}
+
+-- a session in which nothing is declared
+abbrev pub new_world : Settings → World
+new_world s = record {
+  settings = s;
+  closed = false;
+  counters = record { entity = s.entity_start + 1; key = s.key_start };
+  entities = record { subs = [] };
+  keys = record { own = []; holders = []; told = [] };
+}
+
+-- what a session is after these accepted events, the newest first: each makes its change
+abbrev pub world_of : Settings → List Entry → World
+world_of s [] = new_world s
+world_of s (x ∷ past) = with_change (change_for (world_of s past) x.event) (world_of s past)
 
 -- what a session is after a history, the newest event first
 abbrev pub world_after : Settings → List Event → World
 world_after s h = world_of s (past_of s h)
-
--- the answer and effects of an event behind a history
-abbrev pub effects : Settings → List Event → Event → Turn
-effects s h e = turn_of (world_after s h) (world_after s (e ∷ h)) e
 
 -- a state stands for settings and a history where it is what they leave
 abbrev pub Stands : World → Settings → List Event → Type 0
@@ -27,3 +44,15 @@ Previews w e turn = (s : Settings) (h : List Event) → Stands w s h → turn �
 abbrev pub Steps : World → World → Event → Turn → Type 0
 Steps old new e turn =
     (s : Settings) (h : List Event) → Stands old s h → (turn ≡ effects s h e) × Stands new s (e ∷ h)
+
+-- what a state is asked, told by the events of whatever history it stands for: whether it is closed
+abbrev pub ClosedIs : World → Bool → Type 0
+ClosedIs w answer = (s : Settings) (h : List Event) → Stands w s h → answer ≡ is_closed (past_of s h)
+
+-- whether a number is held
+abbrev pub IsHeld : World → ℕ → Bool → Type 0
+IsHeld w number answer = (s : Settings) (h : List Event) → Stands w s h → answer ≡ is_held number (past_of s h)
+
+-- whether what has a kind and number is live
+abbrev pub IsLive : World → Kind → ℕ → Bool → Type 0
+IsLive w kind id answer = (s : Settings) (h : List Event) → Stands w s h → answer ≡ is_live kind id (past_of s h)

@@ -1,9 +1,8 @@
-use Rattle.std.specs.Prelude.{ℕ, Bool, not, ◌==◌, List, [], ◌∷◌, Option, Some, map, filter}
+use Rattle.std.specs.Prelude.{ℕ, Bool, ◌==◌, List, [], ◌∷◌, Option, Some, map}
 use Rattle.std.specs.List.{list_any}
 use Rattle.zs_keys.specs.Key.{undeclared}
 use Rattle.zs_core.specs.declared.event.Event.{Event}
-use Rattle.zs_core.specs.declared.event.Event.TheVariants.{Sub, Undeclare, Close}
-use Rattle.zs_core.specs.declared.event.EntityKind.TheVariants.{Sub as sub_kind}
+use Rattle.zs_core.specs.declared.event.Event.TheVariants.{Sub}
 use Rattle.zs_core.specs.declared.turn.Effect.{Effect}
 use Rattle.zs_core.specs.declared.turn.Effect.TheVariants.{End}
 use Rattle.zs_core.specs.declared.turn.Kind.TheVariants.{Subscriber}
@@ -17,12 +16,6 @@ sub_row e number text = []
 -- whether there is a subscriber of that number
 abbrev pub is_sub : ℕ → List SubRow → Bool
 is_sub id rows = list_any (λ row. row.id == id) rows
-
--- the subscribers that live on after an event
-abbrev pub subs_left : Event → List SubRow → List SubRow
-subs_left (Undeclare sub_kind id) rows = filter (λ row. not (row.id == id)) rows
-subs_left Close rows = []
-subs_left e rows = rows
 
 -- what tells that these subscribers are called no more
 abbrev pub sub_ends : List SubRow → List Effect

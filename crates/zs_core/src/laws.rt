@@ -1,9 +1,6 @@
 //! Laws over the definitions: each is the contract of a function that does nothing.
 
-ghost use Rattle.zs_core.specs.Live.{TableIsLive, SubscribersAscend};
-ghost use Rattle.zs_core.specs.Held.{KeysAreHeld, KeysAreTold, TextsAreNamed, HeldTextsKeepNumbers, KeyNumbersAreNew};
-ghost use Rattle.zs_core.specs.Listed.{ListsAreTests};
-ghost use Rattle.zs_core.specs.Causes.{RefusalsHaveCauses};
+ghost use Rattle.zs_core.specs.Laws.{TableIsLive, SubscribersAscend, KeysAreHeld, HoldersAreCounted, KeysAreTold, CountersAreTold, ClosedIsTold, TextsAreNamed, NumbersAreDrawn, HeldTextsKeepNumbers, KeyNumbersAreNew, ListsAreTests, FirstCause, RefusalsHaveCauses};
 
 /// After any history the table of subscribers holds those that were declared and not ended since, and no others.
 pub fn table_is_live()
@@ -15,15 +12,15 @@ pub fn subscribers_ascend()
     ensures { SubscribersAscend }
 {}
 
-/// Behind any history an event is refused exactly where one of the causes holds, and the refusal names one that holds.
-pub fn refusals_have_causes()
-    ensures { RefusalsHaveCauses }
-{}
-
 /// After any history the table of declared keys has each number that was given back less often than it was declared,
 /// with the text of the event that drew it, and no others.
 pub fn keys_are_held()
     ensures { KeysAreHeld }
+{}
+
+/// After any history each number is held as often as it was declared and not given back.
+pub fn holders_are_counted()
+    ensures { HoldersAreCounted }
 {}
 
 /// After any history the table of told keys has each number that the network told, with the text that it told last.
@@ -31,9 +28,24 @@ pub fn keys_are_told()
     ensures { KeysAreTold }
 {}
 
+/// After any history each counter stands at its first number and one more for each that was drawn.
+pub fn counters_are_told()
+    ensures { CountersAreTold }
+{}
+
+/// A session is closed exactly where an event of its history closed it.
+pub fn closed_is_told()
+    ensures { ClosedIsTold }
+{}
+
 /// The text that an event's key stands for, by the tables, is the one that the events before it tell.
 pub fn texts_are_named()
     ensures { TextsAreNamed }
+{}
+
+/// The number that an event is answered, by the tables, is the one that the events before it tell.
+pub fn numbers_are_drawn()
+    ensures { NumbersAreDrawn }
 {}
 
 /// A text that is held keeps its number where it is declared again.
@@ -50,4 +62,14 @@ pub fn key_numbers_are_new()
 /// stands for, by the events alone.
 pub fn lists_are_tests()
     ensures { ListsAreTests }
+{}
+
+/// The refusal of an event, by the tables, is the first in the one order of refusals whose cause the events before it tell.
+pub fn first_cause()
+    ensures { FirstCause }
+{}
+
+/// Behind any history an event is refused exactly where one of the causes holds, and the refusal names one that holds.
+pub fn refusals_have_causes()
+    ensures { RefusalsHaveCauses }
 {}

@@ -5,7 +5,8 @@
 pub use declared_key::KeyHolders;
 pub use event::{EntityKind, Event, KeyArg};
 pub use laws::{
-    held_texts_keep_numbers, key_numbers_are_new, keys_are_held, keys_are_told,
+    closed_is_told, counters_are_told, first_cause, held_texts_keep_numbers, holders_are_counted,
+    key_numbers_are_new, keys_are_held, keys_are_told, lists_are_tests, numbers_are_drawn,
     refusals_have_causes, subscribers_ascend, table_is_live, texts_are_named,
 };
 pub use settings::Settings;
@@ -13,9 +14,12 @@ pub use state::SessionState;
 pub use turn::{Answer, Effect, Effects, HandOver, Kind, Refusal, Turn};
 pub use zs_tables::{KeyRef, SubRow};
 
+mod change;
 mod declared_key;
 mod event;
 mod laws;
 mod settings;
 mod state;
+#[cfg(test)]
+mod tests;
 mod turn;

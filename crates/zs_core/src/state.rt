@@ -1,12 +1,12 @@
-ghost use Rattle.std.specs.Prelude.{◌≡◌, None, false, [], IfOk, OnOk, OnErr};
-ghost use Rattle.zs_core.specs.Turn.{answered};
-ghost use Rattle.zs_core.specs.Turns.{turn_of, open_cause, closed_cause};
-ghost use Rattle.zs_core.specs.After.{after};
+ghost use Rattle.std.specs.Prelude.{◌≡◌, None, [], IfOk, OnOk, OnErr};
+ghost use Rattle.zs_core.specs.Turns.{decision_of, decision, closed_cause};
+ghost use Rattle.zs_core.specs.Changes.{Fits, with_change};
 
+use crate::change::{Change, Decision};
 use crate::declared_key::KeyHolders;
 use crate::event::{EntityKind, Event};
 use crate::settings::Settings;
-use crate::turn::{Refusal, Turn};
+use crate::turn::Refusal;
 use std::alloc::{AllocError, Global};
 use std::marker::Model;
 use zs_tables::Tables;
@@ -15,6 +15,7 @@ mod declared_keys;
 mod keys;
 mod publications;
 mod recipients;
+mod status;
 mod stepping;
 mod subscribers;
 
@@ -50,28 +51,21 @@ impl Model for SessionState {
 }
 
 impl SessionState {
-    /// Whether the session was closed.
-    pub fn is_closed(&self) -> bool
-        ensures { result ≡ self.now.closed }
-    {
-        self.closed
-    }
-
-    /// The turn that the event would have.
-    fn turn_for(&self, event: &Event) -> Result<Turn, AllocError>
-        ensures { IfOk result (λ turn. turn ≡ turn_of self.now (after self.now event.now) event.now) }
+    /// The turn that the event would have, and what it would change.
+    fn decide(&self, event: &Event) -> Result<Decision, AllocError>
+        ensures { IfOk result (λ made. made ≡ decision self.now event.now) }
     {
         if self.closed {
-            return Ok(closed_turn(self.alloc, event));
+            return Ok(closed_decision(self.alloc, event));
         }
         match event {
-            Event::Key { key } => self.preview_key(key),
-            Event::UndeclareKey { key } => self.preview_undeclare_key(key),
-            Event::Sub { origin: _, key } => self.preview_sub(key),
+            Event::Key { key } => self.decide_key(key),
+            Event::UndeclareKey { key } => self.decide_undeclare_key(key),
+            Event::Sub { origin, key } => self.decide_sub(*origin, key),
             Event::Undeclare {
                 kind: EntityKind::Sub,
                 id,
-            } => self.preview_undeclare_sub(*id),
+            } => self.decide_undeclare_sub(*id),
             Event::Put {
                 destination,
                 key,
@@ -79,10 +73,10 @@ impl SessionState {
                 encoding,
                 qos,
                 reliable,
-            } => self.preview_put(*destination, key, payload, encoding, *qos, *reliable),
-            Event::NetKeyExpr { number, wire } => self.preview_net_key_expr(*number, wire),
+            } => self.decide_put(*destination, key, payload, encoding, *qos, *reliable),
+            Event::NetKeyExpr { number, wire } => self.decide_net_key_expr(*number, wire),
             Event::NetUndeclareKeyExpr { .. } | Event::NetClose => {
-                Ok(Turn::quiet(self.alloc, None))
+                Ok(Decision::quiet(self.alloc, None, Change::Nothing))
             }
             Event::NetPut {
                 wire,
@@ -90,57 +84,42 @@ impl SessionState {
                 encoding,
                 qos,
                 reliable,
-            } => self.preview_net_put(wire, payload, encoding, *qos, *reliable),
-            Event::Close => self.preview_close(),
+            } => self.decide_net_put(wire, payload, encoding, *qos, *reliable),
+            Event::Close => self.decide_close(),
         }
     }
 
-    /// Makes of the session what an accepted event makes of it. At an `Err` it is as it was.
-    fn change(&mut self, event: &Event) -> Result<(), AllocError>
-        requires opened { self.old.closed ≡ false }
-        requires accepted { open_cause self.old event.now ≡ None }
-        ensures ok { OnOk result (self.new ≡ after self.old event.now) }
+    /// Makes a change. At an `Err` the session is as it was.
+    fn apply(&mut self, change: Change) -> Result<(), AllocError>
+        requires { Fits self.old change }
+        ensures ok { OnOk result (self.new ≡ with_change change self.old) }
         ensures err { OnErr result (self.new ≡ self.old) }
     {
-        match event {
-            Event::Key { key } => self.change_key(key),
-            Event::UndeclareKey { key } => {
-                self.change_undeclare_key(key);
-                Ok(())
-            }
-            Event::Sub { origin, key } => self.change_sub(*origin, key),
-            Event::Undeclare {
-                kind: EntityKind::Sub,
-                id,
-            } => {
-                self.change_undeclare_sub(*id);
-                Ok(())
-            }
-            Event::NetKeyExpr { number, wire } => self.change_net_key_expr(*number, wire),
-            Event::Put { .. }
-            | Event::NetUndeclareKeyExpr { .. }
-            | Event::NetPut { .. }
-            | Event::NetClose => Ok(()),
-            Event::Close => {
-                self.change_close();
+        match change {
+            Change::Nothing => Ok(()),
+            Change::OfKeys(change) => self.change_keys(change),
+            Change::OfEntities(change) => self.change_entities(change),
+            Change::OfNetwork(change) => self.change_network(change),
+            Change::Shut => {
+                self.shut();
                 Ok(())
             }
         }
     }
 }
 
-/// The turn of an event behind the close.
-fn closed_turn(alloc: Global, event: &Event) -> Turn
-    ensures { result ≡ answered (closed_cause event.now) None [] }
+/// What an event behind the close is answered.
+fn closed_decision(alloc: Global, event: &Event) -> Decision
+    ensures { result ≡ decision_of (closed_cause event.now) None [] Change.Nothing }
 {
     match event {
-        Event::Undeclare { .. } | Event::Close => Turn::quiet(alloc, None),
+        Event::Undeclare { .. } | Event::Close => Decision::quiet(alloc, None, Change::Nothing),
         Event::NetKeyExpr { .. }
         | Event::NetUndeclareKeyExpr { .. }
         | Event::NetPut { .. }
-        | Event::NetClose => Turn::refused(alloc, Refusal::Ignored),
+        | Event::NetClose => Decision::refused(alloc, Refusal::Ignored),
         Event::Key { .. } | Event::UndeclareKey { .. } | Event::Sub { .. } | Event::Put { .. } => {
-            Turn::refused(alloc, Refusal::SessionClosedError)
+            Decision::refused(alloc, Refusal::SessionClosedError)
         }
     }
 }

@@ -1,70 +1,98 @@
-ghost use Rattle.std.specs.Prelude.{◌≡◌, ◌<◌, ◌+◌, ◌==◌, not, true, false, [], None, Some, filter, map, IfOk, OnOk, OnErr, vec_len, vec_capacity, nat_lt};
-ghost use Rattle.zs_core.specs.Settings.{last_key};
-ghost use Rattle.zs_core.specs.Turn.{answered};
-ghost use Rattle.zs_core.specs.Turns.{is_spent, tell_key_cause, declare_key_cause, undeclare_key_cause, key_number};
-ghost use Rattle.zs_core.specs.Keys.{key_of, is_whole};
-ghost use Rattle.zs_tables.specs.Numbers.{placed};
+ghost use Rattle.std.specs.Prelude.{◌≡◌, ◌<◌, ◌==◌, not, true, filter, map, IfOk, OnOk, OnErr, vec_len, vec_capacity, nat_lt};
+ghost use Rattle.zs_core.specs.Turns.{open_decision};
+ghost use Rattle.zs_core.specs.Changes.{KeysFit, with_change};
 ghost use Rattle.zs_core.specs.DeclaredKeys.{last_count, holders_of, has_holder, raised, can_rise, one_more, one_less};
-ghost use Rattle.zs_core.specs.After.{after};
 
 use super::SessionState;
-use super::keys::{is_whole, own};
+use super::keys::{into_owned, is_nothing};
+use crate::change::{Change, Decision, KeyChange, NetworkChange};
 use crate::declared_key::KeyHolders;
 use crate::event::{Event, KeyArg};
-use crate::turn::{Refusal, Turn};
+use crate::turn::Refusal;
 use std::alloc::AllocError;
 use zs_keys::KeyExpr;
 use zs_wire::{Mapping, WireExpr};
 
 impl SessionState {
-    pub(super) fn preview_key(&self, key: &KeyArg) -> Result<Turn, AllocError>
-        ensures { IfOk result (λ turn. turn ≡ answered (declare_key_cause self.now (key_of self.now key.now) (Event.Key key.now))
-            (key_number self.now (key_of self.now key.now)) []) }
+    pub(super) fn decide_key(&self, key: &KeyArg) -> Result<Decision, AllocError>
+        ensures { IfOk result (λ made. made ≡ open_decision self.now (Event.Key key.now)) }
     {
         let key = match self.resolve(key)? {
             Ok(key) => key,
-            Err(refusal) => return Ok(Turn::refused(self.alloc, refusal)),
+            Err(refusal) => return Ok(Decision::refused(self.alloc, refusal)),
         };
         if let Some(number) = self.tables.number_of(key.as_str()) {
-            return Ok(Turn::quiet(self.alloc, Some(u32::from(number))));
+            let change = Change::OfKeys(KeyChange::Hold { number });
+            return Ok(Decision::quiet(self.alloc, Some(u32::from(number)), change));
         }
         if u16::MAX - self.next_key < 1 {
-            return Ok(Turn::refused(self.alloc, Refusal::IdsExhausted));
+            return Ok(Decision::refused(self.alloc, Refusal::IdsExhausted));
         }
-        Ok(Turn::quiet(self.alloc, Some(u32::from(self.next_key))))
-    }
-
-    pub(super) fn change_key(&mut self, key: &KeyArg) -> Result<(), AllocError>
-        requires { declare_key_cause self.old (key_of self.old key.now) (Event.Key key.now) ≡ None }
-        ensures ok { OnOk result (self.new ≡ after self.old (Event.Key key.now)) }
-        ensures err { OnErr result (self.new ≡ self.old) }
-    {
-        let Ok(key) = self.resolve(key)? else {
-            unreachable!();
-        };
-        let Some(number) = self.tables.number_of(key.as_str()) else {
-            let key = own(self.alloc, key)?;
-            return self.declare(key);
-        };
-        drop(key);
-        prepare(&mut self.holders)?;
-        raise(number, &mut self.holders);
-        Ok(())
-    }
-
-    /// Draws a number for a key that is not held.
-    fn declare(&mut self, key: KeyExpr<'static>) -> Result<(), AllocError>
-        requires room { is_spent last_key self.old.counters.key ≡ false }
-        ensures ok { OnOk result (self.new ≡ record self.old {
-          counters = record self.old.counters { key = self.old.counters.key + 1 };
-          keys = record self.old.keys {
-            own = placed (record { number = self.old.counters.key; key = key.entry }) self.old.keys.own;
-            holders = raised self.old.counters.key self.old.keys.holders;
-          };
-        }) }
-        ensures err { OnErr result (self.new ≡ self.old) }
-    {
         let number = self.next_key;
+        let key = into_owned(self.alloc, key)?;
+        let change = Change::OfKeys(KeyChange::Declare { number, key });
+        Ok(Decision::quiet(self.alloc, Some(u32::from(number)), change))
+    }
+
+    pub(super) fn decide_undeclare_key(&self, key: &KeyArg) -> Result<Decision, AllocError>
+        ensures { IfOk result (λ made. made ≡ open_decision self.now (Event.UndeclareKey key.now)) }
+    {
+        if let Err(refusal) = self.resolve(key)? {
+            return Ok(Decision::refused(self.alloc, refusal));
+        }
+        match key {
+            KeyArg::Number { number, suffix } if is_nothing(suffix) => {
+                let change = Change::OfKeys(KeyChange::Release { number: *number });
+                Ok(Decision::quiet(self.alloc, None, change))
+            }
+            _ => Ok(Decision::refused(self.alloc, Refusal::NotDeclared)),
+        }
+    }
+
+    pub(super) fn decide_net_key_expr(
+        &self,
+        number: u16,
+        wire: &WireExpr,
+    ) -> Result<Decision, AllocError>
+        ensures { IfOk result (λ made. made ≡ open_decision self.now (Event.NetKeyExpr number wire.now)) }
+    {
+        if number == 0 {
+            return Ok(Decision::refused(self.alloc, Refusal::UnknownScope));
+        }
+        let key = match self.resolve_wire(wire)? {
+            Ok(key) => key,
+            Err(refusal) => return Ok(Decision::refused(self.alloc, refusal)),
+        };
+        let key = into_owned(self.alloc, key)?;
+        let change = Change::OfNetwork(NetworkChange::TellKey { number, key });
+        Ok(Decision::quiet(self.alloc, None, change))
+    }
+
+    pub(super) fn change_keys(&mut self, change: KeyChange) -> Result<(), AllocError>
+        requires { KeysFit self.old change }
+        ensures ok { OnOk result (self.new ≡ with_change (Change.OfKeys change) self.old) }
+        ensures err { OnErr result (self.new ≡ self.old) }
+    {
+        match change {
+            KeyChange::Declare { number, key } => self.declare_key(number, key),
+            KeyChange::Hold { number } => {
+                prepare(&mut self.holders)?;
+                raise(number, &mut self.holders);
+                Ok(())
+            }
+            KeyChange::Release { number } => {
+                self.release_key(number);
+                Ok(())
+            }
+        }
+    }
+
+    /// A number that is drawn stands for a key, and is held.
+    fn declare_key(&mut self, number: u16, key: KeyExpr<'static>) -> Result<(), AllocError>
+        requires { KeysFit self.old (KeyChange.Declare number key) }
+        ensures ok { OnOk result (self.new ≡ with_change (Change.OfKeys (KeyChange.Declare number key.entry)) self.old) }
+        ensures err { OnErr result (self.new ≡ self.old) }
+    {
         prepare(&mut self.holders)?;
         self.tables.set(Mapping::Receiver, number, key)?;
         raise(number, &mut self.holders);
@@ -72,63 +100,27 @@ impl SessionState {
         Ok(())
     }
 
-    pub(super) fn preview_undeclare_key(&self, key: &KeyArg) -> Result<Turn, AllocError>
-        ensures { IfOk result (λ turn. turn ≡ answered (undeclare_key_cause self.now key.now) None []) }
+    /// A number is held by one less. It stands for nothing where that was the last.
+    fn release_key(&mut self, number: u16)
+        ensures { self.new ≡ with_change (Change.OfKeys (KeyChange.Release number)) self.old }
     {
-        if let Err(refusal) = self.resolve(key)? {
-            return Ok(Turn::refused(self.alloc, refusal));
-        }
-        if !is_whole(key) {
-            return Ok(Turn::refused(self.alloc, Refusal::NotDeclared));
-        }
-        Ok(Turn::quiet(self.alloc, None))
-    }
-
-    pub(super) fn change_undeclare_key(&mut self, key: &KeyArg)
-        requires { undeclare_key_cause self.old key.now ≡ None }
-        ensures { self.new ≡ after self.old (Event.UndeclareKey key.now) }
-    {
-        let KeyArg::Number { number, suffix: _ } = key else {
-            unreachable!();
-        };
-        if holders_of(*number, &self.holders) <= 1 {
-            self.tables.unset(Mapping::Receiver, *number);
-            forget(*number, &mut self.holders);
+        if holders_of(number, &self.holders) <= 1 {
+            self.tables.unset(Mapping::Receiver, number);
+            forget(number, &mut self.holders);
         } else {
-            count_less(*number, &mut self.holders);
+            count_less(number, &mut self.holders);
         }
     }
 
-    pub(super) fn preview_net_key_expr(
-        &self,
-        number: u16,
-        wire: &WireExpr,
-    ) -> Result<Turn, AllocError>
-        ensures { IfOk result (λ turn. turn ≡ answered (tell_key_cause self.now number wire.now) None []) }
-    {
-        if number == 0 {
-            return Ok(Turn::refused(self.alloc, Refusal::UnknownScope));
-        }
-        if let Err(refusal) = self.resolve_wire(wire)? {
-            return Ok(Turn::refused(self.alloc, refusal));
-        }
-        Ok(Turn::quiet(self.alloc, None))
-    }
-
-    pub(super) fn change_net_key_expr(
-        &mut self,
-        number: u16,
-        wire: &WireExpr,
-    ) -> Result<(), AllocError>
-        requires { tell_key_cause self.old number wire.now ≡ None }
-        ensures ok { OnOk result (self.new ≡ after self.old (Event.NetKeyExpr number wire.now)) }
+    pub(super) fn change_network(&mut self, change: NetworkChange) -> Result<(), AllocError>
+        ensures ok { OnOk result (self.new ≡ with_change (Change.OfNetwork change) self.old) }
         ensures err { OnErr result (self.new ≡ self.old) }
     {
-        let Ok(key) = self.resolve_wire(wire)? else {
-            unreachable!();
-        };
-        let key = own(self.alloc, key)?;
-        self.tables.set(Mapping::Sender, number, key)
+        match change {
+            NetworkChange::TellKey { number, key } => {
+                self.tables.set(Mapping::Sender, number, key)
+            }
+        }
     }
 }
 
@@ -177,7 +169,7 @@ fn raise(number: u16, rows: &mut Vec<KeyHolders>)
     let _ = rows.push(KeyHolders { number, count: 1 });
 }
 
-fn has_holder(number: u16, rows: &[KeyHolders]) -> bool
+pub(super) fn has_holder(number: u16, rows: &[KeyHolders]) -> bool
     ensures { result ≡ has_holder number rows.now }
 {
     rows.iter().any(|row| row.number == number)

@@ -1,5 +1,6 @@
 ghost use Rattle.std.specs.Prelude.{◌≡◌, ◌++◌, Some, IfOk};
-ghost use Rattle.zs_core.specs.Keys.{key_of, wire_of, is_nothing, is_whole, resolved};
+ghost use Rattle.zs_core.specs.Kinds.{is_nothing, is_whole};
+ghost use Rattle.zs_core.specs.Keys.{key_of, wire_of, resolution};
 
 use super::SessionState;
 use crate::event::KeyArg;
@@ -9,13 +10,20 @@ use zs_keys::{KeyError, KeyExpr};
 use zs_sample::Text;
 use zs_wire::{Mapping, WireExpr};
 
+/// The key that an event names, as the application gave it or as it came from the network.
+#[derive(Clone, Copy)]
+pub(super) enum KeyName<'a> {
+    Own(&'a KeyArg),
+    Wire(&'a WireExpr),
+}
+
 impl SessionState {
     /// The key that an application's argument stands for, or why it is refused.
     pub(super) fn resolve<'a>(
         &'a self,
         key: &'a KeyArg,
     ) -> Result<Result<KeyExpr<'a>, Refusal>, AllocError>
-        ensures { IfOk result (λ found. found ≡ resolved Refusal.NotFound (key_of self.now key.now)) }
+        ensures { IfOk result (λ found. found ≡ resolution Refusal.NotFound (key_of self.now key.now)) }
     {
         match key {
             KeyArg::Text(text) => Ok(canonical(text.as_str())),
@@ -33,7 +41,7 @@ impl SessionState {
         &'a self,
         wire: &'a WireExpr,
     ) -> Result<Result<KeyExpr<'a>, Refusal>, AllocError>
-        ensures { IfOk result (λ found. found ≡ resolved Refusal.UnknownScope (wire_of self.now wire.now)) }
+        ensures { IfOk result (λ found. found ≡ resolution Refusal.UnknownScope (wire_of self.now wire.now)) }
     {
         let suffix = wire.suffix.as_str();
         if wire.scope == 0 {
@@ -48,7 +56,7 @@ impl SessionState {
 
 /// A text as a key.
 pub(super) fn canonical(text: &str) -> Result<KeyExpr<'_>, Refusal>
-    ensures { result ≡ resolved Refusal.NotFound (Some text.now) }
+    ensures { result ≡ resolution Refusal.NotFound (Some text.now) }
 {
     match KeyExpr::new(text) {
         Ok(key) => Ok(key),
@@ -62,7 +70,7 @@ fn with_suffix<'a>(
     key: &'a KeyExpr<'static>,
     suffix: &str,
 ) -> Result<Result<KeyExpr<'a>, Refusal>, AllocError>
-    ensures { IfOk result (λ found. found ≡ resolved Refusal.NotFound (Some (key.now.text ++ suffix.now))) }
+    ensures { IfOk result (λ found. found ≡ resolution Refusal.NotFound (Some (key.now.text ++ suffix.now))) }
 {
     match key.with_suffix(alloc, suffix) {
         Ok(key) => Ok(Ok(key.without_declaration())),
@@ -72,7 +80,7 @@ fn with_suffix<'a>(
 }
 
 /// A key in memory of its own.
-pub(super) fn own(alloc: Global, key: KeyExpr<'_>) -> Result<KeyExpr<'static>, AllocError>
+pub(super) fn into_owned(alloc: Global, key: KeyExpr<'_>) -> Result<KeyExpr<'static>, AllocError>
     ensures { IfOk result (λ owned. owned ≡ key.entry) }
 {
     match key.into_owned(alloc) {

@@ -4,6 +4,7 @@ ghost use Rattle.zs_core.specs.Turn.{was_refused};
 ghost use Rattle.zs_core.specs.Stands.{world_after, Steps, Previews};
 
 use super::SessionState;
+use crate::change::Decision;
 use crate::event::Event;
 use crate::settings::Settings;
 use crate::turn::Turn;
@@ -31,10 +32,10 @@ impl SessionState {
     pub fn preview(&self, event: &Event) -> Result<Turn, AllocError>
         ensures { IfOk result (λ turn. Previews self.now event.now turn) }
     {
-        self.turn_for(event)
+        let made = self.decide(event)?;
+        Ok(made.into_turn())
     }
 
-    #[tactic(auto, using(crate::proofs::Stepping::steps_closed, crate::proofs::Stepping::steps_refused, crate::proofs::Stepping::steps_on))]
     /// Takes one event: gives its turn, and changes the session as the event says. What takes memory comes
     /// first, so at an `Err` the session is as it was.
     pub fn step(&mut self, event: &Event) -> Result<Turn, AllocError>
@@ -42,14 +43,8 @@ impl SessionState {
         ensures refused { IfOk result (λ turn. was_refused turn.answer ≡ true → self.new ≡ self.old) }
         ensures err { OnErr result (self.new ≡ self.old) }
     {
-        let turn = self.turn_for(event)?;
-        if self.closed {
-            return Ok(turn);
-        }
-        if turn.is_refused() {
-            return Ok(turn);
-        }
-        self.change(event)?;
+        let Decision { turn, change } = self.decide(event)?;
+        self.apply(change)?;
         Ok(turn)
     }
 }

@@ -1,7 +1,9 @@
-use Rattle.zs_core.specs.Past.{past_of, world_of}
-use Rattle.zs_core.specs.Keys.{key_of}
-use Rattle.zs_core.proofs.Holding.{declared, answers_new}
+use Rattle.zs_core.specs.Past.{past_of}
+use Rattle.zs_core.specs.Stands.{world_after}
+use Rattle.zs_core.proofs.KeyNumbers.{answers_new}
+use Rattle.zs_core.proofs.Stands.{standing}
 use Rattle.zs_core.proofs.laws.key_numbers_are_new.Goals as goal
 
 pub returns : goal.returns
-returns c = λ s h n key o answer free. answers_new s (past_of s h) n (key_of (world_of s (past_of s h)) key) (declared s h) o answer free
+returns c =
+    λ s h n key unshut answer free. answers_new s (world_after s h) (past_of s h) n key (standing s h) unshut answer free

@@ -1,4 +1,4 @@
-use Rattle.zs_core.proofs.Listing.{lists_are_tests}
+use Rattle.zs_core.proofs.Recipients.{lists_are_tests}
 use Rattle.zs_core.proofs.laws.lists_are_tests.Goals as goal
 
 pub returns : goal.returns

@@ -1,5 +1,11 @@
-use Rattle.zs_core.proofs.Causing.{refusals_have_causes}
+use Rattle.zs_core.specs.Past.{past_of}
+use Rattle.zs_core.specs.Stands.{world_after}
+use Rattle.zs_core.specs.Causes.{has_cause}
+use Rattle.zs_core.specs.Turns.{cause}
+use Rattle.zs_core.proofs.Causes.{names_first}
+use Rattle.zs_core.proofs.Stands.{standing, same_cause}
 use Rattle.zs_core.proofs.laws.refusals_have_causes.Goals as goal
 
 pub returns : goal.returns
-returns c = refusals_have_causes
+returns c =
+    λ s h e. names_first (has_cause s (past_of s h) e) (cause (world_after s h) e) (same_cause s (world_after s h) (past_of s h) e (standing s h))

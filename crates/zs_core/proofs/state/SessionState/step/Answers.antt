@@ -1,14 +1,11 @@
-use Rattle.std.proofs.Common.{◌≡◌, false}
-use Rattle.zs_core.specs.Turn.{was_refused}
-use Rattle.zs_core.specs.Turns.{turn_of}
-use Rattle.zs_core.specs.After.{after}
-use Rattle.zs_core.proofs.Stepping.{steps_on}
+use Rattle.zs_core.proofs.Steps.{steps_on, decision_fits, refused_same}
 use Rattle.zs_core.proofs.state.SessionState.step.Goals as goal
 
+pub apply-requires : goal.apply-requires
+apply-requires c = decision_fits c.args.self.now c.args.event.now c.in_ok-turn.field-0 c.in_ok-turn.ensures
+
 pub returns-clause-ok : goal.returns-clause-ok
-returns-clause-ok c =
-    let turn : c.in_ok-turn.turn ≡ turn_of c.args.self.now (after c.args.self.now c.args.event.now) c.args.event.now = c.in_ok-turn.ensures in
-    let opened : c.args.self.now.closed ≡ false = cc in
-    let accepted : was_refused c.in_ok-turn.turn.answer ≡ false = cc in
-    let changed : c.change.new.self ≡ after c.args.self.now c.args.event.now = c.in_ok-change.ensures.ok in
-    steps_on c.args.self.now c.change.new.self c.args.event.now c.in_ok-turn.turn turn opened accepted changed
+returns-clause-ok c = steps_on c.args.self.now c.apply.new.self c.args.event.now c.in_ok-turn.field-0 c.in_ok-turn.ensures c.in_ok-apply.ensures.ok
+
+pub returns-clause-refused : goal.returns-clause-refused
+returns-clause-refused c = refused_same c.args.self.now c.apply.new.self c.args.event.now c.in_ok-turn.field-0 c.in_ok-turn.ensures c.in_ok-apply.ensures.ok

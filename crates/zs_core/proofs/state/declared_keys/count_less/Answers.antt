@@ -1,6 +1,6 @@
 use Rattle.std.proofs.Common.{ap, arith, length}
 use Rattle.zs_core.specs.DeclaredKeys.{one_less}
-use Rattle.zs_core.proofs.Counting.{map_next}
+use Rattle.zs_core.proofs.Counts.{map_next}
 use Rattle.zs_core.proofs.state.declared_keys.count_less.Goals as goal
 
 pub loop-row-preserved : goal.loop-row-preserved

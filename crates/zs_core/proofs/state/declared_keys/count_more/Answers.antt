@@ -1,7 +1,7 @@
 use Rattle.std.proofs.Common.{ap, arith, length, nat_lt}
 use Rattle.zs_core.specs.declared.declared_key.KeyHolders.{KeyHolders}
 use Rattle.zs_core.specs.DeclaredKeys.{last_count, one_more}
-use Rattle.zs_core.proofs.Counting.{test_next, map_next}
+use Rattle.zs_core.proofs.Counts.{test_next, map_next}
 use Rattle.zs_core.proofs.state.declared_keys.count_more.Goals as goal
 
 pub one_more-requires : goal.one_more-requires

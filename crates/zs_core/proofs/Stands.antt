@@ -1,0 +1,193 @@
+-- What the tables are behind every history: one induction, by the changes of accepted events.
+use Rattle.std.proofs.Common.{◌≡◌, ◌+◌, ℕ, List, [], ◌∷◌, Bool, true, false, Option, Some, None, refl, sym, ◌∙◌, ap, subst}
+use Rattle.std.specs.Prelude.{not, ◌&&◌, is_some, unwrap_or, if◌then◌else◌}
+use Rattle.zs_core.specs.declared.event.Event.{Event}
+use Rattle.zs_core.specs.declared.settings.Settings.{Settings}
+use Rattle.zs_core.specs.declared.change.Change.{Change}
+use Rattle.zs_core.specs.declared.change.Change.TheVariants.{Nothing, OfKeys, OfEntities, OfNetwork, Shut}
+use Rattle.zs_core.specs.declared.change.KeyChange.TheVariants.{Declare, Hold, Release}
+use Rattle.zs_core.specs.declared.change.EntityChange.TheVariants.{AddSub, EndSub}
+use Rattle.zs_core.specs.declared.change.Decision.{Decision}
+use Rattle.zs_core.specs.declared.turn.Refusal.{Refusal}
+use Rattle.zs_core.specs.declared.turn.Turn.{Turn}
+use Rattle.zs_tables.specs.declared.subscriber.SubRow.{SubRow}
+use Rattle.zs_tables.specs.Numbers.{number_at}
+use Rattle.zs_core.specs.Settings.{last_entity, last_key}
+use Rattle.zs_core.specs.Turn.{answered}
+use Rattle.zs_core.specs.World.{World}
+use Rattle.zs_core.specs.Kinds.{Draws, NoNumber, EntityNumber, KeyNumber, Named, row_of}
+use Rattle.zs_core.specs.Seen.{Sight}
+use Rattle.zs_core.specs.Entry.{Entry, is_closed}
+use Rattle.zs_core.specs.Held.{held_number, named_text}
+use Rattle.zs_core.specs.Live.{live_subs, is_live_named, is_subscriber}
+use Rattle.zs_core.specs.Counters.{is_spent, draws_entity, draws_key, next_entity, next_key, lacks_number, drawn_number}
+use Rattle.zs_core.specs.Causes.{past_sight, holds, in_order, first_that, refusal_of}
+use Rattle.zs_core.specs.Past.{entry_of, with_entry, past_with, past_of}
+use Rattle.zs_core.specs.Effects.{effects_on, turn_of, effects}
+use Rattle.zs_core.specs.Changes.{with_change, change_for}
+use Rattle.zs_core.specs.Turns.{text_for, finds, has_run_out, number_of, number_for, sight, first_cause, refused_closed, closed_cause, open_cause, cause, effects_of, decision_of, open_decision, decision}
+use Rattle.zs_core.specs.Stands.{new_world, world_of, world_after, Stands, Steps}
+use Rattle.zs_core.proofs.Decisions.{entry_for, past_with_by, cases}
+use Rattle.zs_core.proofs.Changes.{IsMade, adds, draws_by, draws_new, made}
+use Rattle.zs_core.proofs.Subscribers.{AreLive, live_more}
+use Rattle.zs_core.proofs.DeclaredKeys.{AreKnown, known_more}
+use Rattle.zs_core.proofs.Keys.{text_is, number_is}
+use Rattle.zs_core.proofs.Causes.{is_first}
+
+-- what the tables and counters are behind a past
+pub record AreStanding (s : Settings) (w : World) (past : List Entry) : Type 0 where
+  pub live : AreLive w past
+  pub known : AreKnown w past
+  pub entity : w.counters.entity ≡ next_entity s past
+  pub key : w.counters.key ≡ next_key s past
+
+entity_step : (w : World) (c : Change) → (with_change c w).counters.entity ≡ (if adds c then w.counters.entity + 1 else w.counters.entity)
+entity_step w (OfEntities (AddSub row)) = refl
+entity_step w (OfEntities (EndSub id)) = refl
+entity_step w Nothing = refl
+entity_step w c = refl
+
+key_step : (w : World) (c : Change) → (with_change c w).counters.key ≡ (if draws_by c then w.counters.key + 1 else w.counters.key)
+key_step w (OfKeys (Declare number key)) = refl
+key_step w (OfKeys (Hold number)) = refl
+key_step w (OfKeys (Release number)) = refl
+key_step w Nothing = refl
+key_step w c = refl
+
+-- a key number is drawn by the tables where the events tell so
+draws_is : (w : World) (past : List Entry) (draws : Draws) (text : Option (List ℕ)) → AreKnown w past → draws_new w draws text ≡ draws_key past draws text
+draws_is w past KeyNumber (Some text) k = ap (λ (o : Option ℕ). not (is_some o)) (number_is w past text k)
+draws_is w past KeyNumber None k = refl
+draws_is w past NoNumber text k = refl
+draws_is w past EntityNumber text k = refl
+
+standing_more : (s : Settings) (w : World) (past : List Entry) (x : Entry) (c : Change) → IsMade w x c → AreStanding s w past → AreStanding s (with_change c w) (x ∷ past)
+standing_more s w past x c m st = record {
+  live = live_more w past x c m st.live;
+  known = known_more w past x c m st.known;
+  entity =
+      entity_step w c ∙ ap (λ (n : ℕ). if adds c then n + 1 else n) st.entity
+      ∙ ap (λ (b : Bool). if b then next_entity s past + 1 else next_entity s past) (sym m.entities.draws);
+  key =
+      key_step w c ∙ ap (λ (n : ℕ). if draws_by c then n + 1 else n) st.key
+      ∙ ap (λ (b : Bool). if b then next_key s past + 1 else next_key s past) (sym m.keys.draws ∙ draws_is w past (row_of x.event).draws x.text st.known);
+}
+
+-- what is looked up in the tables is what the events tell
+text_same : (w : World) (past : List Entry) (e : Event) → AreKnown w past → text_for w e ≡ named_text past e
+text_same w past e k = text_is w past (row_of e).key k
+
+finds_is : (w : World) (past : List Entry) (names : Option Named) → AreLive w past → finds w names ≡ is_live_named past names
+finds_is w past None l = refl
+finds_is w past (Some named) l = l.found named.kind named.id
+
+lacks_is : (s : Settings) (w : World) (past : List Entry) (draws : Draws) (text : Option (List ℕ)) → AreStanding s w past → has_run_out w draws text ≡ lacks_number s past draws text
+lacks_is s w past NoNumber text st = refl
+lacks_is s w past EntityNumber text st = ap (is_spent last_entity) st.entity
+lacks_is s w past KeyNumber None st = refl
+lacks_is s w past KeyNumber (Some text) st =
+    ap (λ (o : Option ℕ). not (is_some o) && is_spent last_key w.counters.key) (number_is w past text st.known)
+    ∙ ap (λ (n : ℕ). not (is_some (held_number text past)) && is_spent last_key n) st.key
+
+number_drawn : (s : Settings) (w : World) (past : List Entry) (draws : Draws) (text : Option (List ℕ)) → AreStanding s w past → number_of w draws text ≡ drawn_number s past draws text
+number_drawn s w past NoNumber text st = refl
+number_drawn s w past EntityNumber text st = ap (λ (n : ℕ). Some n) st.entity
+number_drawn s w past KeyNumber None st = refl
+number_drawn s w past KeyNumber (Some text) st =
+    ap (λ (o : Option ℕ). Some (unwrap_or o w.counters.key)) (number_is w past text st.known)
+    ∙ ap (λ (n : ℕ). Some (unwrap_or (held_number text past) n)) st.key
+
+same_sight : (s : Settings) (w : World) (past : List Entry) (e : Event) → AreStanding s w past → sight w e ≡ past_sight s past e
+same_sight s w past e st =
+    let text : text_for w e ≡ named_text past e = text_same w past e st.known in
+    let lives : finds w (row_of e).names ≡ is_live_named past (row_of e).names = finds_is w past (row_of e).names st.live in
+    let lacks : has_run_out w (row_of e).draws (text_for w e) ≡ lacks_number s past (row_of e).draws (named_text past e) =
+    ap (has_run_out w (row_of e).draws) text ∙ lacks_is s w past (row_of e).draws (named_text past e) st in
+    λ i. record { text = text i; lives = lives i; lacks = lacks i }
+
+pub same_cause : (s : Settings) (w : World) (past : List Entry) (e : Event) → AreStanding s w past → cause w e ≡ refusal_of s past e
+same_cause s w past e st =
+    is_first w.closed (row_of e) (sight w e)
+    ∙ ap (λ (b : Bool). first_that (holds b (row_of e) (sight w e)) in_order) st.known.closed
+    ∙ ap (λ (seen : Sight). first_that (holds (is_closed past) (row_of e) seen) in_order) (same_sight s w past e st)
+
+pub same_number : (s : Settings) (w : World) (past : List Entry) (e : Event) → AreStanding s w past
+    → number_for w e ≡ drawn_number s past (row_of e).draws (named_text past e)
+same_number s w past e st =
+    ap (number_of w (row_of e).draws) (text_same w past e st.known) ∙ number_drawn s w past (row_of e).draws (named_text past e) st
+
+pub same_text : (s : Settings) (w : World) (past : List Entry) (e : Event) → AreStanding s w past → text_for w e ≡ named_text past e
+same_text s w past e st = text_same w past e st.known
+
+same_entry : (s : Settings) (w : World) (past : List Entry) (e : Event) → AreStanding s w past → entry_for w e ≡ entry_of s past e
+same_entry s w past e st =
+    let number = same_number s w past e st in
+    let text = same_text s w past e st in
+    λ i. record { number = number i; text = text i; event = e }
+
+-- the past with an event behind it is the same by the tables and by the events
+same_joins : (s : Settings) (w : World) (past : List Entry) (e : Event) → AreStanding s w past → past_with_by w e past ≡ past_with s e past
+same_joins s w past e st =
+    let refusal = same_cause s w past e st in
+    let closed = st.known.closed in
+    let entry = same_entry s w past e st in
+    λ i. with_entry (refusal i) (closed i) (entry i) past
+
+-- and so is the turn
+abbrev turn_by : Bool → Option Refusal → Option ℕ → List SubRow → Option (List ℕ) → Event → Turn
+turn_by closed refusal number rows text e =
+    if closed then answered refusal None [] else answered refusal number (effects_on rows text e)
+
+turn_decided : (w : World) (e : Event) → (decision w e).turn ≡ turn_by w.closed (cause w e) (number_for w e) w.entities.subs (text_for w e) e
+turn_decided w e = go w.closed
+  where
+    go : (b : Bool) → (if b then decision_of (closed_cause e) None [] Nothing else open_decision w e).turn
+        ≡ turn_by b (if b then closed_cause e else open_cause w e) (number_for w e) w.entities.subs (text_for w e) e
+    go true = refl
+    go false = refl
+
+pub same_turn : (s : Settings) (w : World) (past : List Entry) (e : Event) → AreStanding s w past → (decision w e).turn ≡ turn_of s past e
+same_turn s w past e st =
+    let closed = st.known.closed in
+    let refusal = same_cause s w past e st in
+    let number = same_number s w past e st in
+    let rows = st.live.table in
+    let text = same_text s w past e st in
+    turn_decided w e ∙ (λ i. turn_by (closed i) (refusal i) (number i) (rows i) (text i) e)
+
+none_there : (b : Bool) → (b && false) ≡ false
+none_there true = refl
+none_there false = refl
+
+standing_opened : (s : Settings) → AreStanding s (new_world s) []
+standing_opened s = record {
+  live = record { table = refl; found = λ kind id. none_there (is_subscriber kind); below = tt; ascend = tt };
+  known = record {
+    closed = refl;
+    emptied = λ shut. cc;
+    tied = λ n. refl;
+    counted = λ n h. cc;
+    balanced = λ o n. refl;
+    unused = λ n above. refl;
+    drawn = λ n key at. cc;
+    once = tt;
+    told = λ n. refl;
+  };
+  entity = refl;
+  key = refl;
+}
+
+pub standing : (s : Settings) (h : List Event) → AreStanding s (world_after s h) (past_of s h)
+standing s [] = standing_opened s
+standing s (e ∷ h) =
+    let st = standing s h in
+    let w = world_after s h in
+    subst (λ (past : List Entry). AreStanding s (world_of s past) past) (same_joins s w (past_of s h) e st)
+    (cases w e (past_of s h) (λ (made_is : Decision) (past : List Entry). AreStanding s (world_of s past) past)
+    (λ refusal number fx c. st) (λ shut. st)
+    (λ unshut accepted. standing_more s w (past_of s h) (entry_for w e) (change_for w e) (made w e unshut accepted) st))
+
+-- what holds of a decision and the past that it makes holds behind every history
+pub steps : (s : Settings) (h : List Event) (e : Event) (P : Decision → List Entry → Type 0)
+    → P (decision (world_after s h) e) (past_with_by (world_after s h) e (past_of s h)) → P (decision (world_after s h) e) (past_of s (e ∷ h))
+steps s h e P p = subst (P (decision (world_after s h) e)) (same_joins s (world_after s h) (past_of s h) e (standing s h)) p

@@ -1,0 +1,45 @@
+-- The next number of each sort, told by the events alone: its first one, and one more for each that was drawn.
+use Rattle.std.specs.Prelude.{ℕ, ◌+◌, ◌-◌, Bool, true, false, not, nat_lt, ◌&&◌, is_some, unwrap_or, List, [], ◌∷◌, Option, Some, None, if◌then◌else◌}
+use Rattle.zs_core.specs.declared.settings.Settings.{Settings}
+use Rattle.zs_core.specs.Settings.{last_entity, last_key}
+use Rattle.zs_core.specs.Kinds.{Draws, NoNumber, EntityNumber, KeyNumber, row_of}
+use Rattle.zs_core.specs.Entry.{Entry}
+use Rattle.zs_core.specs.Held.{held_number}
+
+-- a counter that has no number left to draw, where this is the number behind the last
+abbrev pub is_spent : ℕ → ℕ → Bool
+is_spent last next = nat_lt (last - next) 1
+
+-- whether an entity number is drawn
+abbrev pub draws_entity : Draws → Bool
+draws_entity EntityNumber = true
+draws_entity draws = false
+
+-- whether a key number is drawn: for a text that is not held
+abbrev pub draws_key : List Entry → Draws → Option (List ℕ) → Bool
+draws_key past KeyNumber (Some text) = not (is_some (held_number text past))
+draws_key past draws text = false
+
+-- the next entity number: the first one stands behind the session's own
+abbrev pub next_entity : Settings → List Entry → ℕ
+next_entity s [] = s.entity_start + 1
+next_entity s (x ∷ past) = if draws_entity (row_of x.event).draws then next_entity s past + 1 else next_entity s past
+
+-- the next key number
+abbrev pub next_key : Settings → List Entry → ℕ
+next_key s [] = s.key_start
+next_key s (x ∷ past) = if draws_key past (row_of x.event).draws x.text then next_key s past + 1 else next_key s past
+
+-- whether a number would be drawn from a counter that has none left
+abbrev pub lacks_number : Settings → List Entry → Draws → Option (List ℕ) → Bool
+lacks_number s past NoNumber text = false
+lacks_number s past EntityNumber text = is_spent last_entity (next_entity s past)
+lacks_number s past KeyNumber None = false
+lacks_number s past KeyNumber (Some text) = not (is_some (held_number text past)) && is_spent last_key (next_key s past)
+
+-- the number that is answered: the next entity number, or that of a held text, or else the next key number
+abbrev pub drawn_number : Settings → List Entry → Draws → Option (List ℕ) → Option ℕ
+drawn_number s past NoNumber text = None
+drawn_number s past EntityNumber text = Some (next_entity s past)
+drawn_number s past KeyNumber None = None
+drawn_number s past KeyNumber (Some text) = Some (unwrap_or (held_number text past) (next_key s past))

@@ -1,0 +1,98 @@
+-- What the tables hold after every history, and how events are answered, told by the events alone: each law is the clause of a
+-- public function.
+use Rattle.std.specs.Prelude.{◌≡◌, ℕ, Bool, true, false, List, Option, Some, None, option_map}
+use Rattle.zs_wire.specs.declared.wire_expr.Mapping.{Mapping}
+use Rattle.zs_tables.specs.Numbers.{key_at}
+use Rattle.zs_tables.specs.Recipients.{matches}
+use Rattle.zs_core.specs.declared.event.Event.{Event}
+use Rattle.zs_core.specs.declared.event.Event.TheVariants.{Key}
+use Rattle.zs_core.specs.declared.event.KeyArg.{KeyArg}
+use Rattle.zs_core.specs.declared.settings.Settings.{Settings}
+use Rattle.zs_core.specs.declared.turn.Refusal.{Refusal}
+use Rattle.zs_core.specs.Kinds.{row_of}
+use Rattle.zs_core.specs.Entry.{is_closed}
+use Rattle.zs_core.specs.Held.{times_declared, is_held, held_text, held_count, key_text, told_text, mapped_text, named_text}
+use Rattle.zs_core.specs.Live.{live_subs, Ascend}
+use Rattle.zs_core.specs.Counters.{next_entity, next_key, drawn_number}
+use Rattle.zs_core.specs.Causes.{has_cause, refusal_of}
+use Rattle.zs_core.specs.Past.{past_of, entry_of}
+use Rattle.zs_core.specs.Keys.{numbers_for}
+use Rattle.zs_core.specs.DeclaredKeys.{holders_of}
+use Rattle.zs_core.specs.Turns.{cause, text_for, number_for}
+use Rattle.zs_core.specs.Stands.{world_after}
+
+-- the table of subscribers holds the live ones and no others
+abbrev pub TableIsLive : Type 0
+TableIsLive = (s : Settings) (h : List Event) → (world_after s h).entities.subs ≡ live_subs (past_of s h)
+
+-- the live subscribers stand in ascending number, and so no number is there twice
+abbrev pub SubscribersAscend : Type 0
+SubscribersAscend = (s : Settings) (h : List Event) → Ascend (live_subs (past_of s h))
+
+-- the table of declared keys has the held numbers with their texts, and no others
+abbrev pub KeysAreHeld : Type 0
+KeysAreHeld =
+    (s : Settings) (h : List Event) (n : ℕ) → option_map (λ key. key.text) (key_at n (world_after s h).keys.own) ≡ held_text n (past_of s h)
+
+-- each number is held as often as it was declared and not given back
+abbrev pub HoldersAreCounted : Type 0
+HoldersAreCounted = (s : Settings) (h : List Event) (n : ℕ) → holders_of n (world_after s h).keys.holders ≡ held_count n (past_of s h)
+
+-- the table of told keys has each number with the text that was told last
+abbrev pub KeysAreTold : Type 0
+KeysAreTold =
+    (s : Settings) (h : List Event) (n : ℕ) → option_map (λ key. key.text) (key_at n (world_after s h).keys.told) ≡ told_text n (past_of s h)
+
+-- the counters stand at the next numbers
+abbrev pub CountersAreTold : Type 0
+CountersAreTold =
+    (s : Settings) (h : List Event)
+    → ((world_after s h).counters.entity ≡ next_entity s (past_of s h)) × ((world_after s h).counters.key ≡ next_key s (past_of s h))
+
+-- a session is closed where an event closed it
+abbrev pub ClosedIsTold : Type 0
+ClosedIsTold = (s : Settings) (h : List Event) → (world_after s h).closed ≡ is_closed (past_of s h)
+
+-- the text that an event's key stands for, by the tables, is the one that the events tell
+abbrev pub TextsAreNamed : Type 0
+TextsAreNamed = (s : Settings) (h : List Event) (e : Event) → text_for (world_after s h) e ≡ named_text (past_of s h) e
+
+-- the number that an event answers, by the tables, is the one that the events tell
+abbrev pub NumbersAreDrawn : Type 0
+NumbersAreDrawn =
+    (s : Settings) (h : List Event) (e : Event)
+    → number_for (world_after s h) e ≡ drawn_number s (past_of s h) (row_of e).draws (named_text (past_of s h) e)
+
+-- a held text that is declared again is answered the number that it has
+abbrev pub HeldTextsKeepNumbers : Type 0
+HeldTextsKeepNumbers =
+    (s : Settings) (h : List Event) (n : ℕ) (text : List ℕ) (key : KeyArg)
+    → held_text n (past_of s h) ≡ Some text → key_text (past_of s h) key ≡ Some text
+    → (entry_of s (past_of s h) (Key key)).number ≡ Some n
+
+-- a number that a declaration is answered and that is not held was never given before
+abbrev pub KeyNumbersAreNew : Type 0
+KeyNumbersAreNew =
+    (s : Settings) (h : List Event) (n : ℕ) (key : KeyArg)
+    → is_closed (past_of s h) ≡ false → (entry_of s (past_of s h) (Key key)).number ≡ Some n → is_held n (past_of s h) ≡ false
+    → times_declared n (past_of s h) ≡ 0
+
+-- the list of a number is the test of every live subscriber against the text that the number stands for
+abbrev pub ListsAreTests : Type 0
+ListsAreTests =
+    (s : Settings) (h : List Event) (mapping : Mapping) (n : ℕ)
+    → option_map (λ key. matches key.text (world_after s h).entities.subs) (key_at n (numbers_for mapping (world_after s h)))
+    ≡ option_map (λ text. matches text (live_subs (past_of s h))) (mapped_text mapping n (past_of s h))
+
+-- the refusal, by the tables, is the first in order whose cause the events tell
+abbrev pub FirstCause : Type 0
+FirstCause = (s : Settings) (h : List Event) (e : Event) → cause (world_after s h) e ≡ refusal_of s (past_of s h) e
+
+-- the answer names a cause that holds, or there is none and none holds
+abbrev pub Names : (Refusal → Bool) → Option Refusal → Type 0
+Names test (Some refusal) = test refusal ≡ true
+Names test None = (refusal : Refusal) → test refusal ≡ false
+
+-- so an event is refused exactly where a cause holds, and for one that holds
+abbrev pub RefusalsHaveCauses : Type 0
+RefusalsHaveCauses = (s : Settings) (h : List Event) (e : Event) → Names (has_cause s (past_of s h) e) (cause (world_after s h) e)

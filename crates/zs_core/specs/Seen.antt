@@ -1,0 +1,33 @@
+-- What is looked up for an event, and the tests of it.
+use Rattle.std.specs.Prelude.{ℕ, Bool, false, not, ◌||◌, is_none, List, Option, Some, None}
+use Rattle.zs_keys.specs.Text.{is_canonical}
+use Rattle.zs_core.specs.Kinds.{NamedKey, OwnKey, WireKey, Row}
+
+-- the text of its key, whether what it names is live, and whether it lacks a number to draw
+pub record Sight : Type 0 where
+  pub text : Option (List ℕ)
+  pub lives : Bool
+  pub lacks : Bool
+
+-- an application's key that stands for no text
+abbrev pub is_unheld : NamedKey → Option (List ℕ) → Bool
+is_unheld (OwnKey key) text = is_none text
+is_unheld key text = false
+
+-- a key from the network that stands for no text
+abbrev pub is_untold : NamedKey → Option (List ℕ) → Bool
+is_untold (WireKey wire) text = is_none text
+is_untold key text = false
+
+-- a key that stands for a text which is no canonical key expression
+abbrev pub is_bad : Option (List ℕ) → Bool
+is_bad None = false
+is_bad (Some text) = not (is_canonical text)
+
+-- an event that names a number which is not held, or what is not live
+abbrev pub is_not_found : Row → Sight → Bool
+is_not_found row seen = is_unheld row.key seen.text || not seen.lives
+
+-- an event from the network with a number that stands for nothing, or that would tell of number 0
+abbrev pub is_unknown : Row → Sight → Bool
+is_unknown row seen = row.tells_zero || is_untold row.key seen.text

@@ -1,0 +1,90 @@
+ghost use Rattle.std.specs.Prelude.{◌≡◌, [], Some, None};
+ghost use Rattle.zs_core.specs.Turns.{decision_of};
+
+use crate::turn::{Effects, Refusal, Turn};
+use std::alloc::Global;
+use zs_keys::KeyExpr;
+use zs_tables::SubRow;
+
+/// What an accepted event makes of the keys that the session declared.
+#[derive(Drop)]
+pub enum KeyChange {
+    /// A key that isn't held is declared: it draws a number.
+    Declare { number: u16, key: KeyExpr<'static> },
+    /// A held key is declared once more.
+    Hold { number: u16 },
+    /// A held key is given back once.
+    Release { number: u16 },
+}
+
+/// What an accepted event makes of what the application declared and can undeclare.
+#[derive(Drop)]
+pub enum EntityChange {
+    /// A subscriber is declared: it draws a number.
+    AddSub { row: SubRow },
+    /// A subscriber ends.
+    EndSub { id: u32 },
+}
+
+/// What an accepted event makes of what the network told.
+#[derive(Drop)]
+pub enum NetworkChange {
+    /// A number stands for a key from now on.
+    TellKey { number: u16, key: KeyExpr<'static> },
+}
+
+/// What an accepted event changes, with the copies that it needs. It names one area, but for the close.
+#[derive(Drop)]
+pub enum Change {
+    Nothing,
+    OfKeys(KeyChange),
+    OfEntities(EntityChange),
+    OfNetwork(NetworkChange),
+    /// The session is closed.
+    Shut,
+}
+
+/// The turn of an event, and what the event changes.
+#[derive(Drop)]
+pub struct Decision {
+    pub turn: Turn,
+    pub change: Change,
+}
+
+impl Decision {
+    pub(crate) fn refused(alloc: Global, refusal: Refusal) -> Decision
+        ensures { result ≡ decision_of (Some refusal) None [] Change.Nothing }
+    {
+        Decision {
+            turn: Turn::refused(alloc, refusal),
+            change: Change::Nothing,
+        }
+    }
+
+    /// An accepted event that brings nothing about but its number.
+    pub(crate) fn quiet(alloc: Global, number: Option<u32>, change: Change) -> Decision
+        ensures { result ≡ decision_of None number [] change }
+    {
+        Decision {
+            turn: Turn::quiet(alloc, number),
+            change,
+        }
+    }
+
+    /// An accepted event that draws no number.
+    pub(crate) fn of(effects: Effects, change: Change) -> Decision
+        ensures { result ≡ decision_of None None effects change }
+    {
+        Decision {
+            turn: Turn::of(effects),
+            change,
+        }
+    }
+
+    /// The turn alone.
+    pub(crate) fn into_turn(self) -> Turn
+        ensures { result ≡ self.turn }
+    {
+        self.turn
+    }
+}
