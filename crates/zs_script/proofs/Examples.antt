@@ -4,10 +4,10 @@ use Rattle.std.specs.Str.{chars, is_utf8}
 use Rattle.std.specs.Fmt.{digits}
 use Rattle.hex.proofs.OnLiterals.{hex_on_literals}
 use Rattle.zs_keys.specs.Key.{undeclared}
-use Rattle.zs_sample.specs.declared.quality.CongestionControl.TheVariants.{Drop}
+use Rattle.zs_wire.specs.declared.quality.CongestionControl.TheVariants.{Drop}
 use Rattle.zs_sample.specs.declared.quality.Priority.TheVariants.{Data}
 use Rattle.zs_sample.specs.declared.quality.Reliability.TheVariants.{Reliable}
-use Rattle.zs_sample.specs.declared.sample.SampleKind.TheVariants.{Put as put_kind}
+use Rattle.zs_wire.specs.declared.sample_kind.SampleKind.TheVariants.{Put as put_kind}
 use Rattle.zs_sample.specs.declared.locality.Locality.TheVariants.{SessionLocal, Remote, Any}
 use Rattle.zs_core.specs.declared.event.KeyArg.TheVariants.{Text, Number}
 use Rattle.zs_core.specs.declared.event.Event.TheVariants.{Key, UndeclareKey, Sub, Undeclare, Put, NetKeyExpr, NetUndeclareKeyExpr, NetPut, Close}
@@ -157,10 +157,13 @@ a_hand : turn_text 2 (record {
     payload = codes "zenoh" ∷ [];
     kind = put_kind;
     encoding = codes "zenoh/bytes";
+    timestamp = None;
     express = false;
     priority = Data;
     congestion_control = Drop;
     reliability = Reliable;
+    source_info = None;
+    attachment = None;
   })) ∷ End Subscriber 2 ∷ [];
 })
     ≡ codes "2" ++ 9 ∷ codes "ok" ++ 10 ∷ codes "2" ++ 9 ∷ codes "hand" ++ 9 ∷ codes "sub" ++ 9 ∷ codes "2" ++ 9 ∷ codes "put"

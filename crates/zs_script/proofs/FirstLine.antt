@@ -1,11 +1,11 @@
 -- Which line comes first, by what a reader holds.
-use Rattle.std.proofs.Common.{ℕ, suc, ◌≡◌, ◌+◌, ◌<◌, ◌≤◌, ◌==◌, true, false, List, [], ◌∷◌, ◌++◌, Some, None, Result, Err, length, take, drop, refl, subst, ap, ◌∙◌, arith, cond, not, append-nil, length-append}
+use Rattle.std.proofs.Common.{ℕ, suc, ◌≡◌, ◌+◌, ◌<◌, ◌≤◌, ◌==◌, true, false, List, [], ◌∷◌, ◌++◌, Some, None, Result, Err, length, take, drop, refl, ap, ◌∙◌, arith, cond, not, append-nil, length-append}
 use Rattle.std.specs.List.{position}
 use Rattle.std.proofs.lemmas.List.{take_all, drop_all, length-take}
 use Rattle.std.proofs.lemmas.Result.{err_from_is_err_and}
 use Rattle.std.specs.Result.{IsErrAnd}
 use Rattle.zs_script.specs.Lines.{lines, onto_line}
-use Rattle.zs_script.specs.Reading.{Reading, HasSeen, GivesLine, IsTooLong, ReadsOn}
+use Rattle.zs_script.specs.Reading.{Reading, GivesLine, IsTooLong}
 use Rattle.zs_script.specs.declared.reader.LineError.{LineError}
 use Rattle.zs_script.proofs.Cuts.{feed, none-found, some-found}
 
@@ -74,12 +74,10 @@ lines-rest (b ∷ bs) h k = lines-whole b bs (none-found (b ∷ bs) h)
 pub given-line : (old new : Reading) (place number : ℕ) (bytes : List ℕ) → Some place ≡ position (λ b. b == 10) old.held
     → bytes ≡ take place old.held → number ≡ old.given + 1 → place ≤ old.line_max
     → new ≡ record old { held = drop (place + 1) old.held; given = old.given + 1 }
-    → (left : List ℕ) → HasSeen old left → GivesLine old new left left number bytes
-given-line old new place number bytes at taken counted short after left seen = rw after (record {
-  line = rw taken (lines-at old.held left place at);
+    → GivesLine old new [] number bytes
+given-line old new place number bytes at taken counted short after = rw after (record {
+  line = λ more follows. rw taken (lines-at old.held more place at);
   short = rw taken (omega (arith, length-take place old.held));
-  turns = omega arith;
-  seen = seen;
   number = counted;
   given = refl;
   line_max = refl;
@@ -90,50 +88,33 @@ pub given-rest : (old new : Reading) (count number : ℕ) (bytes : List ℕ) →
     → old.ended ≡ true → count ≡ length old.held → 0 < count
     → bytes ≡ take count old.held → number ≡ old.given + 1 → count ≤ old.line_max
     → new ≡ record old { held = drop (count + 0) old.held; given = old.given + 1 }
-    → (left : List ℕ) → HasSeen old left → GivesLine old new left left number bytes
-given-rest old new count number bytes whole ended is some taken counted short after left seen =
-    let none : left ≡ [] = seen ended in
+    → GivesLine old new [] number bytes
+given-rest old new count number bytes whole ended is some taken counted short after =
     let all : bytes ≡ old.held = taken ∙ take_all count old.held (omega arith) in
     rw after (record {
-      line = rw (none, append-nil, drop_all (count + 0) old.held (omega arith), all) (lines-rest old.held whole (omega arith));
+      line = λ more follows. let none : more ≡ [] = follows ended in
+          rw (none, append-nil, drop_all (count + 0) old.held (omega arith), all) (lines-rest old.held whole (omega arith));
       short = rw all (omega arith);
-      turns = omega arith;
-      seen = seen;
       number = counted;
       given = refl;
       line_max = refl;
     })
 
 pub long-line : (old : Reading) (place : ℕ) → Some place ≡ position (λ b. b == 10) old.held → old.line_max < place
-    → (left : List ℕ) → IsTooLong old left
-long-line old place at long left =
+    → IsTooLong old []
+long-line old place at long = λ more.
     let found = some-found old.held place at in (
       take place old.held,
-      lines (drop (place + 1) old.held ++ left),
-      lines-at old.held left place at,
+      lines (drop (place + 1) old.held ++ more),
+      lines-at old.held more place at,
       omega (arith, length-take place old.held),
     )
 
 pub long-rest : (old : Reading) → None ≡ position (λ b. b == 10) old.held → old.line_max < length old.held
-    → (left : List ℕ) → IsTooLong old left
-long-rest old whole long left =
-    let first = lines-held old.held left whole (omega arith) in
+    → IsTooLong old []
+long-rest old whole long = λ more.
+    let first = lines-held old.held more whole (omega arith) in
     (old.held ++ first.0, first.1, first.2, omega (arith, length-append old.held first.0))
-
--- a line that is too long was so before the bytes were read
-pub long-before : (old new found : Reading) (left now : List ℕ) → found ≡ new → ReadsOn old new left now
-    → new.line_max ≡ old.line_max → IsTooLong found now → IsTooLong old left
-long-before old new found left now same read max long =
-    let P : Reading → Type 0 = λ r. IsTooLong r now in
-    let at : IsTooLong new now = subst P same long in
-    (at.0, at.1, ap lines read.bytes ∙ at.2, omega (arith, at.3))
-
-pub number-before : (old new found : Reading) (n : ℕ) → found ≡ new → new.given ≡ old.given → n ≡ found.given + 1
-    → n ≡ old.given + 1
-number-before old new found n same given is =
-    let P : Reading → Type 0 = λ r. n ≡ r.given + 1 in
-    let at : n ≡ new.given + 1 = subst P same is in
-    omega arith
 
 -- a `?` hands an error on as it is
 pub same-error : {A B : Type 0} (given : Result A LineError) (result : Result B LineError) (e x : LineError)

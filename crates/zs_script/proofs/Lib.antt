@@ -1,5 +1,6 @@
 pub mod Cuts
 pub mod FirstLine
+pub mod Answering
 pub mod ReadingFields
 pub mod Pieces
 pub mod Examples

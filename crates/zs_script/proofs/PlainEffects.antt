@@ -2,13 +2,13 @@
 use Rattle.std.proofs.Common.{◌≡◌, Bool, true, false, Some, None, refl, encode_utf8_all, ℕ, ap, ◌∙◌, append_assoc, map, flat_map, List, [], ◌∷◌, ◌++◌, decimal}
 use Rattle.std.proofs.lemmas.Bool.{and_parts, and_from}
 use Rattle.zs_sample.specs.Quality.{number_of}
-use Rattle.zs_sample.specs.declared.quality.CongestionControl.{CongestionControl}
-use Rattle.zs_sample.specs.declared.quality.CongestionControl.TheVariants.{Drop, Block}
+use Rattle.zs_wire.specs.declared.quality.CongestionControl.{CongestionControl}
+use Rattle.zs_wire.specs.declared.quality.CongestionControl.TheVariants.{Drop, Block}
 use Rattle.zs_sample.specs.declared.quality.Reliability.{Reliability}
 use Rattle.zs_sample.specs.declared.quality.Reliability.TheVariants.{BestEffort, Reliable}
-use Rattle.zs_sample.specs.declared.sample.SampleFields.{SampleFields}
-use Rattle.zs_sample.specs.declared.sample.SampleKind.{SampleKind}
-use Rattle.zs_sample.specs.declared.sample.SampleKind.TheVariants.{Put, Delete}
+use Rattle.zs_sample.specs.declared.sample_fields.SampleFields.{SampleFields}
+use Rattle.zs_wire.specs.declared.sample_kind.SampleKind.{SampleKind}
+use Rattle.zs_wire.specs.declared.sample_kind.SampleKind.TheVariants.{Put, Delete}
 use Rattle.zs_core.specs.declared.turn.Answer.TheVariants.{Ok as accepted, Refused}
 use Rattle.zs_core.specs.declared.turn.Effect.{Effect}
 use Rattle.zs_core.specs.declared.turn.Effect.TheVariants.{Hand, End}

@@ -211,7 +211,7 @@ put-plain (place ∷ key ∷ bytes ∷ []) h =
     on-then (λ destination. option_map (λ payload. Put destination (key_of key) payload default_encoding default_qos true) (payload_of bytes))
     (λ _. Unit {0}) PlainEvent
     (λ destination _. on-map (λ payload. Put destination (key_of key) payload default_encoding default_qos true) (λ _. Unit {0}) PlainEvent
-    (λ payload _. and_from _ _ (key-plain key h.1.0) default-plain) (payload_of bytes) (on-any _))
+    (λ payload _. and_from _ _ default-plain (key-plain key h.1.0)) (payload_of bytes) (on-any _))
     (locality_of place) (on-any (locality_of place))
 put-plain (place ∷ key ∷ bytes ∷ more ∷ rest) h = tt
 
@@ -228,7 +228,7 @@ push-plain (wire ∷ word ∷ bytes ∷ []) h =
     (on-then (λ key. option_map (λ payload.
     NetPut key payload default_encoding default_qos true) (payload_of bytes)) PlainWire PlainEvent
     (λ key k. on-map (λ payload. NetPut key payload default_encoding default_qos true) (λ _. Unit {0}) PlainEvent
-    (λ payload _. and_from _ _ k default-plain) (payload_of bytes) (on-any _))
+    (λ payload _. and_from _ _ default-plain k) (payload_of bytes) (on-any _))
     (wire_of wire) (wire-plain wire h.0))
     tt
 push-plain (wire ∷ word ∷ bytes ∷ more ∷ rest) h = tt

@@ -1,8 +1,8 @@
 -- The event that a line is, if it is one.
 use Rattle.std.specs.Prelude.{ℕ, true, false, List, [], ◌∷◌, Option, Some, None, option_map, option_and_then, codes, if◌then◌else◌}
 use Rattle.std.specs.Str.{bytes_eq, is_utf8}
-use Rattle.zs_sample.specs.declared.quality.QoSType.{QoSType}
-use Rattle.zs_sample.specs.declared.quality.CongestionControl.TheVariants.{Drop}
+use Rattle.zs_wire.specs.declared.quality.QoSType.{QoSType}
+use Rattle.zs_wire.specs.declared.quality.CongestionControl.TheVariants.{Drop}
 use Rattle.zs_core.specs.declared.event.Event.{Event}
 use Rattle.zs_core.specs.declared.event.Event.TheVariants.{Key, UndeclareKey, Sub, Undeclare, Put, NetKeyExpr, NetUndeclareKeyExpr, NetPut, NetClose, Close}
 use Rattle.zs_core.specs.declared.event.EntityKind.{EntityKind}

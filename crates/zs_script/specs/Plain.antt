@@ -1,10 +1,10 @@
 -- Texts that can stand in a field of a line: without a tab and without a line feed.
-use Rattle.std.specs.Prelude.{ℕ, Bool, true, ◌==◌, not, ◌&&◌, List, encode_utf8_all}
+use Rattle.std.specs.Prelude.{ℕ, Bool, true, ◌==◌, not, ◌&&◌, List, Option, Some, None, encode_utf8_all}
 use Rattle.std.specs.List.{list_all}
 use Rattle.zs_core.specs.declared.event.KeyArg.{KeyArg}
 use Rattle.zs_core.specs.declared.event.KeyArg.TheVariants.{Text, Number}
 use Rattle.zs_core.specs.declared.event.Event.{Event}
-use Rattle.zs_core.specs.declared.event.Event.TheVariants.{Key, UndeclareKey, Sub, Undeclare, Put, NetKeyExpr, NetUndeclareKeyExpr, NetPut, NetClose, Close}
+use Rattle.zs_core.specs.Kinds.{NamedKey, NoKey, OwnKey, WireKey, Content, row_of}
 use Rattle.zs_core.specs.declared.turn.Effect.{Effect}
 use Rattle.zs_core.specs.declared.turn.Effect.TheVariants.{Hand, End}
 use Rattle.zs_core.specs.declared.turn.HandOver.TheVariants.{Sample}
@@ -22,18 +22,20 @@ abbrev pub is_plain_key : KeyArg → Bool
 is_plain_key (Text text) = is_plain (encode_utf8_all text)
 is_plain_key (Number number suffix) = is_plain (encode_utf8_all suffix)
 
+-- a named key with such a text
+abbrev pub is_plain_named : NamedKey → Bool
+is_plain_named NoKey = true
+is_plain_named (OwnKey key) = is_plain_key key
+is_plain_named (WireKey wire) = is_plain (encode_utf8_all wire.suffix)
+
+-- a publication with such an encoding
+abbrev pub is_plain_content : Option Content → Bool
+is_plain_content None = true
+is_plain_content (Some content) = is_plain (encode_utf8_all content.encoding)
+
 -- an event all of whose texts are such
 abbrev pub is_plain_event : Event → Bool
-is_plain_event (Key key) = is_plain_key key
-is_plain_event (UndeclareKey key) = is_plain_key key
-is_plain_event (Sub origin key) = is_plain_key key
-is_plain_event (Undeclare kind id) = true
-is_plain_event (Put destination key payload encoding qos reliable) = is_plain_key key && is_plain (encode_utf8_all encoding)
-is_plain_event (NetKeyExpr number wire) = is_plain (encode_utf8_all wire.suffix)
-is_plain_event (NetUndeclareKeyExpr number) = true
-is_plain_event (NetPut wire payload encoding qos reliable) = is_plain (encode_utf8_all wire.suffix) && is_plain (encode_utf8_all encoding)
-is_plain_event NetClose = true
-is_plain_event Close = true
+is_plain_event e = is_plain_content (row_of e).publishes && is_plain_named (row_of e).key
 
 -- an effect all of whose texts are such
 abbrev pub is_plain_effect : Effect → Bool

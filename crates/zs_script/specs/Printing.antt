@@ -4,13 +4,13 @@ use Rattle.std.specs.List.{flat_map}
 use Rattle.hex.specs.Hex.{encode_lower}
 use Rattle.zs_bytes.specs.Payload.{bytes_of}
 use Rattle.zs_sample.specs.Quality.{number_of}
-use Rattle.zs_sample.specs.declared.quality.CongestionControl.{CongestionControl}
-use Rattle.zs_sample.specs.declared.quality.CongestionControl.TheVariants.{Drop, Block}
+use Rattle.zs_wire.specs.declared.quality.CongestionControl.{CongestionControl}
+use Rattle.zs_wire.specs.declared.quality.CongestionControl.TheVariants.{Drop, Block}
 use Rattle.zs_sample.specs.declared.quality.Reliability.{Reliability}
 use Rattle.zs_sample.specs.declared.quality.Reliability.TheVariants.{BestEffort, Reliable}
-use Rattle.zs_sample.specs.declared.sample.SampleFields.{SampleFields}
-use Rattle.zs_sample.specs.declared.sample.SampleKind.{SampleKind}
-use Rattle.zs_sample.specs.declared.sample.SampleKind.TheVariants.{Put, Delete}
+use Rattle.zs_sample.specs.declared.sample_fields.SampleFields.{SampleFields}
+use Rattle.zs_wire.specs.declared.sample_kind.SampleKind.{SampleKind}
+use Rattle.zs_wire.specs.declared.sample_kind.SampleKind.TheVariants.{Put, Delete}
 use Rattle.zs_core.specs.declared.turn.Answer.{Answer}
 use Rattle.zs_core.specs.declared.turn.Answer.TheVariants.{Ok as accepted, Refused}
 use Rattle.zs_core.specs.declared.turn.Effect.{Effect}

@@ -1,11 +1,18 @@
 //! The bytes that a reader of lines holds.
 
-ghost use Rattle.std.specs.Prelude.{◌≡◌, ◌+◌, ◌≤◌, ◌==◌, [], ◌++◌, length, take, drop, IfOk, OnOk, OnErr, vec_len};
+ghost use Rattle.std.specs.Prelude.{◌≡◌, ℕ, ◌+◌, ◌≤◌, ◌==◌, ◌⊎◌, List, [], ◌++◌, length, take, drop, IfOk, IfErr, OnOk, OnErr, vec_len};
 ghost use Rattle.std.specs.List.{position};
+ghost use Rattle.zs_keys.specs.Stream.{HasRisen, TakesOff, count_after, pieces_after};
+ghost use Rattle.zs_script.specs.Reading.{GivesCount, IsSpent};
 
 use crate::bytes::{behind, position_of};
+use crate::reader::LineError;
 use std::alloc::{AllocError, Global};
 use std::marker::Model;
+use zs_keys::Source;
+
+/// How many bytes one read asks for.
+const PIECE: usize = 16384;
 
 /// Bytes that were read and not taken yet. Contracts see them as a list.
 ///
@@ -77,14 +84,27 @@ impl Held {
         Ok(line)
     }
 
-    /// Puts a piece behind the bytes.
-    pub(crate) fn extend(&mut self, piece: &[u8]) -> Result<(), AllocError>
-        ensures ok { OnOk result (self.new ≡ self.old ++ piece.now) }
-        ensures err { OnErr result (self.new ≡ self.old) }
+    /// Reads once, behind the bytes, and returns how many came. For want of memory nothing is read.
+    pub(crate) fn read_from<S: Source>(&mut self, source: &mut S) -> Result<usize, LineError>
+        ensures took { (gave : List ℕ) × TakesOff (S.left source.old) gave (S.left source.new)
+            × (self.new ≡ self.old ++ gave) × GivesCount gave result }
+        ensures ended { result ≡ Ok 0 → IsSpent (S.left source.old) (S.left source.new) }
+        ensures pieces { S.pieces source.new ≡ pieces_after (S.pieces source.old) result }
+        ensures reads { OnOk result (S.reads source.new ≡ count_after (S.reads source.old) 1) }
+        ensures unread { result ≡ Err LineError.NoMemory → source.new ≡ source.old }
+        ensures few { IfOk result (λ count. count ≤ 16384) }
+        ensures err { IfErr result (λ error. (error ≡ LineError.ReadFault) ⊎ (error ≡ LineError.NoMemory)) }
+        ensures read_fault { result ≡ Err LineError.ReadFault → HasRisen (S.faults source.old) (S.faults source.new) }
+        ensures later { S.faults source.old ≤ S.faults source.new }
     {
         self.close_up();
-        self.bytes.extend_from_slice(piece)?;
-        Ok(())
+        self.bytes.reserve(PIECE)?;
+        let mut piece = [0u8; PIECE];
+        let Ok(count) = source.read(&mut piece) else {
+            return Err(LineError::ReadFault);
+        };
+        self.bytes.extend_from_slice(&piece[..count])?;
+        Ok(count)
     }
 
     /// Moves the bytes to the front of their memory.

@@ -13,7 +13,5 @@ pub mod laws;
 mod printing;
 mod reader;
 mod symbols;
-#[cfg(test)]
-mod tests;
 mod words;
 mod writing;

@@ -1,15 +1,12 @@
-ghost use Rattle.std.specs.Prelude.{◌≡◌, ℕ, ◌≢◌, ◌+◌, ◌<◌, ◌≤◌, ◌==◌, false, true, List, [], ◌++◌, length, take, drop, Some, None, IfOk, IfErr, OnOk, IfSome, IfNone, OnSome};
+ghost use Rattle.std.specs.Prelude.{◌≡◌, ℕ, ◌≢◌, ◌+◌, ◌-◌, ◌<◌, ◌≤◌, ◌==◌, false, true, List, [], ◌++◌, length, take, drop, Some, None, is_some, IfOk, IfErr, OnOk, OnErr, IfSome, IfNone, OnSome};
 ghost use Rattle.std.specs.List.{position};
-ghost use Rattle.zs_keys.specs.Stream.{HasRisen};
-ghost use Rattle.zs_script.specs.Reading.{GivesLine, HasSeen, IsTooLong, ReadsOn, work};
+ghost use Rattle.zs_keys.specs.Stream.{HasRisen, TakesOff, count_after};
+ghost use Rattle.zs_script.specs.Reading.{Answers, GivesLine, IsAtEnd, IsSpent, IsTooLong, MayFollow, Reads, work};
 
 use crate::held::Held;
 use std::alloc::{AllocError, Global};
 use std::marker::Model;
 use zs_keys::Source;
-
-/// How many bytes one read asks for.
-const PIECE: usize = 4096;
 
 /// A line of a script, without its line feed.
 #[derive(Drop)]
@@ -98,6 +95,14 @@ impl LineReader {
         self.held.find_line_feed()
     }
 
+    /// Whether a whole line was read and not given yet, so that [`next`](LineReader::next) gives it without a read.
+    pub fn holds_line(&mut self) -> bool
+        ensures answer { result ≡ is_some (position (λ b. b == 10) self.old.held) }
+        ensures same { self.new ≡ self.old }
+    {
+        self.find_line_feed().is_some()
+    }
+
     /// The number of the next line.
     fn next_number(&self) -> Result<u64, LineError>
         ensures ok { IfOk result (λ number. number ≡ self.now.given + 1) }
@@ -113,6 +118,7 @@ impl LineReader {
         ensures number { IfOk result (λ line. line.number ≡ self.old.given + 1) }
         ensures short { OnOk result (count ≤ self.old.line_max) }
         ensures after { OnOk result (self.new ≡ record self.old { held = drop (count + gap) self.old.held; given = self.old.given + 1 }) }
+        ensures err { OnErr result (self.new ≡ self.old) }
         ensures too_long { (n : ℕ) → result ≡ Err (LineError.LineTooLong n) → (n ≡ self.old.given + 1) × (self.old.line_max < count) }
         ensures other { (result ≢ Err LineError.OutOfTurns) × (result ≢ Err LineError.ReadFault) }
     {
@@ -126,35 +132,25 @@ impl LineReader {
     }
 
     /// The line that ends at the line feed which is at this place.
-    fn give_line(&mut self, place: usize) -> Result<Line, LineError>
+    fn give_line(&mut self, place: usize) -> Result<Option<Line>, LineError>
         requires { Some place ≡ position (λ b. b == 10) self.old.held }
-        ensures line { IfOk result (λ line. (left : List ℕ) → HasSeen self.old left
-            → GivesLine self.old self.new left left line.number line.bytes.items) }
-        ensures number { IfOk result (λ line. line.number ≡ self.old.given + 1) }
-        ensures short { IfOk result (λ line. length line.bytes.items ≤ self.old.line_max) }
-        ensures counted { OnOk result ((self.new.given ≡ self.old.given + 1) × (self.new.line_max ≡ self.old.line_max)) }
-        ensures work { OnOk result (work self.new < work self.old) }
-        ensures too_long { (n : ℕ) → result ≡ Err (LineError.LineTooLong n)
-            → (n ≡ self.old.given + 1) × ((left : List ℕ) → IsTooLong self.old left) }
+        ensures answer { Answers self.old self.new [] result }
+        ensures reads { Reads self.old self.new [] }
+        ensures same { (self.new.turns ≡ self.old.turns) × (self.new.ended ≡ self.old.ended) }
+        ensures work { IfOk result (λ found. OnSome found (work self.new < work self.old)) }
         ensures other { (result ≢ Err LineError.OutOfTurns) × (result ≢ Err LineError.ReadFault) }
     {
-        self.give(place, 1)
+        Ok(Some(self.give(place, 1)?))
     }
 
     /// What is held when all was read: the last line, or nothing.
     fn give_rest(&mut self) -> Result<Option<Line>, LineError>
         requires ended { self.old.ended ≡ true }
         requires whole { None ≡ position (λ b. b == 10) self.old.held }
-        ensures line { IfOk result (λ found. IfSome found (λ line. (left : List ℕ) → HasSeen self.old left
-            → GivesLine self.old self.new left left line.number line.bytes.items)) }
-        ensures number { IfOk result (λ found. IfSome found (λ line. line.number ≡ self.old.given + 1)) }
-        ensures short { IfOk result (λ found. IfSome found (λ line. length line.bytes.items ≤ self.old.line_max)) }
-        ensures counted { IfOk result (λ found. OnSome found ((self.new.given ≡ self.old.given + 1)
-            × (self.new.line_max ≡ self.old.line_max))) }
-        ensures end { IfOk result (λ found. IfNone found (self.old.held ≡ [])) }
+        ensures answer { Answers self.old self.new [] result }
+        ensures reads { Reads self.old self.new [] }
+        ensures same { (self.new.turns ≡ self.old.turns) × (self.new.ended ≡ self.old.ended) }
         ensures work { IfOk result (λ found. OnSome found (work self.new < work self.old)) }
-        ensures too_long { (n : ℕ) → result ≡ Err (LineError.LineTooLong n)
-            → (n ≡ self.old.given + 1) × ((left : List ℕ) → IsTooLong self.old left) }
         ensures other { (result ≢ Err LineError.OutOfTurns) × (result ≢ Err LineError.ReadFault) }
     {
         let count = self.held_len();
@@ -168,8 +164,7 @@ impl LineReader {
     fn too_long(&self) -> LineError
         requires whole { None ≡ position (λ b. b == 10) self.now.held }
         requires long { self.now.line_max < length self.now.held }
-        ensures too_long { (n : ℕ) → result ≡ LineError.LineTooLong n
-            → (n ≡ self.now.given + 1) × ((left : List ℕ) → IsTooLong self.now left) }
+        ensures answer { Answers self.now self.now [] (Err result) }
         ensures other { (result ≢ LineError.OutOfTurns) × (result ≢ LineError.ReadFault) }
     {
         match self.next_number() {
@@ -181,11 +176,16 @@ impl LineReader {
     /// Reads once.
     fn fill<S: Source>(&mut self, source: &mut S) -> Result<(), LineError>
         requires { self.old.ended ≡ false }
-        ensures read { OnOk result ((left : List ℕ) → S.left source.old ≡ Some left
-            → (now : List ℕ) × (S.left source.new ≡ Some now) × ReadsOn self.old self.new left now) }
+        ensures took { (gave : List ℕ) × TakesOff (S.left source.old) gave (S.left source.new)
+            × Reads self.old self.new gave × (self.new.held ≡ self.old.held ++ gave) }
+        ensures at_end { self.new.ended ≡ true → IsSpent (S.left source.old) (S.left source.new) }
         ensures same { (self.new.given ≡ self.old.given) × (self.new.line_max ≡ self.old.line_max) }
         ensures work { OnOk result (work self.new < work self.old) }
+        ensures pieces { S.pieces source.new ≡ count_after (S.pieces source.old) (self.old.turns - self.new.turns) }
+        ensures reads { OnOk result (self.new.ended ≡ false → S.reads source.new ≡ count_after (S.reads source.old) (self.old.turns - self.new.turns)) }
         ensures out_of_turns { result ≡ Err LineError.OutOfTurns → self.old.turns ≡ 0 }
+        ensures err { OnErr result (self.new ≡ self.old) }
+        ensures unread { result ≢ Err LineError.ReadFault → OnErr result (source.new ≡ source.old) }
         ensures read_fault { result ≡ Err LineError.ReadFault → HasRisen (S.faults source.old) (S.faults source.new) }
         ensures other { (n : ℕ) → result ≢ Err (LineError.LineTooLong n) }
         ensures later { S.faults source.old ≤ S.faults source.new }
@@ -193,42 +193,37 @@ impl LineReader {
         if self.turns == 0 {
             return Err(LineError::OutOfTurns);
         }
-        let mut piece = [0u8; PIECE];
-        let Ok(count) = source.read(&mut piece) else {
-            return Err(LineError::ReadFault);
-        };
-        if count == 0 {
+        if self.held.read_from(source)? == 0 {
             self.ended = true;
-            return Ok(());
+        } else {
+            self.turns -= 1;
         }
-        self.turns -= 1;
-        self.held.extend(&piece[..count])?;
         Ok(())
     }
 
-    /// The next line of the bytes that the source gives, without its line feed; `None` when all were given. A last
-    /// rest without a line feed is a line.
+    /// The next line of the bytes that the source gives, without its line feed; `None` when all were given, and ever
+    /// after. A last rest without a line feed is a line. Where a whole line is held, nothing is read.
+    ///
+    /// # Errors
+    ///
+    /// `ReadFault` where the source failed, `LineTooLong` where the line has more bytes than it may have, `OutOfTurns` where
+    /// no read that gives bytes is left, and `NoMemory`. No byte that was read is lost.
     pub fn next<S: Source>(&mut self, source: &mut S) -> Result<Option<Line>, LineError>
-        ensures line { IfOk result (λ found. IfSome found (λ line. (left : List ℕ) → S.left source.old ≡ Some left
-            → HasSeen self.old left → (now : List ℕ) × (S.left source.new ≡ Some now)
-            × GivesLine self.old self.new left now line.number line.bytes.items)) }
-        ensures number { IfOk result (λ found. IfSome found (λ line. line.number ≡ self.old.given + 1)) }
-        ensures short { IfOk result (λ found. IfSome found (λ line. length line.bytes.items ≤ self.old.line_max)) }
-        ensures counted { IfOk result (λ found. OnSome found ((self.new.given ≡ self.old.given + 1)
-            × (self.new.line_max ≡ self.old.line_max))) }
-        ensures end { IfOk result (λ found. IfNone found ((left : List ℕ) → S.left source.old ≡ Some left
-            → HasSeen self.old left → (self.old.held ++ left ≡ []) × (S.left source.new ≡ Some []))) }
-        ensures too_long { (n : ℕ) → result ≡ Err (LineError.LineTooLong n) → (n ≡ self.old.given + 1)
-            × ((left : List ℕ) → S.left source.old ≡ Some left → HasSeen self.old left → IsTooLong self.old left) }
-        ensures out_of_turns { result ≡ Err LineError.OutOfTurns → (left : List ℕ) → S.left source.old ≡ Some left
-            → HasSeen self.old left → self.old.turns ≤ length left }
+        ensures answer { (gave : List ℕ) × TakesOff (S.left source.old) gave (S.left source.new)
+            × Reads self.old self.new gave × Answers self.old self.new gave result }
+        ensures at_end { IsAtEnd self.old (S.left source.old) → self.new.ended ≡ true → IsSpent (S.left source.old) (S.left source.new) }
+        ensures still { self.old.ended ≡ true → source.new ≡ source.old }
+        ensures held { is_some (position (λ b. b == 10) self.old.held) ≡ true → source.new ≡ source.old }
+        ensures pieces { S.pieces source.new ≡ count_after (S.pieces source.old) (self.old.turns - self.new.turns) }
+        ensures reads { result ≢ Err LineError.ReadFault → self.new.ended ≡ false
+            → S.reads source.new ≡ count_after (S.reads source.old) (self.old.turns - self.new.turns) }
         ensures read_fault { result ≡ Err LineError.ReadFault → HasRisen (S.faults source.old) (S.faults source.new) }
         ensures later { S.faults source.old ≤ S.faults source.new }
         ensures work { IfOk result (λ found. OnSome found (work self.new < work self.old)) }
     {
         'reads: loop {
             if let Some(place) = self.find_line_feed() {
-                return Ok(Some(self.give_line(place)?));
+                return self.give_line(place);
             }
             if self.held_len() > self.line_max as usize {
                 return Err(self.too_long());

@@ -1,33 +1,24 @@
-use Rattle.zs_script.proofs.FirstLine.{long-before, number-before, same-error}
+use Rattle.std.proofs.Common.{Err}
+use Rattle.zs_script.proofs.Answering.{answers-on, reads-none}
 use Rattle.zs_script.proofs.reader.LineReader.next.Goals as goal
 
-pub returns-in_err-give_line-clause-too_long : goal.returns-in_err-give_line-clause-too_long
-returns-in_err-give_line-clause-too_long g c = λ n e.
-    let long = c.give_line.ensures.too_long n
-    (same-error c.give_line.result c.from_residual.result _ _ c.in_err-give_line.was c.from_residual.ensures.1 e) in
-    let same = c.find_line_feed.ensures.same in
-    let loop = c.reads.invariant in (
-      number-before c.args.self.now c.reads.self c.find_line_feed.new.self n same loop.given long.0,
-      λ left is seen. let read = loop.read left is seen in
-          long-before c.args.self.now c.reads.self c.find_line_feed.new.self left read.0 same read.2 loop.line_max (long.1 read.0),
-    )
+pub returns-in-Some-clause-answer : goal.returns-in-Some-clause-answer
+returns-in-Some-clause-answer g c =
+    let loop = c.reads.invariant in
+    let on = answers-on c.args.self.now c.reads.self c.find_line_feed.new.self c.give_line.new.self loop.read.0 c.give_line.result
+    c.find_line_feed.ensures.same loop.read.3 loop.given loop.line_max loop.read.2 c.give_line.ensures.reads c.give_line.ensures.answer in
+    (loop.read.0, loop.read.1, on.0, on.1)
 
-pub returns-then-held_len-self-clause-too_long : goal.returns-then-held_len-self-clause-too_long
-returns-then-held_len-self-clause-too_long g c = λ n e.
-    let long = c.too_long.ensures.too_long n cc in
-    let same = c.find_line_feed.ensures.same in
-    let loop = c.reads.invariant in (
-      number-before c.args.self.now c.reads.self c.find_line_feed.new.self n same loop.given long.0,
-      λ left is seen. let read = loop.read left is seen in
-          long-before c.args.self.now c.reads.self c.find_line_feed.new.self left read.0 same read.2 loop.line_max (long.1 read.0),
-    )
+pub returns-then-held_len-self-clause-answer : goal.returns-then-held_len-self-clause-answer
+returns-then-held_len-self-clause-answer g c =
+    let loop = c.reads.invariant in
+    let on = answers-on c.args.self.now c.reads.self c.find_line_feed.new.self c.find_line_feed.new.self loop.read.0 (Err c.too_long.result)
+    c.find_line_feed.ensures.same loop.read.3 loop.given loop.line_max loop.read.2 (reads-none c.find_line_feed.new.self) c.too_long.ensures.answer in
+    (loop.read.0, loop.read.1, on.0, on.1)
 
-pub returns-clause-too_long : goal.returns-clause-too_long
-returns-clause-too_long g c = λ n e.
-    let long = c.give_rest.ensures.too_long n e in
-    let same = c.find_line_feed.ensures.same in
-    let loop = c.reads.invariant in (
-      number-before c.args.self.now c.reads.self c.find_line_feed.new.self n same loop.given long.0,
-      λ left is seen. let read = loop.read left is seen in
-          long-before c.args.self.now c.reads.self c.find_line_feed.new.self left read.0 same read.2 loop.line_max (long.1 read.0),
-    )
+pub returns-clause-answer : goal.returns-clause-answer
+returns-clause-answer g c =
+    let loop = c.reads.invariant in
+    let on = answers-on c.args.self.now c.reads.self c.find_line_feed.new.self c.give_rest.new.self loop.read.0 c.give_rest.result
+    c.find_line_feed.ensures.same loop.read.3 loop.given loop.line_max loop.read.2 c.give_rest.ensures.reads c.give_rest.ensures.answer in
+    (loop.read.0, loop.read.1, on.0, on.1)
