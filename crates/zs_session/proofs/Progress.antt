@@ -1,28 +1,26 @@
-use Rattle.std.proofs.Common.{◌≡◌, ℕ, suc, ◌+◌, ◌≤◌, List, [], ◌∷◌, ◌++◌, length, true, false, Option, Some, None, refl, sym, ◌∙◌, ap, subst, append_assoc, length-append, arith}
-use Rattle.std.specs.Prelude.{◌&&◌, nat_le, Result, Err, IsErrAnd}
+-- How far a run has come, and what each exit of its loop says.
+use Rattle.std.proofs.Common.{◌≡◌, ℕ, suc, ◌+◌, ◌-◌, ◌≤◌, List, [], ◌∷◌, ◌++◌, length, Bool, true, false, Option, Some, None, refl, sym, ◌∙◌, ap, subst, append_assoc, length-append, arith}
+use Rattle.std.specs.Prelude.{◌&&◌, nat_le, Result, Ok, Err, IsErrAnd}
 use Rattle.std.proofs.lemmas.List.{append-nil}
 use Rattle.std.proofs.lemmas.List.Elements.{filter_map-append}
 use Rattle.std.proofs.lemmas.Bool.Decides.{nat_tests}
-use Rattle.zs_keys.specs.Stream.{PutsOn}
+use Rattle.zs_keys.specs.Stream.{PutsOn, TakesOff, HoldsNothing, count_after}
 use Rattle.zs_core.specs.declared.event.Event.{Event}
 use Rattle.zs_core.specs.declared.event.Event.TheVariants.{Close}
 use Rattle.zs_core.specs.declared.settings.Settings.{Settings}
 use Rattle.zs_core.specs.World.{World}
-use Rattle.zs_core.specs.Stands.{world_after, effects}
+use Rattle.zs_core.specs.Effects.{effects}
+use Rattle.zs_core.specs.Stands.{world_after}
 use Rattle.zs_core.proofs.Filters.{all_append}
 use Rattle.zs_script.specs.Lines.{lines}
 use Rattle.zs_script.specs.Grammar.{event_of}
 use Rattle.zs_script.specs.Printing.{turn_text}
-use Rattle.zs_script.specs.Reading.{Reading, HasSeen, GivesLine, IsTooLong}
+use Rattle.zs_script.specs.Reading.{Reading, Reads, IsAtEnd, IsSpent, GivesLine, IsTooLong}
 use Rattle.zs_script.specs.Writing.{PutsFrontOn}
+use Rattle.zs_script.proofs.Answering.{takes-two, count-none, count-two}
+use Rattle.zs_script.proofs.Pieces.{both-pieces}
 use Rattle.zs_session.specs.Script.{is_good, events_of, script, text_after, text}
-use Rattle.zs_session.specs.Driving.{IsDone, IsFront, StopsAt, IsNoEvent, IsLong, AreGood}
-use Rattle.zs_script.specs.declared.reader.LineError.{LineError}
-use Rattle.zs_script.specs.declared.reader.LineError.TheVariants.{ReadFault as read_fault, LineTooLong as long_line, OutOfTurns as out_of_turns, NoMemory as no_memory}
-use Rattle.zs_session.specs.declared.driving.Driven.{Driven}
-use Rattle.zs_session.specs.declared.errors.DriveError.{DriveError}
-use Rattle.zs_session.specs.declared.errors.DriveError.TheVariants.{LineTooLong, OutOfTurns}
-use Rattle.zs_session.specs.Errors.{drive_error}
+use Rattle.zs_session.specs.Driving.{AreGood, BeginsWith, HasRead, HasSpentTurns, IsDone, IsFront, NextIs, StopsAt, IsNoEvent, IsLong, PutsWaiting, Supply}
 use Rattle.zs_session.proofs.Scripts.{script_told}
 
 -- the history that events leave behind another; a history has its newest event first
@@ -30,35 +28,20 @@ abbrev pub history_after : List Event → List Event → List Event
 history_after h [] = h
 history_after h (e ∷ es) = history_after (e ∷ h) es
 
--- how far a run has come: `read` are the lines that it took, and `now` is what the source still holds
-pub record Progress (s : Settings) (input taken : List ℕ) (reader : Reading) (left written : Option (List ℕ)) (state : World) (number : ℕ) : Type 0 where
+-- a reader that has read nothing yet
+abbrev pub fresh : Settings → Reading
+fresh s = record { held = []; ended = false; turns = s.turns; given = 0; line_max = s.line_max }
+
+-- how far a run has come: `read` are the lines that it took
+pub record Progress (s : Settings) (left left' : Option (List ℕ)) (reader : Reading) (Puts : List ℕ → Type 0) (state : World) (number : ℕ) : Type 0 where
   pub read : List (List ℕ)
-  pub now : List ℕ
-  pub holds : left ≡ Some now
-  pub come : lines input ≡ read ++ lines (reader.held ++ now)
-  pub good : AreGood s.line_max read
+  pub source : HasRead s left left' reader.ended read reader.held
   pub stands : state ≡ world_after s (history_after [] (events_of read))
-  pub output : written ≡ Some (taken ++ text s (events_of read))
+  pub output : Puts (text s (events_of read))
   pub count : number ≡ length read
   pub given : reader.given ≡ length read
-  pub seen : HasSeen reader now
   pub line_max : reader.line_max ≡ s.line_max
-
--- how far a run has read, whatever its sink tells: each read took a turn and gave at least one byte
-pub record Reads (s : Settings) (input : List ℕ) (reader : Reading) (left : Option (List ℕ)) : Type 0 where
-  pub now : List ℕ
-  pub holds : left ≡ Some now
-  pub seen : HasSeen reader now
-  pub turns : length now + s.turns ≤ length input + reader.turns
-
-pub reads_begun : (s : Settings) (input : List ℕ) (left : Option (List ℕ)) → left ≡ Some input
-    → Reads s input (record { held = []; ended = false; turns = s.turns; given = 0; line_max = s.line_max }) left
-reads_begun s input left holds = record { now = input; holds = holds; seen = λ ended. cc; turns = omega arith }
-
-pub reads_on : (s : Settings) (input : List ℕ) (old new : Reading) (left left' : Option (List ℕ)) (r : Reads s input old left)
-    (now : List ℕ) (place : ℕ) (bytes : List ℕ) → left' ≡ Some now → GivesLine old new r.now now place bytes → Reads s input new left'
-reads_on s input old new left left' r now place bytes holds g =
-    record { now = now; holds = holds; seen = g.seen; turns = omega (arith, g.turns, r.turns) }
+  pub turns : s.turns ≤ length source.gave + reader.turns
 
 text_after-append : (s : Settings) (h es fs : List Event) → text_after s h (es ++ fs) ≡ text_after s h es ++ text_after s (history_after h es) fs
 text_after-append s h [] fs = refl
@@ -99,196 +82,254 @@ text_push s es e place same =
     ∙ ap (λ (more : List ℕ). text s es ++ more) (append-nil (turn_text (length (history_after [] es) + 1) (effects s (history_after [] es) e))
     ∙ ap (λ (n : ℕ). turn_text n (effects s (history_after [] es) e)) (omega (arith, same, length-history [] es)))
 
--- at the start nothing was taken
-pub begun : (s : Settings) (input taken : List ℕ) (left written : Option (List ℕ)) → left ≡ Some input → written ≡ Some taken
-    → Progress s input taken (record { held = []; ended = false; turns = s.turns; given = 0; line_max = s.line_max }) left written (world_after s []) 0
-begun s input taken left written holds output = record {
-  read = [];
-  now = input;
-  holds = holds;
-  come = refl;
+-- a source that gave nothing yet
+takes-nothing : (left : Option (List ℕ)) → TakesOff left [] left
+takes-nothing None = tt
+takes-nothing (Some held) = (held, refl, refl)
+
+none_read : (s : Settings) (left : Option (List ℕ)) → HasRead s left left false [] []
+none_read s left = record {
+  gave = [];
+  source = takes-nothing left;
+  spent = λ ended. cc;
+  cut = λ more follows. refl;
   good = tt;
-  stands = refl;
-  output = output ∙ ap (λ (bytes : List ℕ). Some bytes) (sym (append-nil taken));
-  count = refl;
-  given = refl;
-  seen = λ ended. cc;
-  line_max = refl;
 }
 
--- what one more line adds to those that were read
-module _ (s : Settings) (input taken : List ℕ) (old new : Reading) (left left' written written' : Option (List ℕ)) (state : World) (number place : ℕ) (bytes : List ℕ)
-    (p : Progress s input taken old left written state number) (now : List ℕ) (holds : left' ≡ Some now) (g : GivesLine old new p.now now place bytes) where
-  come_on : lines input ≡ (p.read ++ bytes ∷ []) ++ lines (new.held ++ now)
-  come_on = p.come ∙ ap (λ more. p.read ++ more) g.line ∙ sym (append_assoc p.read (bytes ∷ []) (lines (new.held ++ now)))
+-- at the start nothing was taken
+pub begun : (s : Settings) (left : Option (List ℕ)) (Puts : List ℕ → Type 0) → Puts []
+    → Progress s left left (fresh s) Puts (world_after s []) 0
+begun s left Puts put = record {
+  read = [];
+  source = none_read s left;
+  stands = refl;
+  output = put;
+  count = refl;
+  given = refl;
+  line_max = refl;
+  turns = omega arith;
+}
 
-  come_to : lines input ≡ p.read ++ bytes ∷ lines (new.held ++ now)
-  come_to = p.come ∙ ap (λ more. p.read ++ more) g.line
+-- nothing was read, and nothing put out
+pub front_none : (s : Settings) (left : Option (List ℕ)) (Puts : List ℕ → Type 0) → Puts [] → IsFront s left left Puts
+front_none s left Puts put = record {
+  read = [];
+  part = [];
+  ended = false;
+  closed = false;
+  output = [];
+  missing = [];
+  source = none_read s left;
+  all = λ closed. cc;
+  sink = put;
+  front = refl;
+}
 
+-- the end of a source that tells is seen where it holds nothing
+pub spent_next : (left mid new : Option (List ℕ)) (gave : List ℕ) (before after : Bool) → TakesOff left gave mid
+    → (before ≡ true → IsSpent left mid) → ((before ≡ true → HoldsNothing mid) → after ≡ true → IsSpent mid new)
+    → after ≡ true → IsSpent left new
+spent_next None mid new gave before after took spent next ended = tt
+spent_next (Some held) mid new gave before after took spent next ended =
+    let P : Option (List ℕ) → Type 0 = λ o. (before ≡ true → IsSpent (Some held) o) → ((before ≡ true → HoldsNothing o) → after ≡ true → IsSpent o new) → IsSpent (Some held) new in
+    subst P (sym took.2) (λ is then. then (λ b. let e : Some took.0 ≡ Some [] = is b in cc) ended) spent next
+
+-- what was read with the bytes of one call more, of which no line was taken yet
+abbrev pub read_on : (s : Settings) (left mid new : Option (List ℕ)) (old after : Reading) (read : List (List ℕ)) (given : List ℕ)
+    → HasRead s left mid old.ended read old.held → TakesOff mid given new → Reads old after given
+    → (IsAtEnd old mid → after.ended ≡ true → IsSpent mid new)
+    → HasRead s left new after.ended read (old.held ++ given)
+read_on s left mid new old after read given has took reads end = record {
+  gave = has.gave ++ given;
+  source = takes-two left mid new has.gave given has.source took;
+  spent = spent_next left mid new has.gave old.ended after.ended has.source has.spent end;
+  cut = λ more follows.
+      ap lines (append_assoc has.gave given more)
+      ∙ has.cut (given ++ more) (λ ended. let behind = reads.behind ended in rw (behind.0, follows behind.1) refl)
+      ∙ ap (λ bytes. read ++ lines bytes) (sym (append_assoc old.held given more));
+  good = has.good;
+}
+
+-- what one line more adds to those that were read
+module _ (s : Settings) (left mid new : Option (List ℕ)) (old after : Reading) (Puts : List ℕ → Type 0) (state : World) (number place : ℕ) (bytes : List ℕ)
+    (p : Progress s left mid old Puts state number) (given : List ℕ) (took : TakesOff mid given new) (reads : Reads old after given)
+    (end : IsAtEnd old mid → after.ended ≡ true → IsSpent mid new) (g : GivesLine old after given place bytes) where
   short : length bytes ≤ s.line_max
   short = omega (arith, g.short, p.line_max)
 
   place_is : place ≡ length p.read + 1
   place_is = omega (arith, g.number, p.given)
 
-  pub history : List Event
-  history = history_after [] (events_of p.read)
+  abbrev has : HasRead s left new after.ended p.read (old.held ++ given)
+  has = read_on s left mid new old after p.read given p.source took reads end
 
   text_on : (e : Event) → event_of bytes ≡ Some e → text s (events_of (p.read ++ bytes ∷ [])) ≡ text s (events_of p.read) ++ turn_text place (effects s (history_after [] (events_of p.read)) e)
   text_on e found =
       ap (λ (es : List Event). text s es) (events_push p.read bytes e found)
-      ∙ text_push s (events_of p.read) e place (omega (arith, place_is, length-events s.line_max p.read p.good))
-
-  good_on : (e : Event) → event_of bytes ≡ Some e → AreGood s.line_max (p.read ++ bytes ∷ [])
-  good_on e found = all_append (λ row. is_good s.line_max row ≡ true) p.read (bytes ∷ []) p.good (good_row s.line_max bytes e found short, tt)
+      ∙ text_push s (events_of p.read) e place (omega (arith, place_is, length-events s.line_max p.read p.source.good))
 
   -- the line is an event, which was taken
-  pub went_on : (e : Event) (after : World) → event_of bytes ≡ Some e → after ≡ world_after s (e ∷ history_after [] (events_of p.read))
-      → PutsOn written (turn_text place (effects s (history_after [] (events_of p.read)) e)) written'
-      → Progress s input taken new left' written' after place
-  went_on e after found stands put =
-      let put' : PutsOn (Some (taken ++ text s (events_of p.read))) (turn_text place (effects s (history_after [] (events_of p.read)) e)) written' =
-      subst (λ (w : Option (List ℕ)). PutsOn w (turn_text place (effects s (history_after [] (events_of p.read)) e)) written') p.output put in
-      record {
-        read = p.read ++ bytes ∷ [];
-        now = now;
-        holds = holds;
-        come = come_on;
-        good = good_on e found;
-        stands = stands ∙ ap (λ (h : List Event). world_after s h) (sym (ap (λ (es : List Event). history_after [] es) (events_push p.read bytes e found) ∙ history-push [] (events_of p.read) e));
-        output = put' ∙ ap (λ (b : List ℕ). Some b) (append_assoc taken (text s (events_of p.read)) _ ∙ ap (λ (b : List ℕ). taken ++ b) (sym (text_on e found)));
-        count = place_is ∙ sym (length-append p.read (bytes ∷ []));
-        given = g.given ∙ omega (arith, p.given, length-append p.read (bytes ∷ []));
-        seen = g.seen;
-        line_max = g.line_max ∙ p.line_max;
-      }
-
-  -- the line is an event, and a front of its turn was written
-  pub part_written : (e : Event) → event_of bytes ≡ Some e
-      → PutsFrontOn written (turn_text place (effects s (history_after [] (events_of p.read)) e)) written'
-      → IsFront s input taken written'
-  part_written e found put =
-      let put' : PutsOn (Some (taken ++ text s (events_of p.read))) put.0 written' = subst (λ (w : Option (List ℕ)). PutsOn w put.0 written') p.output put.3 in
-      record {
-        output = text s (events_of p.read) ++ put.0;
-        missing = put.1;
-        read = p.read ++ bytes ∷ [];
-        unread = lines (new.held ++ now);
-        ended = false;
-        cut = come_on;
-        all = λ e. cc;
-        good = good_on e found;
-        sink = put' ∙ ap (λ (b : List ℕ). Some b) (append_assoc taken (text s (events_of p.read)) put.0);
-        front = append_assoc (text s (events_of p.read)) put.0 put.1 ∙ ap (λ (b : List ℕ). text s (events_of p.read) ++ b) (sym put.2)
-            ∙ sym (text_on e found) ∙ ap (λ (es : List Event). text s es) (sym (append-nil (events_of (p.read ++ bytes ∷ []))));
-      }
+  pub went_on : (Puts' : List ℕ → Type 0) (e : Event) (then : World) → event_of bytes ≡ Some e → then ≡ world_after s (e ∷ history_after [] (events_of p.read))
+      → (Puts (text s (events_of p.read)) → Puts' (text s (events_of p.read) ++ turn_text place (effects s (history_after [] (events_of p.read)) e)))
+      → Progress s left new after Puts' then place
+  went_on Puts' e then found stands put = record {
+    read = p.read ++ bytes ∷ [];
+    source = record {
+      gave = has.gave;
+      source = has.source;
+      spent = has.spent;
+      cut = λ more follows.
+          has.cut more follows
+          ∙ ap (λ rows. p.read ++ rows) (ap lines (append_assoc old.held given more) ∙ g.line more follows)
+          ∙ sym (append_assoc p.read (bytes ∷ []) (lines (after.held ++ more)));
+      good = all_append (λ row. is_good s.line_max row ≡ true) p.read (bytes ∷ []) p.source.good (good_row s.line_max bytes e found short, tt);
+    };
+    stands = stands ∙ ap (λ (h : List Event). world_after s h) (sym (ap (λ (es : List Event). history_after [] es) (events_push p.read bytes e found) ∙ history-push [] (events_of p.read) e));
+    output = subst Puts' (sym (text_on e found)) (put p.output);
+    count = place_is ∙ sym (length-append p.read (bytes ∷ []));
+    given = g.given ∙ omega (arith, p.given, length-append p.read (bytes ∷ []));
+    line_max = g.line_max ∙ p.line_max;
+    turns = omega (arith, p.turns, reads.bytes, length-append p.source.gave given);
+  }
 
   -- the line is no event
-  pub stopped : event_of bytes ≡ None → StopsAt s input taken written place (IsNoEvent s.line_max)
+  pub stopped : event_of bytes ≡ None → StopsAt s left new Puts place (IsNoEvent s.line_max)
   stopped none = record {
     read = p.read;
-    row = bytes;
-    unread = lines (new.held ++ now);
-    cut = come_to;
-    good = p.good;
+    part = old.held ++ given;
+    ended = after.ended;
+    source = has;
     place = place_is;
-    cause = (short, none);
+    cause = λ more follows. (bytes, lines (after.held ++ more), ap lines (append_assoc old.held given more) ∙ g.line more follows, (short, none));
     sink = p.output;
   }
 
--- what was written is the whole text of the lines that were read
-pub front_whole : (s : Settings) (input taken : List ℕ) (reader : Reading) (left written : Option (List ℕ)) (state : World) (number : ℕ)
-    → Progress s input taken reader left written state number → IsFront s input taken written
-front_whole s input taken reader left written state number p = record {
-  output = text s (events_of p.read);
-  missing = [];
+-- what was read and not taken
+module _ (s : Settings) (left mid new : Option (List ℕ)) (old after : Reading) (Puts : List ℕ → Type 0) (state : World) (number : ℕ)
+    (p : Progress s left mid old Puts state number) (given : List ℕ) (took : TakesOff mid given new) (reads : Reads old after given)
+    (end : IsAtEnd old mid → after.ended ≡ true → IsSpent mid new) where
+  -- all that was taken was put out
+  pub front_read : IsFront s left new Puts
+  front_read = record {
+    read = p.read;
+    part = old.held ++ given;
+    ended = after.ended;
+    closed = false;
+    output = text s (events_of p.read);
+    missing = [];
+    source = read_on s left mid new old after p.read given p.source took reads end;
+    all = λ closed. cc;
+    sink = p.output;
+    front = append-nil (text s (events_of p.read)) ∙ ap (λ (es : List Event). text s es) (sym (append-nil (events_of p.read)));
+  }
+
+  -- the next line is too long
+  pub stopped_long : (place : ℕ) → place ≡ old.given + 1 → IsTooLong old given → StopsAt s left new Puts place (IsLong s.line_max)
+  stopped_long place same long = record {
+    read = p.read;
+    part = old.held ++ given;
+    ended = after.ended;
+    source = read_on s left mid new old after p.read given p.source took reads end;
+    place = omega (arith, same, p.given);
+    cause = λ more follows. let first = long more in
+        (first.0, first.1, ap lines (append_assoc old.held given more) ∙ first.2, omega (arith, first.3, p.line_max));
+    sink = p.output;
+  }
+
+  -- the turns were spent
+  pub spent_turns : after.turns ≡ 0 → (gave : List ℕ) × TakesOff left gave new × (s.turns ≤ length gave)
+  spent_turns none = (
+    p.source.gave ++ given,
+    takes-two left mid new p.source.gave given p.source.source took,
+    omega (arith, p.turns, reads.bytes, none, length-append p.source.gave given),
+  )
+
+  -- all lines were read, and the close was taken
+  module _ (Puts' : List ℕ → Type 0) (empty : old.held ++ given ≡ []) (ended : after.ended ≡ true)
+      (put : Puts (text s (events_of p.read)) → Puts' (text s (events_of p.read) ++ turn_text (number + 1) (effects s (history_after [] (events_of p.read)) Close))) where
+    has_all : HasRead s left new true p.read []
+    has_all =
+        let P : Bool → Type 0 = λ b. HasRead s left new b p.read (old.held ++ given) in
+        let Q : List ℕ → Type 0 = λ bytes. HasRead s left new true p.read bytes in
+        subst Q empty (subst P ended (read_on s left mid new old after p.read given p.source took reads end))
+
+    all_read : lines has_all.gave ≡ p.read
+    all_read = ap lines (sym (append-nil has_all.gave)) ∙ has_all.cut [] (λ b. refl) ∙ append-nil p.read
+
+    text_closed : text s (events_of p.read ++ Close ∷ []) ≡ text s (events_of p.read) ++ turn_text (number + 1) (effects s (history_after [] (events_of p.read)) Close)
+    text_closed = text_push s (events_of p.read) Close (number + 1) (omega (arith, p.count, length-events s.line_max p.read p.source.good))
+
+    pub closed : IsDone s left new Puts' (number + 1)
+    closed = record {
+      input = has_all.gave;
+      output = text s (script has_all.gave);
+      source = has_all.source;
+      spent = has_all.spent refl;
+      good = rw all_read p.source.good;
+      sink = subst Puts' (sym text_closed ∙ ap (λ (rows : List (List ℕ)). text s (events_of rows ++ Close ∷ [])) (sym all_read)) (put p.output);
+      whole = refl;
+      tells = script_told s has_all.gave;
+      events = omega (arith, p.count, ap (λ (rows : List (List ℕ)). length rows) all_read);
+    }
+
+    pub front_closed : IsFront s left new Puts'
+    front_closed = record {
+      read = p.read;
+      part = [];
+      ended = true;
+      closed = true;
+      output = text s (events_of p.read ++ Close ∷ []);
+      missing = [];
+      source = has_all;
+      all = λ closed. (refl, refl);
+      sink = subst Puts' (sym text_closed) (put p.output);
+      front = append-nil (text s (events_of p.read ++ Close ∷ []));
+    }
+
+-- what waited was written in part
+pub front_written : (s : Settings) (left mid : Option (List ℕ)) (reader : Reading) (state : World) (number : ℕ) (old written new : Option (List ℕ)) (waiting : List ℕ)
+    (p : Progress s left mid reader (PutsWaiting old waiting written) state number) → PutsFrontOn written waiting new
+    → IsFront s left mid (PutsWaiting old [] new)
+front_written s left mid reader state number old written new waiting p put = record {
   read = p.read;
-  unread = lines (reader.held ++ p.now);
-  ended = false;
-  cut = p.come;
-  all = λ e. cc;
-  good = p.good;
-  sink = p.output;
-  front = append-nil (text s (events_of p.read)) ∙ ap (λ (es : List Event). text s es) (sym (append-nil (events_of p.read)));
+  part = reader.held;
+  ended = reader.ended;
+  closed = false;
+  output = p.output.0 ++ put.0;
+  missing = put.1;
+  source = p.source;
+  all = λ closed. cc;
+  sink = (p.output.0 ++ put.0, sym (append-nil (p.output.0 ++ put.0)), both-pieces old written new p.output.0 put.0 p.output.2 put.3);
+  front = append_assoc p.output.0 put.0 put.1 ∙ ap (λ (b : List ℕ). p.output.0 ++ b) (sym put.2) ∙ sym p.output.1
+      ∙ ap (λ (es : List Event). text s es) (sym (append-nil (events_of p.read)));
 }
 
--- the next line is too long
-pub stopped_long : (s : Settings) (input taken : List ℕ) (reader : Reading) (left written : Option (List ℕ)) (state : World) (number place : ℕ)
-    (p : Progress s input taken reader left written state number) → place ≡ reader.given + 1 → IsTooLong reader p.now
-    → StopsAt s input taken written place (IsLong s.line_max)
-stopped_long s input taken reader left written state number place p same long = record {
+-- a turn waits behind what waited
+pub waits_on : (old : Option (List ℕ)) (waiting waiting' : List ℕ) (written : Option (List ℕ)) (output turn : List ℕ) → waiting' ≡ waiting ++ turn → PutsWaiting old waiting written output
+    → PutsWaiting old waiting' written (output ++ turn)
+waits_on old waiting waiting' written output turn more put =
+    (put.0, ap (λ (b : List ℕ). b ++ turn) put.1 ∙ append_assoc put.0 waiting turn ∙ ap (λ (b : List ℕ). put.0 ++ b) (sym more), put.2)
+
+-- the same progress, where what was put out is told of another moment
+pub told_of : (s : Settings) (left left' : Option (List ℕ)) (reader : Reading) (Puts Puts' : List ℕ → Type 0) (state : World) (number : ℕ)
+    → Progress s left left' reader Puts state number → ((output : List ℕ) → Puts output → Puts' output)
+    → Progress s left left' reader Puts' state number
+told_of s left left' reader Puts Puts' state number p put = record {
   read = p.read;
-  row = long.0;
-  unread = long.1;
-  cut = p.come ∙ ap (λ more. p.read ++ more) long.2;
-  good = p.good;
-  place = omega (arith, same, p.given);
-  cause = omega (arith, long.3, p.line_max);
-  sink = p.output;
+  source = p.source;
+  stands = p.stands;
+  output = put (text s (events_of p.read)) p.output;
+  count = p.count;
+  given = p.given;
+  line_max = p.line_max;
+  turns = p.turns;
 }
 
--- the turns ran out
-pub spent : (s : Settings) (input : List ℕ) (reader : Reading) (left : Option (List ℕ)) (r : Reads s input reader left)
-    → reader.turns ≤ length r.now → s.turns ≤ length input
-spent s input reader left r low = omega (arith, r.turns, low)
-
--- all lines were read
-module _ (s : Settings) (input taken : List ℕ) (reader : Reading) (left written written' : Option (List ℕ)) (state : World) (number : ℕ)
-    (p : Progress s input taken reader left written state number) (empty : reader.held ++ p.now ≡ []) where
-  all_read : lines input ≡ p.read
-  all_read = p.come ∙ ap (λ (bytes : List ℕ). p.read ++ lines bytes) empty ∙ append-nil p.read
-
-  text_closed : text s (events_of p.read ++ Close ∷ []) ≡ text s (events_of p.read) ++ turn_text (number + 1) (effects s (history_after [] (events_of p.read)) Close)
-  text_closed = text_push s (events_of p.read) Close (number + 1) (omega (arith, p.count, length-events s.line_max p.read p.good))
-
-  pub part_closed : PutsFrontOn written (turn_text (number + 1) (effects s (history_after [] (events_of p.read)) Close)) written' → IsFront s input taken written'
-  part_closed put =
-      let put' : PutsOn (Some (taken ++ text s (events_of p.read))) put.0 written' = subst (λ (w : Option (List ℕ)). PutsOn w put.0 written') p.output put.3 in
-      record {
-        output = text s (events_of p.read) ++ put.0;
-        missing = put.1;
-        read = p.read;
-        unread = [];
-        ended = true;
-        cut = all_read ∙ sym (append-nil p.read);
-        all = λ e. refl;
-        good = p.good;
-        sink = put' ∙ ap (λ (b : List ℕ). Some b) (append_assoc taken (text s (events_of p.read)) put.0);
-        front = append_assoc (text s (events_of p.read)) put.0 put.1 ∙ ap (λ (b : List ℕ). text s (events_of p.read) ++ b) (sym put.2) ∙ sym text_closed;
-      }
-
-  pub closed : (end : Option (List ℕ)) → end ≡ Some [] → PutsOn written (turn_text (number + 1) (effects s (history_after [] (events_of p.read)) Close)) written'
-      → IsDone s input taken end written' (number + 1)
-  closed end holds put =
-      let put' : PutsOn (Some (taken ++ text s (events_of p.read))) (turn_text (number + 1) (effects s (history_after [] (events_of p.read)) Close)) written' =
-      subst (λ (w : Option (List ℕ)). PutsOn w (turn_text (number + 1) (effects s (history_after [] (events_of p.read)) Close)) written') p.output put in
-      record {
-        output = text s (script input);
-        source = holds;
-        good = rw all_read p.good;
-        sink = put' ∙ ap (λ (b : List ℕ). Some b) (append_assoc taken (text s (events_of p.read)) _ ∙ ap (λ (b : List ℕ). taken ++ b) (sym text_closed
-            ∙ ap (λ (rows : List (List ℕ)). text s (events_of rows ++ Close ∷ [])) (sym all_read)));
-        whole = refl;
-        tells = script_told s input;
-        events = omega (arith, p.count, ap (λ (rows : List (List ℕ)). length rows) all_read);
-      }
-
--- which of the reader's errors an error of the run comes from
-pub error_from : (r : Result Driven DriveError) (line : LineError) (error : DriveError) → IsErrAnd r (λ e. e ≡ drive_error line) → r ≡ Err error → drive_error line ≡ error
-error_from r line error given same = let known : IsErrAnd {T = Driven} (Err error) (λ e. e ≡ drive_error line) = subst (λ (x : Result Driven DriveError). IsErrAnd x (λ e. e ≡ drive_error line)) same given in sym known
-
-pub long_from : (line : LineError) (number : ℕ) → drive_error line ≡ LineTooLong number → line ≡ long_line number
-long_from read_fault number same = cc
-long_from (long_line n) number same = cc
-long_from out_of_turns number same = cc
-long_from no_memory number same = cc
-
-pub turns_from : (line : LineError) → drive_error line ≡ OutOfTurns → line ≡ out_of_turns
-turns_from read_fault same = cc
-turns_from (long_line n) same = cc
-turns_from out_of_turns same = refl
-turns_from no_memory same = cc
-
-pub none_from : (o : Option Event) → ((e : Event) → o ≡ Some e → ⊥) → o ≡ None
-none_from None never = refl
-none_from (Some e) never = absurd (never e refl)
+-- the same progress, where the reader was asked and what waited was written if it was due
+pub due : (s : Settings) (left left' old : Option (List ℕ)) (reader reader' : Reading) (waiting waiting' : List ℕ) (written written' : Option (List ℕ))
+    (state : World) (number : ℕ) → reader' ≡ reader → Progress s left left' reader (PutsWaiting old waiting written) state number
+    → ((output : List ℕ) (o : Option (List ℕ)) → PutsWaiting o waiting written output → PutsWaiting o waiting' written' output)
+    → Progress s left left' reader' (PutsWaiting old waiting' written') state number
+due s left left' old reader reader' waiting waiting' written written' state number same p put =
+    let P : Reading → Type 0 = λ r. Progress s left left' r (PutsWaiting old waiting written) state number in
+    told_of s left left' reader' _ _ state number (subst P (sym same) p) (λ output was. put output old was)

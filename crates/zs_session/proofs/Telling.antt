@@ -1,46 +1,42 @@
-use Rattle.std.proofs.Common.{◌≡◌, ◌+◌, List, [], ◌∷◌, ◌++◌, length, Bool, true, false, Option, Some, None, IfSome, refl, sym, ◌∙◌, ap, inl, inr}
+-- The text of a script tells it: each turn's lines of refusals and hand-overs are those that tell its event.
+use Rattle.std.proofs.Common.{◌≡◌, ◌+◌, List, [], ◌∷◌, ◌++◌, length, Bool, true, false, Option, Some, None, IfSome, refl, sym, ◌∙◌, ap}
 use Rattle.std.specs.Prelude.{ℕ, if◌then◌else◌, encode_utf8_all, map, filter}
 use Rattle.std.specs.List.{AllByRecursion, flat_map}
 use Rattle.std.proofs.lemmas.List.Elements.{filter-append}
 use Rattle.zs_core.specs.declared.event.Event.{Event}
 use Rattle.zs_core.specs.declared.event.Event.TheVariants.{Undeclare, Put, NetPut, Close}
-use Rattle.zs_core.specs.declared.event.EntityKind.TheVariants.{Sub as sub_kind}
 use Rattle.zs_core.specs.declared.settings.Settings.{Settings}
-use Rattle.zs_tables.specs.declared.subscriber.SubRow.{SubRow}
 use Rattle.zs_core.specs.declared.turn.Answer.TheVariants.{Ok as accepted, Refused}
 use Rattle.zs_core.specs.declared.turn.Answer.{Answer}
-use Rattle.zs_core.specs.Keys.{key_of, wire_of}
-use Rattle.zs_sample.specs.declared.locality.Locality.{Locality}
-use Rattle.zs_sample.specs.declared.quality.QoSType.{QoSType}
-use Rattle.zs_core.specs.World.{World}
-use Rattle.zs_sample.specs.declared.sample.SampleFields.{SampleFields}
-use Rattle.zs_sample.specs.declared.locality.Locality.TheVariants.{Any}
-use Rattle.zs_sample.specs.Encoding.{encoding_of}
 use Rattle.zs_core.specs.declared.turn.Effect.{Effect}
 use Rattle.zs_core.specs.declared.turn.Effect.TheVariants.{Hand, End}
 use Rattle.zs_core.specs.declared.turn.HandOver.TheVariants.{Sample}
+use Rattle.zs_core.specs.declared.turn.Kind.{Kind}
 use Rattle.zs_core.specs.declared.turn.Kind.TheVariants.{Subscriber}
 use Rattle.zs_core.specs.declared.turn.Refusal.{Refusal}
 use Rattle.zs_core.specs.declared.turn.Turn.{Turn}
+use Rattle.zs_sample.specs.declared.sample_fields.SampleFields.{SampleFields}
+use Rattle.zs_sample.specs.Encoding.{encoding_of}
+use Rattle.zs_tables.specs.declared.subscriber.SubRow.{SubRow}
 use Rattle.zs_core.specs.Turn.{answered}
-use Rattle.zs_core.specs.Subscribers.{sub_ends}
-use Rattle.zs_core.specs.Publications.{Publication, allows, put_sample}
-use Rattle.zs_core.specs.Turns.{closed_cause, open_cause, number_for, text_for, publication_of, effects_of, put_of, hands_for}
-use Rattle.zs_core.specs.Past.{Entry, past_of, world_of, is_closed, subs}
+use Rattle.zs_core.specs.Kinds.{Content, row_of, kind_of}
+use Rattle.zs_core.specs.Entry.{Entry, is_closed}
+use Rattle.zs_core.specs.Held.{named_text}
 use Rattle.zs_core.specs.Live.{live_subs}
-use Rattle.zs_core.specs.Causes.{has_cause, Names}
-use Rattle.zs_core.specs.Stands.{effects}
-use Rattle.zs_core.proofs.Living.{numbered, table_is_live}
-use Rattle.zs_core.proofs.Holding.{AreDeclared, declared, IsTold, known_told, texts_are_named}
-use Rattle.zs_core.proofs.Causing.{refusals_have_causes}
+use Rattle.zs_core.specs.Subscribers.{sub_ends}
+use Rattle.zs_core.specs.Publications.{Publication, allows, sample_on}
+use Rattle.zs_core.specs.Seen.{Sight}
+use Rattle.zs_core.specs.Causes.{past_sight, holds, in_order, first_that, refusal_of}
+use Rattle.zs_core.specs.Past.{entry_of, past_of}
+use Rattle.zs_core.specs.Effects.{publication_on, publication_of, hands_for, effects_on, turn_of, effects}
 use Rattle.zs_script.specs.Lines.{lines}
 use Rattle.zs_script.specs.Printing.{line, turn_text, answer_fields, effect_fields}
-use Rattle.zs_script.specs.Plain.{is_plain, is_plain_key, is_plain_event}
+use Rattle.zs_script.specs.Plain.{is_plain, is_plain_named, is_plain_content, is_plain_event}
 use Rattle.zs_script.proofs.PlainTexts.{fields-found}
 use Rattle.zs_script.proofs.PlainEffects.{answers-plain, effects-plain}
 use Rattle.zs_session.specs.Script.{text_after}
-use Rattle.zs_session.specs.Telling.{plain_line, tells, tells_behind, is_telling, told, published, hand_lines, Tells, ToldAfter}
-use Rattle.zs_session.proofs.PlainKeys.{IsPlain, PlainTables, PlainEvents, plain_text, plain_wire, plain_keys}
+use Rattle.zs_session.specs.Telling.{plain_line, tells, tells_behind, is_telling, told, published, hand_lines, refusal_or, event_lines, lines_after}
+use Rattle.zs_session.proofs.PlainKeys.{IsPlain, PlainPast, PlainEvents, text_plain, past_plain}
 use Rattle.zs_session.proofs.Cutting.{ArePlain, both, lines_all}
 
 -- the fields of each line of a turn
@@ -78,40 +74,23 @@ ends_tell : (rows : List SubRow) → filter tells (map effect_fields (sub_ends r
 ends_tell [] = refl
 ends_tell (row ∷ rows) = ends_tell rows
 
-publication_told : (s : Settings) (past : List Entry) (n : ℕ) (o : Option Publication) → subs past ≡ live_subs past
-    → map (plain_line n) (filter tells (map effect_fields (hands_for (world_of s past) o))) ≡ hand_lines past n o
-publication_told s past n None live = refl
-publication_told s past n (Some p) live =
-    hands_tell n p (filter (allows p) (subs past))
-    ∙ ap (λ (rows : List SubRow). map (λ row. plain_line n (effect_fields (Hand (Sample Subscriber row.id p.sample)))) (filter (allows p) rows)) live
-
--- the publication that an event is, by the tables as by the events alone
-published_is : (s : Settings) (past : List Entry) (e : Event) → AreDeclared s past → IsTold past → publication_of (text_for (world_of s past) e) e ≡ published past e
-published_is s past e d t = ap (λ (text : Option (List ℕ)). publication_of text e) (texts_are_named s past e d t)
+publication_told : (past : List Entry) (n : ℕ) (o : Option Publication)
+    → map (plain_line n) (filter tells (map effect_fields (hands_for (live_subs past) o))) ≡ hand_lines past n o
+publication_told past n None = refl
+publication_told past n (Some p) = hands_tell n p (filter (allows p) (live_subs past))
 
 -- the effects of an accepted event tell its hand-overs
-effects_told : (s : Settings) (past : List Entry) (n : ℕ) (e : Event) → subs past ≡ live_subs past → AreDeclared s past → IsTold past
-    → map (plain_line n) (filter tells (map effect_fields (effects_of (world_of s past) e))) ≡ hand_lines past n (published past e)
-effects_told s past n (Put destination key payload encoding qos reliable) live d t =
-    publication_told s past n (publication_of (key_of (world_of s past) key) (Put destination key payload encoding qos reliable)) live
-    ∙ ap (hand_lines past n) (published_is s past (Put destination key payload encoding qos reliable) d t)
-effects_told s past n (NetPut wire payload encoding qos reliable) live d t =
-    publication_told s past n (publication_of (wire_of (world_of s past) wire) (NetPut wire payload encoding qos reliable)) live
-    ∙ ap (hand_lines past n) (published_is s past (NetPut wire payload encoding qos reliable) d t)
-effects_told s past n (Undeclare sub_kind id) live d t = refl
-effects_told s past n Close live d t = ap (map (plain_line n)) (ends_tell (subs past))
-effects_told s past n e live d t = refl
-
--- a refused turn tells its refusal
-refused_told : (s : Settings) (past : List Entry) (n : ℕ) (e : Event) (refusal : Refusal) (number : Option ℕ) (fx : List Effect)
-    → has_cause s past e refusal ≡ true → Tells s past n e (map (plain_line n) (filter tells (turn_rows (answered (Some refusal) number fx))))
-refused_told s past n e refusal number fx holds = inl (refusal, holds, refl)
+effects_told : (past : List Entry) (n : ℕ) (e : Event)
+    → map (plain_line n) (filter tells (map effect_fields (effects_on (live_subs past) (named_text past e) e))) ≡ hand_lines past n (published past e)
+effects_told past n (Undeclare kind id) = refl
+effects_told past n Close = ap (map (plain_line n)) (ends_tell (live_subs past))
+effects_told past n e = publication_told past n (published past e)
 
 -- a closed session that accepts an event publishes nothing
-shut_quiet : (past : List Entry) (n : ℕ) (e : Event) → closed_cause e ≡ None → hand_lines past n (published past e) ≡ []
-shut_quiet past n (Put destination key payload encoding qos reliable) c = cc
-shut_quiet past n (NetPut wire payload encoding qos reliable) c = cc
-shut_quiet past n e c = refl
+shut_quiet : (past : List Entry) (n : ℕ) (seen : Sight) (e : Event) → first_that (holds true (row_of e) seen) in_order ≡ None → hand_lines past n (published past e) ≡ []
+shut_quiet past n seen (Put destination key payload encoding qos reliable) c = cc
+shut_quiet past n seen (NetPut wire payload encoding qos reliable) c = cc
+shut_quiet past n seen e c = refl
 
 -- an accepted turn tells what its effects tell
 answer_quiet : (n : ℕ) (number : Option ℕ) (fx : List Effect)
@@ -119,38 +98,34 @@ answer_quiet : (n : ℕ) (number : Option ℕ) (fx : List Effect)
 answer_quiet n None fx = refl
 answer_quiet n (Some number) fx = refl
 
-event_told : (s : Settings) (h : List Event) (n : ℕ) (e : Event)
-    → Tells s (past_of s h) n e (map (plain_line n) (filter tells (turn_rows (effects s h e))))
-event_told s h n e = go (is_closed (past_of s h)) (refusals_have_causes s h e)
+event_told : (s : Settings) (past : List Entry) (n : ℕ) (e : Event)
+    → map (plain_line n) (filter tells (turn_rows (turn_of s past e))) ≡ event_lines s past n e
+event_told s past n e = go (is_closed past)
   where
-    by_closed : (o : Option Refusal) → closed_cause e ≡ o → Names (has_cause s (past_of s h) e) o
-        → Tells s (past_of s h) n e (map (plain_line n) (filter tells (turn_rows (answered o None []))))
-    by_closed (Some refusal) c named = refused_told s (past_of s h) n e refusal None [] named
-    by_closed None c named = inr (named, sym (shut_quiet (past_of s h) n e c))
+    by_shut : (o : Option Refusal) → first_that (holds true (row_of e) (past_sight s past e)) in_order ≡ o
+        → map (plain_line n) (filter tells (turn_rows (answered o None []))) ≡ refusal_or n o (hand_lines past n (published past e))
+    by_shut (Some refusal) c = refl
+    by_shut None c = sym (shut_quiet past n (past_sight s past e) e c)
 
-    by_open : (o : Option Refusal) → Names (has_cause s (past_of s h) e) o
-        → Tells s (past_of s h) n e (map (plain_line n) (filter tells (turn_rows (answered o (number_for (world_of s (past_of s h)) e) (effects_of (world_of s (past_of s h)) e)))))
-    by_open (Some refusal) named =
-        refused_told s (past_of s h) n e refusal (number_for (world_of s (past_of s h)) e) (effects_of (world_of s (past_of s h)) e) named
-    by_open None named = inr (
-      named,
-      ap (map (plain_line n)) (answer_quiet n (number_for (world_of s (past_of s h)) e) (effects_of (world_of s (past_of s h)) e))
-          ∙ effects_told s (past_of s h) n e (table_is_live s (past_of s h) (numbered s h)) (declared s h) (known_told s h),
-    )
+    by_open : (o : Option Refusal) (number : Option ℕ)
+        → map (plain_line n) (filter tells (turn_rows (answered o number (effects_on (live_subs past) (named_text past e) e))))
+        ≡ refusal_or n o (hand_lines past n (published past e))
+    by_open (Some refusal) number = refl
+    by_open None number = ap (map (plain_line n)) (answer_quiet n number (effects_on (live_subs past) (named_text past e) e)) ∙ effects_told past n e
 
-    go : (closed : Bool) → Names (has_cause s (past_of s h) e) (if closed then closed_cause e else open_cause (world_of s (past_of s h)) e)
-        → Tells s (past_of s h) n e (map (plain_line n) (filter tells (turn_rows
-        (if closed then answered (closed_cause e) None []
-        else answered (open_cause (world_of s (past_of s h)) e) (number_for (world_of s (past_of s h)) e) (effects_of (world_of s (past_of s h)) e)))))
-    go true named = by_closed (closed_cause e) refl named
-    go false named = by_open (open_cause (world_of s (past_of s h)) e) named
+    go : (closed : Bool) → map (plain_line n) (filter tells (turn_rows
+        (if closed then answered (first_that (holds closed (row_of e) (past_sight s past e)) in_order) None []
+        else answered (first_that (holds closed (row_of e) (past_sight s past e)) in_order) (entry_of s past e).number (effects_on (live_subs past) (named_text past e) e))))
+        ≡ refusal_or n (first_that (holds closed (row_of e) (past_sight s past e)) in_order) (hand_lines past n (published past e))
+    go true = by_shut (first_that (holds true (row_of e) (past_sight s past e)) in_order) refl
+    go false = by_open (first_that (holds false (row_of e) (past_sight s past e)) in_order) (entry_of s past e).number
 
 plain_sample : (id : ℕ) (sample : SampleFields) → is_plain sample.key_expr.text ≡ true → is_plain (encode_utf8_all sample.encoding) ≡ true
     → ArePlain (effect_fields (Hand (Sample Subscriber id sample)))
 plain_sample id sample key encoding = effects-plain (Hand (Sample Subscriber id sample)) (rw (key, encoding) refl)
 
-plain_end : (id : ℕ) → ArePlain (effect_fields (End Subscriber id))
-plain_end id = effects-plain (End Subscriber id) refl
+plain_end : (kind : Kind) (id : ℕ) → ArePlain (effect_fields (End kind id))
+plain_end kind id = effects-plain (End kind id) refl
 
 plain_answer : (answer : Answer) → ArePlain (answer_fields answer)
 plain_answer answer = answers-plain answer
@@ -162,36 +137,40 @@ plain_hands p (row ∷ rows) key encoding = (plain_sample row.id p.sample key en
 
 plain_ends : (rows : List SubRow) → AllByRecursion ArePlain (map effect_fields (sub_ends rows))
 plain_ends [] = tt
-plain_ends (row ∷ rows) = (plain_end row.id, plain_ends rows)
+plain_ends (row ∷ rows) = (plain_end Subscriber row.id, plain_ends rows)
 
 plain_encoding : (encoding : List ℕ) → is_plain (encode_utf8_all encoding) ≡ true → is_plain (encode_utf8_all (encoding_of encoding)) ≡ true
 unfolding lib.Utf8.encode
 plain_encoding [] plain = refl
 plain_encoding (c ∷ cs) plain = plain
 
-plain_put : (local : Bool) (destination : Locality) (text : Option (List ℕ)) (payload : List (List ℕ)) (encoding : List ℕ) (qos : QoSType) (reliable : Bool) (w : World)
-    → IfSome text IsPlain → is_plain (encode_utf8_all encoding) ≡ true
-    → AllByRecursion ArePlain (map effect_fields (hands_for w (put_of local destination text payload encoding qos reliable)))
-plain_put local destination None payload encoding qos reliable w key plain = tt
-plain_put local destination (Some text) payload encoding qos reliable w key plain =
-    plain_hands (record { local = local; destination = destination; sample = put_sample text payload encoding qos reliable })
-    _ key (plain_encoding encoding plain)
+-- a publication on a text
+abbrev on_text : List ℕ → Content → Publication
+on_text text c = record {
+  local = c.local;
+  destination = c.destination;
+  sample = sample_on text c;
+}
 
-plain_effects : (s : Settings) (past : List Entry) (e : Event) → PlainTables past → is_plain_event e ≡ true
-    → AllByRecursion ArePlain (map effect_fields (effects_of (world_of s past) e))
-plain_effects s past (Undeclare sub_kind id) rows plain = (plain_end id, tt)
-plain_effects s past (Put destination key payload encoding qos reliable) rows plain =
-    let h = both (is_plain_key key) (is_plain (encode_utf8_all encoding)) plain in
-    plain_put true destination (key_of (world_of s past) key) payload encoding qos reliable (world_of s past) (plain_text s past key rows h.0) h.1
-plain_effects s past (NetPut wire payload encoding qos reliable) rows plain =
-    let h = both (is_plain (encode_utf8_all wire.suffix)) (is_plain (encode_utf8_all encoding)) plain in
-    plain_put false Any (wire_of (world_of s past) wire) payload encoding qos reliable (world_of s past) (plain_wire s past wire rows h.0) h.1
-plain_effects s past Close rows plain = plain_ends (subs past)
-plain_effects s past e rows plain = tt
+-- the hand-overs of a publication with plain texts are plain
+plain_publication : (rows : List SubRow) (text : Option (List ℕ)) (content : Option Content) → IfSome text IsPlain → is_plain_content content ≡ true
+    → AllByRecursion ArePlain (map effect_fields (hands_for rows (publication_on text content)))
+plain_publication rows text None key plain = tt
+plain_publication rows None (Some c) key plain = tt
+plain_publication rows (Some text) (Some c) key plain =
+    plain_hands (on_text text c) (filter (allows (on_text text c)) rows) key (plain_encoding c.encoding plain)
+
+plain_effects : (past : List Entry) (e : Event) → PlainPast past → is_plain_event e ≡ true
+    → AllByRecursion ArePlain (map effect_fields (effects_on (live_subs past) (named_text past e) e))
+plain_effects past (Undeclare kind id) all plain = (plain_end (kind_of kind) id, tt)
+plain_effects past Close all plain = plain_ends (live_subs past)
+plain_effects past e all plain =
+    plain_publication (live_subs past) (named_text past e) (row_of e).publishes (text_plain past e all plain)
+    (both (is_plain_content (row_of e).publishes) (is_plain_named (row_of e).key) plain).0
 
 -- the texts of the turn of a plain event are plain
-plain_turn : (s : Settings) (h : List Event) (e : Event) → PlainEvents h → is_plain_event e ≡ true → AllByRecursion ArePlain (turn_rows (effects s h e))
-plain_turn s h e past plain = go (is_closed (past_of s h))
+plain_turn : (s : Settings) (past : List Entry) (e : Event) → PlainPast past → is_plain_event e ≡ true → AllByRecursion ArePlain (turn_rows (turn_of s past e))
+plain_turn s past e all plain = go (is_closed past)
   where
     answer : (o : Option Refusal) (number : Option ℕ) (fx : List Effect) → AllByRecursion ArePlain (map effect_fields fx)
         → AllByRecursion ArePlain (turn_rows (answered o number fx))
@@ -199,10 +178,10 @@ plain_turn s h e past plain = go (is_closed (past_of s h))
     answer None number fx all = (plain_answer (accepted number), all)
 
     go : (closed : Bool) → AllByRecursion ArePlain (turn_rows
-        (if closed then answered (closed_cause e) None []
-        else answered (open_cause (world_of s (past_of s h)) e) (number_for (world_of s (past_of s h)) e) (effects_of (world_of s (past_of s h)) e)))
-    go true = answer (closed_cause e) None [] tt
-    go false = answer (open_cause (world_of s (past_of s h)) e) (number_for (world_of s (past_of s h)) e) (effects_of (world_of s (past_of s h)) e) (plain_effects s (past_of s h) e (plain_keys s h past) plain)
+        (if closed then answered (refusal_of s past e) None []
+        else answered (refusal_of s past e) (entry_of s past e).number (effects_on (live_subs past) (named_text past e) e)))
+    go true = answer (refusal_of s past e) None [] tt
+    go false = answer (refusal_of s past e) (entry_of s past e).number (effects_on (live_subs past) (named_text past e) e) (plain_effects past e all plain)
 
 -- the first lines of an output that begins with a turn
 told_turn : (n : ℕ) (turn : Turn) (rest : List ℕ) → AllByRecursion ArePlain (turn_rows turn)
@@ -214,13 +193,10 @@ told_turn n turn rest all =
     ∙ ap (λ (rows : List (List ℕ)). rows ++ told rest) (telling_rows n (turn_rows turn) all)
 
 -- the whole text of plain events tells them
-pub text_told : (s : Settings) (h : List Event) (es : List Event) → PlainEvents h → PlainEvents es → ToldAfter s h es (told (text_after s h es))
+pub text_told : (s : Settings) (h : List Event) (es : List Event) → PlainEvents h → PlainEvents es → told (text_after s h es) ≡ lines_after s h es
 text_told s h [] past all = refl
 text_told s h (e ∷ es) past all =
-    let n = length h + 1 in (
-      map (plain_line n) (filter tells (turn_rows (effects s h e))),
-      told (text_after s (e ∷ h) es),
-      told_turn n (effects s h e) (text_after s (e ∷ h) es) (plain_turn s h e past all.0),
-      event_told s h n e,
-      text_told s (e ∷ h) es (all.0, past) all.1,
-    )
+    let n = length h + 1 in
+    told_turn n (effects s h e) (text_after s (e ∷ h) es) (plain_turn s (past_of s h) e (past_plain s h past) all.0)
+    ∙ ap (λ (here : List (List ℕ)). here ++ told (text_after s (e ∷ h) es)) (event_told s (past_of s h) n e)
+    ∙ ap (λ (later : List (List ℕ)). event_lines s (past_of s h) n e ++ later) (text_told s (e ∷ h) es (all.0, past) all.1)

@@ -1,5 +1,5 @@
 -- What an output tells of refusals and of hand-overs to subscribers, and what it has to tell of a script.
-use Rattle.std.specs.Prelude.{◌≡◌, ℕ, ◌+◌, Bool, true, false, ◌&&◌, ◌||◌, ◌⊎◌, List, [], ◌∷◌, ◌++◌, length, map, filter, Option, Some, None, bytes_eq, codes, decimal}
+use Rattle.std.specs.Prelude.{◌≡◌, ℕ, ◌+◌, Bool, false, ◌&&◌, ◌||◌, List, [], ◌∷◌, ◌++◌, length, map, filter, Option, Some, None, bytes_eq, codes, decimal}
 use Rattle.zs_core.specs.declared.event.Event.{Event}
 use Rattle.zs_core.specs.declared.settings.Settings.{Settings}
 use Rattle.zs_core.specs.declared.turn.Answer.TheVariants.{Refused}
@@ -8,11 +8,12 @@ use Rattle.zs_core.specs.declared.turn.HandOver.TheVariants.{Sample}
 use Rattle.zs_core.specs.declared.turn.Kind.TheVariants.{Subscriber}
 use Rattle.zs_core.specs.declared.turn.Refusal.{Refusal}
 use Rattle.zs_core.specs.Publications.{Publication, allows}
-use Rattle.zs_core.specs.Turns.{publication_of}
-use Rattle.zs_core.specs.Past.{Entry, past_of}
-use Rattle.zs_core.specs.Live.{live_subs}
+use Rattle.zs_core.specs.Entry.{Entry}
 use Rattle.zs_core.specs.Held.{named_text}
-use Rattle.zs_core.specs.Causes.{has_cause}
+use Rattle.zs_core.specs.Live.{live_subs}
+use Rattle.zs_core.specs.Causes.{refusal_of}
+use Rattle.zs_core.specs.Past.{past_of}
+use Rattle.zs_core.specs.Effects.{publication_of}
 use Rattle.zs_script.specs.Lines.{lines, fields}
 use Rattle.zs_script.specs.Printing.{answer_fields, effect_fields}
 use Rattle.zs_script.specs.Laws.{row}
@@ -53,20 +54,21 @@ hand_lines past number None = []
 hand_lines past number (Some p) =
     map (λ hearer. plain_line number (effect_fields (Hand (Sample Subscriber hearer.id p.sample)))) (filter (allows p) (live_subs past))
 
--- the lines tell the event of that number behind these accepted events: a refusal by a cause that holds, and nothing
--- else, or, where no cause holds, its hand-overs
-abbrev pub Tells : Settings → List Entry → ℕ → Event → List (List ℕ) → Type 0
-Tells s past number e told_lines =
-    ((refusal : Refusal) × (has_cause s past e refusal ≡ true) × (told_lines ≡ plain_line number (answer_fields (Refused refusal)) ∷ []))
-    ⊎ (((refusal : Refusal) → has_cause s past e refusal ≡ false) × (told_lines ≡ hand_lines past number (published past e)))
+-- the line of a refusal, and nothing else, or the lines of hand-overs where there is none
+abbrev pub refusal_or : ℕ → Option Refusal → List (List ℕ) → List (List ℕ)
+refusal_or number (Some refusal) hands = plain_line number (answer_fields (Refused refusal)) ∷ []
+refusal_or number None hands = hands
 
--- the lines tell these events behind a history, one event after the other
-abbrev pub ToldAfter : Settings → List Event → List Event → List (List ℕ) → Type 0
-ToldAfter s h [] told_lines = told_lines ≡ []
-ToldAfter s h (e ∷ es) told_lines =
-    (here : List (List ℕ)) × (later : List (List ℕ)) × (told_lines ≡ here ++ later)
-    × Tells s (past_of s h) (length h + 1) e here × ToldAfter s (e ∷ h) es later
+-- the lines that tell the event of that number behind these accepted events: the first refusal in order whose cause
+-- holds, or, where none holds, its hand-overs
+abbrev pub event_lines : Settings → List Entry → ℕ → Event → List (List ℕ)
+event_lines s past number e = refusal_or number (refusal_of s past e) (hand_lines past number (published past e))
 
--- the lines tell the events of a script from the first one on
+-- the lines that tell events behind a history, one event after the other
+abbrev pub lines_after : Settings → List Event → List Event → List (List ℕ)
+lines_after s h [] = []
+lines_after s h (e ∷ es) = event_lines s (past_of s h) (length h + 1) e ++ lines_after s (e ∷ h) es
+
+-- the lines are those that tell the events of a script from the first one on
 abbrev pub Told : Settings → List Event → List (List ℕ) → Type 0
-Told s es told_lines = ToldAfter s [] es told_lines
+Told s es told_lines = told_lines ≡ lines_after s [] es

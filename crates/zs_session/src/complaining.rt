@@ -14,14 +14,16 @@ const LINE_LEN: usize = 40;
 
 /// Writes one line. A fault of the sink changes nothing else.
 pub(crate) fn complain<C: Sink>(complaints: &mut C, line: &[u8])
-    ensures { Complains (C.written complaints.old) (C.faults complaints.old) line.now (C.written complaints.new) (C.faults complaints.new) }
+    ensures { Complains (record { written = C.written complaints.old; faults = C.faults complaints.old })
+        (record { written = C.written complaints.new; faults = C.faults complaints.new }) line.now }
 {
     let _ = write_whole(complaints, line);
 }
 
 /// Writes the line for an error, in no memory.
 pub(crate) fn complain_of<C: Sink>(complaints: &mut C, error: DriveError)
-    ensures { Complains (C.written complaints.old) (C.faults complaints.old) (complaint_of error) (C.written complaints.new) (C.faults complaints.new) }
+    ensures { Complains (record { written = C.written complaints.old; faults = C.faults complaints.old })
+        (record { written = C.written complaints.new; faults = C.faults complaints.new }) (complaint_of error) }
 {
     match error {
         DriveError::BadLine(number) => complain_at(complaints, "BadLine ", number),
@@ -36,7 +38,8 @@ pub(crate) fn complain_of<C: Sink>(complaints: &mut C, error: DriveError)
 /// Writes a line of a name and a number.
 fn complain_at<C: Sink>(complaints: &mut C, name: &str, number: u64)
     requires { length name.now ≤ 12 }
-    ensures { Complains (C.written complaints.old) (C.faults complaints.old) (name.now ++ decimal number ++ 10 ∷ []) (C.written complaints.new) (C.faults complaints.new) }
+    ensures { Complains (record { written = C.written complaints.old; faults = C.faults complaints.old })
+        (record { written = C.written complaints.new; faults = C.faults complaints.new }) (name.now ++ decimal number ++ 10 ∷ []) }
 {
     let mut line = [0u8; LINE_LEN];
     let count = fill(

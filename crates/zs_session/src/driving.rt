@@ -1,20 +1,20 @@
-ghost use Rattle.std.specs.Prelude.{◌≡◌, ◌⊎◌, ◌≤◌, ◌+◌, ℕ, List, [], ◌∷◌, length, Some, Err, IsTrue, IfOk, IfErr, OnOk};
-ghost use Rattle.std.specs.Result.{IsOkUnless};
-ghost use Rattle.std.specs.String.{string_bytes};
+ghost use Rattle.std.specs.Prelude.{◌≡◌, ◌⊎◌, ◌≤◌, ◌++◌, ℕ, List, [], ◌∷◌, Option, IsTrue, IfErr, OnOk, OnErr};
 ghost use Rattle.zs_keys.specs.Stream.{HasRisen, PutsOn};
 ghost use Rattle.zs_core.specs.declared.event.Event.{Event};
 ghost use Rattle.zs_core.specs.declared.settings.Settings.{Settings};
 ghost use Rattle.zs_core.specs.Settings.{is_valid};
-ghost use Rattle.zs_core.specs.Stands.{Stands, effects};
+ghost use Rattle.zs_core.specs.Effects.{effects};
+ghost use Rattle.zs_core.specs.Stands.{Stands};
 ghost use Rattle.zs_script.specs.Printing.{turn_text};
 ghost use Rattle.zs_script.specs.Writing.{PutsFrontOn};
-ghost use Rattle.zs_session.specs.Driving.{IsDone, IsFront, StopsAt, IsNoEvent, IsLong, IsValid};
+ghost use Rattle.zs_session.specs.Driving.{Drives, Completes, PutsWaiting};
 
 use crate::errors::DriveError;
+use crate::transcript::Transcript;
 use std::alloc::{AllocError, Global};
 use zs_core::{Event, SessionState, Settings};
 use zs_keys::{Sink, Source};
-use zs_script::{LineReader, parse_event, print_turn, write_whole};
+use zs_script::{LineReader, parse_event};
 
 /// How far a run came.
 #[derive(Clone, Copy, Debug, PartialEq, Eq)]
@@ -23,45 +23,25 @@ pub struct Driven {
     pub events: u64,
 }
 
-/// Steps the session by one event, and gives the text of its turn.
-fn printed(
-    alloc: Global,
+/// Steps the session by one event, and adds the text of its turn, under this number, to the transcript.
+fn take_event(
     state: &mut SessionState,
     event: Event,
     number: u64,
-) -> Result<String, AllocError>
-    ensures text { IfOk result (λ text. (s : Settings) (h : List Event) → Stands state.old s h
-        → string_bytes text ≡ turn_text number (effects s h event)) }
+    transcript: &mut Transcript,
+) -> Result<(), AllocError>
+    ensures text { OnOk result ((s : Settings) (h : List Event) → Stands state.old s h
+        → transcript.new ≡ transcript.old ++ turn_text number (effects s h event)) }
     ensures stands { OnOk result ((s : Settings) (h : List Event) → Stands state.old s h → Stands state.new s (event ∷ h)) }
+    ensures err { OnErr result (transcript.new ≡ transcript.old) }
 {
     let turn = state.step(&event)?;
-    print_turn(alloc, number, &turn)
-}
-
-/// Steps the session by one event, and writes its turn under this number.
-fn take_event<K: Sink>(
-    alloc: Global,
-    state: &mut SessionState,
-    event: Event,
-    number: u64,
-    sink: &mut K,
-) -> Result<(), DriveError>
-    ensures stands { OnOk result ((s : Settings) (h : List Event) → Stands state.old s h → Stands state.new s (event ∷ h)) }
-    ensures whole { OnOk result ((s : Settings) (h : List Event) → Stands state.old s h
-        → PutsOn (K.written sink.old) (turn_text number (effects s h event)) (K.written sink.new)) }
-    ensures part { (s : Settings) (h : List Event) → Stands state.old s h
-        → PutsFrontOn (K.written sink.old) (turn_text number (effects s h event)) (K.written sink.new) }
-    ensures write_fault { result ≡ Err DriveError.WriteFault → HasRisen (K.faults sink.old) (K.faults sink.new) }
-    ensures only { IfErr result (λ error. (error ≡ DriveError.WriteFault) ⊎ (error ≡ DriveError.NoMemory)) }
-    ensures later { K.faults sink.old ≤ K.faults sink.new }
-{
-    let text = printed(alloc, state, event, number)?;
-    write_whole(sink, text.as_bytes())?;
-    Ok(())
+    transcript.add_turn(number, &turn)
 }
 
 /// Drives a session by a script: each line of the source, to its end, is one event, and so is the end itself, which
-/// closes the session. The turn of each event is written to the sink.
+/// closes the session. The turns of the events are written to the sink: before each read that may have to wait, at
+/// each return, and in between where much text has come together.
 ///
 /// # Errors
 ///
@@ -75,68 +55,98 @@ pub fn drive<S: Source, K: Sink>(
     settings: &Settings,
 ) -> Result<Driven, DriveError>
     requires { IsTrue (is_valid settings.now) }
-    ensures done { IfOk result (λ driven. (input taken : List ℕ) → S.left source.old ≡ Some input → K.written sink.old ≡ Some taken
-        → IsDone settings.now input taken (S.left source.new) (K.written sink.new) driven.events) }
-    ensures front { (input taken : List ℕ) → S.left source.old ≡ Some input → K.written sink.old ≡ Some taken
-        → IsFront settings.now input taken (K.written sink.new) }
-    ensures bad_line { (number : ℕ) → result ≡ Err (DriveError.BadLine number)
-        → (input taken : List ℕ) → S.left source.old ≡ Some input → K.written sink.old ≡ Some taken
-        → StopsAt settings.now input taken (K.written sink.new) number (IsNoEvent settings.now.line_max) }
-    ensures long_line { (number : ℕ) → result ≡ Err (DriveError.LineTooLong number)
-        → (input taken : List ℕ) → S.left source.old ≡ Some input → K.written sink.old ≡ Some taken
-        → StopsAt settings.now input taken (K.written sink.new) number (IsLong settings.now.line_max) }
-    ensures out_of_turns { result ≡ Err DriveError.OutOfTurns
-        → (input : List ℕ) → S.left source.old ≡ Some input → settings.now.turns ≤ length input }
-    ensures read_fault { result ≡ Err DriveError.ReadFault → HasRisen (S.faults source.old) (S.faults source.new) }
-    ensures write_fault { result ≡ Err DriveError.WriteFault → HasRisen (K.faults sink.old) (K.faults sink.new) }
-    ensures source_later { S.faults source.old ≤ S.faults source.new }
-    ensures sink_later { K.faults sink.old ≤ K.faults sink.new }
-    ensures complete { (input taken : List ℕ) → S.left source.old ≡ Some input → K.written sink.old ≡ Some taken
-        → IsValid settings.now input → ¬ HasRisen (S.faults source.old) (S.faults source.new)
-        → ¬ HasRisen (K.faults sink.old) (K.faults sink.new) → IsOkUnless result DriveError.NoMemory }
+    ensures drives { Drives settings.now result
+        (record { left = S.left source.old; reads = S.reads source.old; pieces = S.pieces source.old; faults = S.faults source.old })
+        (record { left = S.left source.new; reads = S.reads source.new; pieces = S.pieces source.new; faults = S.faults source.new })
+        (record { written = K.written sink.old; faults = K.faults sink.old })
+        (record { written = K.written sink.new; faults = K.faults sink.new })
+        (λ output. PutsOn (K.written sink.old) output (K.written sink.new)) }
+    ensures completes { Completes settings.now result
+        (record { left = S.left source.old; reads = S.reads source.old; pieces = S.pieces source.old; faults = S.faults source.old })
+        (record { left = S.left source.new; reads = S.reads source.new; pieces = S.pieces source.new; faults = S.faults source.new })
+        (record { written = K.written sink.old; faults = K.faults sink.old })
+        (record { written = K.written sink.new; faults = K.faults sink.new }) }
 {
-    drive_lines(alloc, source, sink, settings)
+    drive_to_end(alloc, source, sink, settings)
 }
 
-/// Takes each line of the source as an event, and then the close. It is `drive` but for the clause that says when it
-/// succeeds.
-fn drive_lines<S: Source, K: Sink>(
+/// It is `drive` but for the clause that says when it succeeds.
+fn drive_to_end<S: Source, K: Sink>(
     alloc: Global,
     source: &mut S,
     sink: &mut K,
     settings: &Settings,
 ) -> Result<Driven, DriveError>
     requires { IsTrue (is_valid settings.now) }
-    ensures done { IfOk result (λ driven. (input taken : List ℕ) → S.left source.old ≡ Some input → K.written sink.old ≡ Some taken
-        → IsDone settings.now input taken (S.left source.new) (K.written sink.new) driven.events) }
-    ensures front { (input taken : List ℕ) → S.left source.old ≡ Some input → K.written sink.old ≡ Some taken
-        → IsFront settings.now input taken (K.written sink.new) }
-    ensures bad_line { (number : ℕ) → result ≡ Err (DriveError.BadLine number)
-        → (input taken : List ℕ) → S.left source.old ≡ Some input → K.written sink.old ≡ Some taken
-        → StopsAt settings.now input taken (K.written sink.new) number (IsNoEvent settings.now.line_max) }
-    ensures long_line { (number : ℕ) → result ≡ Err (DriveError.LineTooLong number)
-        → (input taken : List ℕ) → S.left source.old ≡ Some input → K.written sink.old ≡ Some taken
-        → StopsAt settings.now input taken (K.written sink.new) number (IsLong settings.now.line_max) }
-    ensures out_of_turns { result ≡ Err DriveError.OutOfTurns
-        → (input : List ℕ) → S.left source.old ≡ Some input → settings.now.turns ≤ length input }
-    ensures read_fault { result ≡ Err DriveError.ReadFault → HasRisen (S.faults source.old) (S.faults source.new) }
-    ensures write_fault { result ≡ Err DriveError.WriteFault → HasRisen (K.faults sink.old) (K.faults sink.new) }
-    ensures source_later { S.faults source.old ≤ S.faults source.new }
-    ensures sink_later { K.faults sink.old ≤ K.faults sink.new }
+    ensures { Drives settings.now result
+        (record { left = S.left source.old; reads = S.reads source.old; pieces = S.pieces source.old; faults = S.faults source.old })
+        (record { left = S.left source.new; reads = S.reads source.new; pieces = S.pieces source.new; faults = S.faults source.new })
+        (record { written = K.written sink.old; faults = K.faults sink.old })
+        (record { written = K.written sink.new; faults = K.faults sink.new })
+        (λ output. PutsOn (K.written sink.old) output (K.written sink.new)) }
+{
+    let mut transcript = Transcript::new(alloc);
+    let outcome = drive_lines(alloc, source, sink, settings, &mut transcript);
+    transcript.write_to(sink)?;
+    outcome
+}
+
+/// Writes what waits of the transcript, if the next line may have to be waited for or if much of it waits.
+fn write_if_due<K: Sink>(
+    transcript: &mut Transcript,
+    sink: &mut K,
+    holds_line: bool,
+) -> Result<(), DriveError>
+    ensures ok { OnOk result ((output : List ℕ) → (old : Option (List ℕ)) → PutsWaiting old transcript.old (K.written sink.old) output
+        → PutsWaiting old transcript.new (K.written sink.new) output) }
+    ensures err { OnErr result (transcript.new ≡ []) }
+    ensures part { OnErr result (PutsFrontOn (K.written sink.old) transcript.old (K.written sink.new)) }
+    ensures fault { OnErr result (HasRisen (K.faults sink.old) (K.faults sink.new)) }
+    ensures only { IfErr result (λ error. error ≡ DriveError.WriteFault) }
+    ensures later { K.faults sink.old ≤ K.faults sink.new }
+{
+    if holds_line && !transcript.is_full() {
+        return Ok(());
+    }
+    transcript.write_to(sink)?;
+    Ok(())
+}
+
+/// Takes each line of the source as an event, and then the close. What waits in the transcript at the end is still to
+/// be written.
+fn drive_lines<S: Source, K: Sink>(
+    alloc: Global,
+    source: &mut S,
+    sink: &mut K,
+    settings: &Settings,
+    transcript: &mut Transcript,
+) -> Result<Driven, DriveError>
+    requires valid { IsTrue (is_valid settings.now) }
+    requires empty { transcript.old ≡ [] }
+    ensures { Drives settings.now result
+        (record { left = S.left source.old; reads = S.reads source.old; pieces = S.pieces source.old; faults = S.faults source.old })
+        (record { left = S.left source.new; reads = S.reads source.new; pieces = S.pieces source.new; faults = S.faults source.new })
+        (record { written = K.written sink.old; faults = K.faults sink.old })
+        (record { written = K.written sink.new; faults = K.faults sink.new })
+        (PutsWaiting (K.written sink.old) transcript.new (K.written sink.new)) }
 {
     let mut state = SessionState::new(alloc, settings)?;
     let mut reader = LineReader::new(alloc, settings.line_max, settings.turns);
     let mut events = 0;
-    'lines: while let Some(line) = reader.next(source)? {
+    'lines: loop {
+        write_if_due(transcript, sink, reader.holds_line())?;
+        let Some(line) = reader.next(source)? else {
+            break;
+        };
         let Some(event) = parse_event(alloc, &line)? else {
             return Err(DriveError::BadLine(line.number));
         };
-        take_event(alloc, &mut state, event, line.number, sink)?;
+        take_event(&mut state, event, line.number, transcript)?;
         events = line.number;
     }
     let Some(number) = events.checked_add(1) else {
         return Err(DriveError::NoMemory);
     };
-    take_event(alloc, &mut state, Event::Close, number, sink)?;
+    take_event(&mut state, Event::Close, number, transcript)?;
     Ok(Driven { events: number })
 }

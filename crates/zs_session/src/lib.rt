@@ -17,4 +17,5 @@ mod running;
 mod system;
 #[cfg(test)]
 mod tests;
+mod transcript;
 mod words;

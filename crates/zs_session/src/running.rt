@@ -1,11 +1,9 @@
-ghost use Rattle.std.specs.Prelude.{◌≡◌, ◌≢◌, ◌⊎◌, ◌≤◌, ℕ, List, length, map, Some, None, IsTrue};
+ghost use Rattle.std.specs.Prelude.{◌≡◌, ◌≢◌, ℕ, List, map, Some, None, IsTrue};
 ghost use Rattle.std.specs.String.{string_bytes};
-ghost use Rattle.zs_keys.specs.Stream.{HasRisen};
 ghost use Rattle.zs_core.specs.declared.settings.Settings.{Settings};
 ghost use Rattle.zs_core.specs.Settings.{is_valid};
-ghost use Rattle.zs_session.specs.Driving.{IsDone, IsFront, StopsAt, IsNoEvent, IsLong, IsValid};
-ghost use Rattle.zs_session.specs.Errors.{status_of, complaint_of};
-ghost use Rattle.zs_session.specs.Running.{bad_words, Complains};
+ghost use Rattle.zs_session.specs.Errors.{status_of};
+ghost use Rattle.zs_session.specs.Running.{bad_words, Complains, Runs};
 ghost use Rattle.zs_session.specs.Words.{settings_of};
 
 use crate::complaining::{complain, complain_of};
@@ -34,36 +32,17 @@ pub fn run<S: Source, K: Sink, C: Sink>(
     complaints: &mut C,
 ) -> u8
     ensures words { settings_of (map string_bytes words.now) ≡ None → (result ≡ 2) × (source.new ≡ source.old) × (sink.new ≡ sink.old)
-        × Complains (C.written complaints.old) (C.faults complaints.old) bad_words (C.written complaints.new) (C.faults complaints.new) }
+        × Complains (record { written = C.written complaints.old; faults = C.faults complaints.old })
+        (record { written = C.written complaints.new; faults = C.faults complaints.new }) bad_words }
     ensures only_words { result ≡ 2 → settings_of (map string_bytes words.now) ≡ None }
-    ensures known { (result ≢ 1) × (result ≤ 8) }
-    ensures done { result ≡ 0 → (s : Settings) (input taken : List ℕ) → settings_of (map string_bytes words.now) ≡ Some s
-        → S.left source.old ≡ Some input → K.written sink.old ≡ Some taken
-        → (count : ℕ) × IsDone s input taken (S.left source.new) (K.written sink.new) count }
+    ensures runs { (s : Settings) → settings_of (map string_bytes words.now) ≡ Some s → Runs s result
+        (record { left = S.left source.old; reads = S.reads source.old; pieces = S.pieces source.old; faults = S.faults source.old })
+        (record { left = S.left source.new; reads = S.reads source.new; pieces = S.pieces source.new; faults = S.faults source.new })
+        (record { written = K.written sink.old; faults = K.faults sink.old })
+        (record { written = K.written sink.new; faults = K.faults sink.new })
+        (record { written = C.written complaints.old; faults = C.faults complaints.old })
+        (record { written = C.written complaints.new; faults = C.faults complaints.new }) }
     ensures quiet { result ≡ 0 → complaints.new ≡ complaints.old }
-    ensures front { (s : Settings) (input taken : List ℕ) → settings_of (map string_bytes words.now) ≡ Some s
-        → S.left source.old ≡ Some input → K.written sink.old ≡ Some taken
-        → IsFront s input taken (K.written sink.new) }
-    ensures bad_line { result ≡ 3 → (number : ℕ)
-        × Complains (C.written complaints.old) (C.faults complaints.old) (complaint_of (DriveError.BadLine number)) (C.written complaints.new) (C.faults complaints.new)
-        × ((s : Settings) (input taken : List ℕ) → settings_of (map string_bytes words.now) ≡ Some s
-        → S.left source.old ≡ Some input → K.written sink.old ≡ Some taken
-        → StopsAt s input taken (K.written sink.new) number (IsNoEvent s.line_max)) }
-    ensures long_line { result ≡ 4 → (number : ℕ)
-        × Complains (C.written complaints.old) (C.faults complaints.old) (complaint_of (DriveError.LineTooLong number)) (C.written complaints.new) (C.faults complaints.new)
-        × ((s : Settings) (input taken : List ℕ) → settings_of (map string_bytes words.now) ≡ Some s
-        → S.left source.old ≡ Some input → K.written sink.old ≡ Some taken
-        → StopsAt s input taken (K.written sink.new) number (IsLong s.line_max)) }
-    ensures complaint { 5 ≤ result → (error : DriveError) × (result ≡ status_of error)
-        × Complains (C.written complaints.old) (C.faults complaints.old) (complaint_of error) (C.written complaints.new) (C.faults complaints.new) }
-    ensures out_of_turns { result ≡ 5 → (s : Settings) (input : List ℕ) → settings_of (map string_bytes words.now) ≡ Some s
-        → S.left source.old ≡ Some input → s.turns ≤ length input }
-    ensures read_fault { result ≡ 6 → HasRisen (S.faults source.old) (S.faults source.new) }
-    ensures write_fault { result ≡ 7 → HasRisen (K.faults sink.old) (K.faults sink.new) }
-    ensures complete { (s : Settings) (input taken : List ℕ) → settings_of (map string_bytes words.now) ≡ Some s
-        → S.left source.old ≡ Some input → K.written sink.old ≡ Some taken
-        → IsValid s input → ¬ HasRisen (S.faults source.old) (S.faults source.new)
-        → ¬ HasRisen (K.faults sink.old) (K.faults sink.new) → (result ≡ 0) ⊎ (result ≡ 8) }
 {
     let Some(settings) = settings_of(words) else {
         complain(complaints, b"bad words\n");
@@ -82,30 +61,15 @@ fn run_with<S: Source, K: Sink, C: Sink>(
     complaints: &mut C,
 ) -> u8
     requires { IsTrue (is_valid settings.now) }
+    ensures runs { Runs settings.now result
+        (record { left = S.left source.old; reads = S.reads source.old; pieces = S.pieces source.old; faults = S.faults source.old })
+        (record { left = S.left source.new; reads = S.reads source.new; pieces = S.pieces source.new; faults = S.faults source.new })
+        (record { written = K.written sink.old; faults = K.faults sink.old })
+        (record { written = K.written sink.new; faults = K.faults sink.new })
+        (record { written = C.written complaints.old; faults = C.faults complaints.old })
+        (record { written = C.written complaints.new; faults = C.faults complaints.new }) }
     ensures not_words { result ≢ 2 }
-    ensures known { (result ≢ 1) × (result ≤ 8) }
-    ensures done { result ≡ 0 → (input taken : List ℕ) → S.left source.old ≡ Some input → K.written sink.old ≡ Some taken
-        → (count : ℕ) × IsDone settings.now input taken (S.left source.new) (K.written sink.new) count }
     ensures quiet { result ≡ 0 → complaints.new ≡ complaints.old }
-    ensures front { (input taken : List ℕ) → S.left source.old ≡ Some input → K.written sink.old ≡ Some taken
-        → IsFront settings.now input taken (K.written sink.new) }
-    ensures bad_line { result ≡ 3 → (number : ℕ)
-        × Complains (C.written complaints.old) (C.faults complaints.old) (complaint_of (DriveError.BadLine number)) (C.written complaints.new) (C.faults complaints.new)
-        × ((input taken : List ℕ) → S.left source.old ≡ Some input → K.written sink.old ≡ Some taken
-        → StopsAt settings.now input taken (K.written sink.new) number (IsNoEvent settings.now.line_max)) }
-    ensures long_line { result ≡ 4 → (number : ℕ)
-        × Complains (C.written complaints.old) (C.faults complaints.old) (complaint_of (DriveError.LineTooLong number)) (C.written complaints.new) (C.faults complaints.new)
-        × ((input taken : List ℕ) → S.left source.old ≡ Some input → K.written sink.old ≡ Some taken
-        → StopsAt settings.now input taken (K.written sink.new) number (IsLong settings.now.line_max)) }
-    ensures complaint { 5 ≤ result → (error : DriveError) × (result ≡ status_of error)
-        × Complains (C.written complaints.old) (C.faults complaints.old) (complaint_of error) (C.written complaints.new) (C.faults complaints.new) }
-    ensures out_of_turns { result ≡ 5
-        → (input : List ℕ) → S.left source.old ≡ Some input → settings.now.turns ≤ length input }
-    ensures read_fault { result ≡ 6 → HasRisen (S.faults source.old) (S.faults source.new) }
-    ensures write_fault { result ≡ 7 → HasRisen (K.faults sink.old) (K.faults sink.new) }
-    ensures complete { (input taken : List ℕ) → S.left source.old ≡ Some input → K.written sink.old ≡ Some taken
-        → IsValid settings.now input → ¬ HasRisen (S.faults source.old) (S.faults source.new)
-        → ¬ HasRisen (K.faults sink.old) (K.faults sink.new) → (result ≡ 0) ⊎ (result ≡ 8) }
 {
     match drive(alloc, source, sink, settings) {
         Ok(_) => 0,

@@ -1,13 +1,18 @@
-use Rattle.std.proofs.Common.{◌≡◌, ℕ, ◌≤◌, List, Some}
+use Rattle.std.proofs.Common.{◌≡◌, ℕ, ◌≤◌}
 use Rattle.zs_script.specs.Reading.{work}
-use Rattle.zs_session.proofs.Progress.{Progress, Reads}
+use Rattle.zs_session.specs.Driving.{PutsWaiting}
+use Rattle.zs_session.proofs.Exits.{Counted}
+use Rattle.zs_session.proofs.Progress.{Progress}
 use Rattle.zs_session.proofs.driving.drive_lines.Given as goal
 
 abbrev pub invariant-lines : goal.invariant-lines
 invariant-lines g l = record {
-  progress : (input taken : List ℕ) → g.S.Source.left l.fn.source ≡ Some input → g.K.Sink.written l.fn.sink ≡ Some taken
-      → Progress l.settings input taken l.reader (g.S.Source.left l.source) (g.K.Sink.written l.sink) l.state l.events;
-  reads : (input : List ℕ) → g.S.Source.left l.fn.source ≡ Some input → Reads l.settings input l.reader (g.S.Source.left l.source);
+  progress : Progress l.settings (g.S.Source.left l.fn.source) (g.S.Source.left l.source) l.reader
+      (PutsWaiting (g.K.Sink.written l.fn.sink) l.transcript (g.K.Sink.written l.sink)) l.state l.events;
+  counted : Counted l.settings
+      (record { left = g.S.Source.left l.fn.source; reads = g.S.Source.reads l.fn.source; pieces = g.S.Source.pieces l.fn.source; faults = g.S.Source.faults l.fn.source })
+      (record { left = g.S.Source.left l.source; reads = g.S.Source.reads l.source; pieces = g.S.Source.pieces l.source; faults = g.S.Source.faults l.source })
+      l.reader;
   source_later : g.S.Source.faults l.fn.source ≤ g.S.Source.faults l.source;
   sink_later : g.K.Sink.faults l.fn.sink ≤ g.K.Sink.faults l.sink;
 }
