@@ -1,0 +1,16 @@
+//! Tests of the script language and of whole runs: lines, transcripts of scripts, runs that stop, faults in mid-stream, and
+//! the words of the program.
+#![tactic(auto)]
+
+#[cfg(test)]
+mod faults;
+#[cfg(test)]
+mod lines;
+#[cfg(test)]
+mod spelling;
+#[cfg(test)]
+mod stops;
+#[cfg(test)]
+mod transcripts;
+#[cfg(test)]
+mod words;

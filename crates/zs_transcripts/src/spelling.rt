@@ -1,0 +1,62 @@
+//! Scripts and outputs as the tests write them: with a space for each tab, and `Q` for the options of a plain put.
+
+ghost use Rattle.std.specs.Prelude.{◌<◌};
+
+use std::alloc::{AllocError, Global};
+use zs_keys::{MemorySink, MemorySource};
+
+/// The options of a sample that was put with none.
+const QUALITY: &str = "enc=zenoh/bytes prio=5 cc=drop express=0 rel=1";
+
+/// A subscriber that hears a put.
+pub const FIRST: &str = "sub any test/k\nput any test/k x7a656e6f68\n";
+
+/// What that script prints.
+pub const FIRST_TEXT: &str =
+    "1 ok 2\n2 ok\n2 hand sub 2 put test/k x7a656e6f68 Q\n3 ok\n3 end sub 2\n";
+
+/// Puts a text behind the bytes, with tabs for spaces.
+pub fn spell(bytes: &mut Vec<u8>, text: &str) -> Result<(), AllocError> {
+    for byte in text.bytes() {
+        match byte {
+            b' ' => bytes.push(b'\t')?,
+            b'Q' => {
+                for part in QUALITY.bytes() {
+                    bytes.push(if part == b' ' { b'\t' } else { part })?;
+                }
+            }
+            byte => bytes.push(byte)?,
+        }
+    }
+    Ok(())
+}
+
+/// The bytes of a script or of its text.
+pub fn spelled(alloc: Global, text: &str) -> Result<Vec<u8>, AllocError> {
+    let mut bytes = Vec::new(alloc);
+    spell(&mut bytes, text)?;
+    Ok(bytes)
+}
+
+/// A source of these bytes that gives at most `cut` of them per read, and fails at this read.
+pub fn source(
+    alloc: Global,
+    bytes: Vec<u8>,
+    cut: usize,
+    fail: u64,
+) -> Result<MemorySource, AllocError>
+    requires { 0 < cut }
+{
+    let mut failing = Vec::new(alloc);
+    failing.push(fail)?;
+    Ok(MemorySource::new(bytes, cut, failing))
+}
+
+/// A sink that takes at most `cut` bytes per write, and fails at this write.
+pub fn sink(alloc: Global, cut: usize, fail: u64) -> Result<MemorySink, AllocError>
+    requires { 0 < cut }
+{
+    let mut failing = Vec::new(alloc);
+    failing.push(fail)?;
+    Ok(MemorySink::new(alloc, cut, failing, Vec::new(alloc)))
+}

@@ -1,0 +1,112 @@
+//! Numbers that the network tells, and this session's own as the network names them.
+
+use super::{Transcript, assert_printed};
+use std::test::Fail;
+use zs_session::Settings;
+
+const NETWORK: [Transcript; 4] = [
+    Transcript {
+        name: "a number that the network told",
+        text: "\
+net keyexpr 7 s0:a
+< 1 ok
+sub any a/*
+< 2 ok 2
+net push s7:/b put x01
+< 3 ok
+< 3 hand sub 2 put a/b x01 Q
+net push s7:// put x01
+< 4 refused BadKeyExpr
+< 5 ok
+< 5 end sub 2",
+    },
+    Transcript {
+        name: "a number of this session in a message",
+        text: "\
+key k
+< 1 ok 1
+sub any k
+< 2 ok 2
+net push r1: put x01
+< 3 ok
+< 3 hand sub 2 put k x01 Q
+net push s1: put x01
+< 4 refused UnknownScope
+undeclare key #1
+< 5 ok
+net push r1: put x01
+< 6 refused UnknownScope
+< 7 ok
+< 7 end sub 2",
+    },
+    Transcript {
+        name: "the last text that was told stands, also where its number was given back",
+        text: "\
+sub any **
+< 1 ok 2
+net keyexpr 0 s0:a
+< 2 refused UnknownScope
+net push s7:x put x01
+< 3 refused UnknownScope
+net keyexpr 7 s0:a
+< 4 ok
+net keyexpr 7 s0:b
+< 5 ok
+net push s7: put x01
+< 6 ok
+< 6 hand sub 2 put b x01 Q
+net unkeyexpr 7
+< 7 ok
+net push s7:/c put x01
+< 8 ok
+< 8 hand sub 2 put b/c x01 Q
+net push s0:a//b put x01
+< 9 refused BadKeyExpr
+< 10 ok
+< 10 end sub 2",
+    },
+    Transcript {
+        name: "numbers told by other numbers, bad ones, and messages behind a close",
+        text: "\
+key k
+< 1 ok 1
+sub remote k/*/z
+< 2 ok 2
+net keyexpr 8 r1:/x
+< 3 ok
+net keyexpr 9 s8:/z
+< 4 ok
+undeclare key #1
+< 5 ok
+net push s9: put x
+< 6 ok
+< 6 hand sub 2 put k/x/z x Q
+net keyexpr 3 s2:a
+< 7 refused UnknownScope
+net keyexpr 0 s0:a//b
+< 8 refused UnknownScope
+net keyexpr 5 s0:a//b
+< 9 refused BadKeyExpr
+net unkeyexpr 4
+< 10 ok
+net close
+< 11 ok
+close
+< 12 ok
+< 12 end sub 2
+net keyexpr 1 s0:a
+< 13 refused Ignored
+net close
+< 14 refused Ignored
+net unkeyexpr 1
+< 15 refused Ignored
+net push s9: put x
+< 16 refused Ignored
+< 17 ok",
+    },
+];
+
+#[test]
+fn numbers_of_the_network_stand_for_their_texts(rt: HostRuntime) -> Result<(), Fail> {
+    assert_printed(&rt, &NETWORK, &Settings::default())
+}

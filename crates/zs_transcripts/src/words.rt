@@ -1,0 +1,230 @@
+//! What runs do with their words, and the statuses that they return.
+
+use crate::spelling::{FIRST, FIRST_TEXT, sink, source, spelled};
+use std::alloc::{AllocError, Global};
+use std::test::Fail;
+use zs_keys::Source;
+use zs_session::run;
+
+/// The words of a line, with a space between two.
+fn cut(alloc: Global, line: &str) -> Result<Vec<String>, AllocError> {
+    let mut words = Vec::new(alloc);
+    for word in line.split(' ') {
+        words.push(String::from_str(alloc, word)?)?;
+    }
+    Ok(words)
+}
+
+/// Words that no run takes.
+const BAD_WORDS: [&str; 43] = [
+    "",
+    "link",
+    "soak 1 1",
+    "--help",
+    "Drive",
+    "drive=1",
+    "drive ",
+    "drive drive",
+    "line=9",
+    "line=9 drive",
+    "drive line",
+    "drive =9",
+    "drive Line=9",
+    "drive lines=9",
+    "drive query=0",
+    "drive line==9",
+    "drive line=9=",
+    "drive line=9 line=9",
+    "drive zid=2 tag=2 zid=2",
+    "drive tag=1 key=1 tag=x",
+    "drive zid=",
+    "drive zid=0",
+    "drive zid=01",
+    "drive zid=0x1",
+    "drive zid=g",
+    "drive zid=100000000000000000000000000000000",
+    "drive tag=",
+    "drive tag=01",
+    "drive tag=+1",
+    "drive tag=-1",
+    "drive tag=1a",
+    "drive tag=18446744073709551616",
+    "drive entity=4294967295",
+    "drive entity=4294967296",
+    "drive key=0",
+    "drive key=00",
+    "drive key=65536",
+    "drive line=0",
+    "drive line=1048577",
+    "drive line=4294967297",
+    "drive turns=0",
+    "drive turns=01",
+    "drive turns=18446744073709551616",
+];
+
+#[test]
+fn bad_words_read_and_write_nothing(rt: HostRuntime) -> Result<(), Fail> {
+    for line in BAD_WORDS {
+        let mut script = source(rt.alloc(), spelled(rt.alloc(), FIRST)?, 4096, 0)?;
+        let mut output = sink(rt.alloc(), 4096, 0)?;
+        let mut complaints = sink(rt.alloc(), 4096, 0)?;
+        let status = run(
+            rt.alloc(),
+            cut(rt.alloc(), line)?.as_slice(),
+            &mut script,
+            &mut output,
+            &mut complaints,
+        );
+        assert_eq!(rt; status, 2, "of {line:?}");
+        assert_eq!(rt;
+            complaints.bytes(),
+            b"bad words\n".as_slice(),
+            "of {line:?}"
+        );
+        assert!(rt; output.bytes().is_empty(), "of {line:?}");
+        let mut left = [0u8; 100];
+        assert_eq!(rt;
+            script.read(&mut left).ok(),
+            Some(FIRST.len()),
+            "of {line:?}"
+        );
+    }
+    Ok(())
+}
+
+/// A run of the program.
+struct Run {
+    words: &'static str,
+    script: &'static str,
+    /// The reads and the writes that fail, 0 for none.
+    fails: (u64, u64),
+    status: u8,
+    complaint: &'static str,
+    output: &'static str,
+}
+
+const RUNS: [Run; 10] = [
+    Run {
+        words: "drive",
+        script: FIRST,
+        fails: (0, 0),
+        status: 0,
+        complaint: "",
+        output: FIRST_TEXT,
+    },
+    Run {
+        words: "drive turns=9 line=10 key=7 entity=5 tag=3 zid=c0",
+        script: "sub any k\n",
+        fails: (0, 0),
+        status: 0,
+        complaint: "",
+        output: "1 ok 6\n2 ok\n2 end sub 6\n",
+    },
+    Run {
+        words: "drive entity=4294967293",
+        script: "sub any a\nsub any a\n",
+        fails: (0, 0),
+        status: 0,
+        complaint: "",
+        output: "1 ok 4294967294\n2 refused IdsExhausted\n3 ok\n3 end sub 4294967294\n",
+    },
+    Run {
+        words: "drive",
+        script: "sub any k\nsub\n",
+        fails: (0, 0),
+        status: 3,
+        complaint: "BadLine 2\n",
+        output: "1 ok 2\n",
+    },
+    Run {
+        words: "drive line=9",
+        script: "sub any k\nsub any k\n",
+        fails: (0, 0),
+        status: 0,
+        complaint: "",
+        output: "1 ok 2\n2 ok 3\n3 ok\n3 end sub 2\n3 end sub 3\n",
+    },
+    Run {
+        words: "drive line=9",
+        script: "sub any k\nsub any kk\n",
+        fails: (0, 0),
+        status: 4,
+        complaint: "LineTooLong 2\n",
+        output: "1 ok 2\n",
+    },
+    Run {
+        words: "drive turns=1",
+        script: "sub any k\nsub any k\n",
+        fails: (0, 0),
+        status: 5,
+        complaint: "OutOfTurns\n",
+        output: "1 ok 2\n2 ok 3\n",
+    },
+    Run {
+        words: "drive turns=2",
+        script: "sub any k\nsub any k\n",
+        fails: (0, 0),
+        status: 0,
+        complaint: "",
+        output: "1 ok 2\n2 ok 3\n3 ok\n3 end sub 2\n3 end sub 3\n",
+    },
+    Run {
+        words: "drive",
+        script: FIRST,
+        fails: (1, 0),
+        status: 6,
+        complaint: "ReadFault\n",
+        output: "",
+    },
+    Run {
+        words: "drive",
+        script: FIRST,
+        fails: (0, 1),
+        status: 7,
+        complaint: "WriteFault\n",
+        output: "",
+    },
+];
+
+#[test]
+fn statuses_and_complaints(rt: HostRuntime) -> Result<(), Fail> {
+    let alloc = rt.alloc();
+    for case in &RUNS {
+        let mut output = sink(alloc, 4096, case.fails.1)?;
+        let mut complaints = sink(alloc, 3, 0)?;
+        let status = run(
+            alloc,
+            cut(alloc, case.words)?.as_slice(),
+            &mut source(alloc, spelled(alloc, case.script)?, 4096, case.fails.0)?,
+            &mut output,
+            &mut complaints,
+        );
+        let words = case.words;
+        assert_eq!(rt; status, case.status, "of {words:?}");
+        assert_eq!(rt;
+            complaints.bytes(),
+            case.complaint.as_bytes(),
+            "of {words:?}"
+        );
+        let wanted = spelled(alloc, case.output)?;
+        assert_eq!(rt; output.bytes(), wanted.as_slice(), "of {words:?}");
+    }
+    Ok(())
+}
+
+#[test]
+fn no_words_are_the_defaults(rt: HostRuntime) -> Result<(), Fail> {
+    let alloc = rt.alloc();
+    let mut output = sink(alloc, 4096, 0)?;
+    let status = run(
+        alloc,
+        &[],
+        &mut source(alloc, spelled(alloc, FIRST)?, 4096, 0)?,
+        &mut output,
+        &mut sink(alloc, 1, 0)?,
+    );
+    assert_eq!(rt; status, 0);
+    let wanted = spelled(alloc, FIRST_TEXT)?;
+    assert_eq!(rt; output.bytes(), wanted.as_slice());
+    Ok(())
+}
