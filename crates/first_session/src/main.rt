@@ -1,0 +1,68 @@
+//! A session as a program uses it: it declares a subscriber, puts twice, and prints what each step gives.
+#![tactic(auto)]
+
+use anyhow::Result;
+use std::alloc::{AllocError, Global};
+use zs_core::{Effect, Event, HandOver, KeyArg, SessionState, Settings};
+use zs_sample::{CongestionControl, Locality, QoSType, Text, ZBytes};
+use zs_script::print_turn;
+
+/// A subscriber on these keys, for publications of any origin.
+fn subscriber(alloc: Global, keys: &str) -> Result<Event, AllocError> {
+    Ok(Event::Sub {
+        origin: Locality::Any,
+        key: KeyArg::Text(Text::of(alloc, keys)?),
+    })
+}
+
+/// A put of a text on this key, for this session and the network.
+fn put(alloc: Global, key: &str, text: &str) -> Result<Event, AllocError> {
+    Ok(Event::Put {
+        destination: Locality::Any,
+        key: KeyArg::Text(Text::of(alloc, key)?),
+        payload: ZBytes::from_str(alloc, text)?,
+        encoding: Text::of(alloc, "text/plain")?,
+        qos: QoSType {
+            priority: 5,
+            congestion: CongestionControl::Drop,
+            express: false,
+        },
+        reliable: true,
+    })
+}
+
+/// Prints an effect as a program would act on it.
+fn act(rt: &impl Print, effect: &Effect) -> Result<()> {
+    match effect {
+        Effect::Hand(HandOver::Sample { id, sample, .. }) => {
+            let key = sample.key_expr().as_str();
+            let size = sample.payload().len();
+            println!(rt; "subscriber {id} is handed {size} bytes on {key}")?;
+        }
+        Effect::End { id, .. } => println!(rt; "{id} has ended")?,
+    }
+    Ok(())
+}
+
+fn run(rt: &impl Print, alloc: Global) -> Result<()> {
+    let mut state = SessionState::new(alloc, &Settings::default())?;
+    let events = [
+        subscriber(alloc, "home/**")?,
+        put(alloc, "home/kitchen/temp", "21")?,
+        put(alloc, "garden/temp", "12")?,
+        Event::Close,
+    ];
+    for (index, event) in events.iter().enumerate() {
+        let turn = state.step(event)?;
+        let text = print_turn(alloc, (index as u64).saturating_add(1), &turn)?;
+        print!(rt; "{text}")?;
+        for effect in turn.effects.as_slice() {
+            act(rt, effect)?;
+        }
+    }
+    Ok(())
+}
+
+fn main(rt: HostRuntime) -> Result<()> {
+    run(&rt, rt.alloc())
+}
