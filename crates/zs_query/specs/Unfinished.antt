@@ -1,5 +1,5 @@
 -- The query values that were handed out and not given back.
-use Rattle.std.specs.Prelude.{◌≡◌, ℕ, ◌+◌, ◌<◌, ◌==◌, ◌&&◌, nat_lt, Bool, not, List, [], ◌∷◌, filter, Option, Some, None, IfSome, if◌then◌else◌}
+use Rattle.std.specs.Prelude.{◌≡◌, ℕ, ◌+◌, ◌<◌, ◌==◌, ◌&&◌, nat_lt, Bool, not, List, [], ◌∷◌, filter, Option, Some, None, MatchOption, if◌then◌else◌}
 use Rattle.std.specs.List.{find, list_any, AllByRecursion}
 use Rattle.std.specs.Borrow.{Bor}
 use Rattle.zs_query.specs.declared.query_value.QueryValue.{QueryValue}
@@ -63,7 +63,7 @@ of_same_request (Some v) values = filter (λ o. o.request == v.request) values
 -- what is found of a value: its request and its queryable
 abbrev pub IsFound : Option QueryValue → Option (Bor RequestRow × ℕ) → Type 0
 IsFound None found = found ≡ None
-IsFound (Some v) found = IfSome found (λ f. (f.0.now ≡ v.row) × (f.1 ≡ v.queryable))
+IsFound (Some v) found = MatchOption found (Some v ≡ None) (λ f. (f.0.now ≡ v.row) × (f.1 ≡ v.queryable))
 
 -- the numbers ascend and have another above them, and each request is one of those that were handed out
 pub record AreInOrder (handed : ℕ) (values : List QueryValue) : Type 0 where
