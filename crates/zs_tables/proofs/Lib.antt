@@ -3,6 +3,7 @@ pub mod Searching
 pub mod Keeping
 pub mod Walking
 pub mod Changing
+pub mod Indexing
 pub mod Keyed
 pub mod GroupLemmas
 pub mod Tabled

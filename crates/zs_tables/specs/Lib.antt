@@ -1,5 +1,6 @@
 pub mod Ascending
 pub mod Numbers
+pub mod Texts
 pub mod Contents
 pub mod Recipients
 pub mod Lists

@@ -1,6 +1,7 @@
 -- What each number keeps beside its key: words that no public contract needs.
-use Rattle.std.specs.Prelude.{◌≡◌, ◌==◌, ◌<◌, ◌&&◌, ℕ, Bool, true, not, List, [], ◌∷◌, ◌++◌, map, filter, vec_len, vec_capacity, if◌then◌else◌}
+use Rattle.std.specs.Prelude.{◌≡◌, ◌==◌, ◌<◌, ◌&&◌, ℕ, Bool, true, not, List, [], ◌∷◌, ◌++◌, String, Vec, map, filter, vec_len, vec_capacity, if◌then◌else◌}
 use Rattle.std.specs.List.{AllByRecursion, list_any}
+use Rattle.std.specs.HashMap.{HashMap}
 use Rattle.zs_keys.specs.Key.{Key}
 use Rattle.zs_wire.specs.declared.wire_expr.Mapping.{Mapping}
 use Rattle.zs_wire.specs.declared.wire_expr.Mapping.TheVariants.{Sender, Receiver}
@@ -11,6 +12,7 @@ use Rattle.zs_tables.specs.declared.number_row.NumberRow.{NumberRow}
 use Rattle.zs_tables.specs.Ascending.{Ascend}
 use Rattle.zs_tables.specs.Numbers.{NumberedKey}
 use Rattle.zs_tables.specs.Recipients.{matches, takes}
+use Rattle.zs_tables.specs.Texts.{ListsNumbers}
 
 -- a number, its key, and its list of matching subscribers
 pub record Listed : Type 0 where
@@ -65,10 +67,11 @@ pub record AreInOrder (rows : List SubRow) (own told : List Listed) : Type 0 whe
 abbrev pub keyed : SubRow → Row
 keyed row = record { id = row.id; text = row.key.text }
 
--- rows and numbers are in order, and the tree has the keys of the rows
-pub record AreKept (rows : List SubRow) (own told : List Listed) (tree : List Row) : Type 0 where
+-- rows and numbers are in order, the tree has the keys of the rows, and the index has the numbers of each text
+pub record AreKept {A S : Type 0} (rows : List SubRow) (own told : List Listed) (tree : List Row) (texts : HashMap (String A) (Vec ℕ A) S) : Type 0 where
   pub order : AreInOrder rows own told
   pub tree_is : tree ≡ map keyed rows
+  pub indexed : ListsNumbers (map held_of own) texts
 
 -- whether the subscriber of that id takes the publication
 abbrev pub takes_by_id : Bool → List SubRow → ℕ → Bool

@@ -19,9 +19,11 @@ mod laws;
 mod lists;
 mod number_row;
 mod numbers;
+mod own;
 mod places;
 mod recipients;
 mod subscriber;
 mod tables;
 #[cfg(test)]
 mod tests;
+mod texts;

@@ -4,8 +4,7 @@ ghost use Rattle.std.specs.Prelude.{◌≡◌, ◌==◌, not, filter};
 ghost use Rattle.std.specs.List.{find, list_any};
 ghost use Rattle.std.specs.Option.{option_copied};
 ghost use Rattle.zs_tables.specs.Ascending.{Ascend};
-ghost use Rattle.zs_tables.specs.Numbers.{number_at};
-ghost use Rattle.zs_tables.specs.Lists.{held, chosen};
+ghost use Rattle.zs_tables.specs.Lists.{chosen};
 
 use crate::number_row::NumberRow;
 use crate::places::{find, place_of};
@@ -26,18 +25,6 @@ pub(crate) fn find_in<'a>(
         Mapping::Receiver => find(own, number),
         Mapping::Sender => find(told, number),
     }
-}
-
-/// The first number that stands for a text.
-pub(crate) fn first_of_text(numbers: &[NumberRow], text: &str) -> Option<u16>
-    ensures { result ≡ number_at text.now (held numbers.now) }
-{
-    for row in numbers {
-        if row.key.as_str() == text {
-            return Some(row.number);
-        }
-    }
-    None
 }
 
 /// Takes a number out, and says whether it was there.

@@ -34,6 +34,14 @@ pub(crate) fn id_place(ids: &[u32], id: u32) -> Result<usize, usize>
     ids.binary_search(&id)
 }
 
+/// Where a number stands in a list, or where it would go.
+pub(crate) fn number_place(numbers: &[u16], number: u16) -> Result<usize, usize>
+    requires { Ascend (λ n. n) numbers.now }
+    ensures { IsPlaceOf (λ n. n) number numbers.now result }
+{
+    numbers.binary_search(&number)
+}
+
 /// The row of a number.
 pub(crate) fn find(numbers: &[NumberRow], number: u16) -> Option<&NumberRow>
     requires { Ascend (λ row. row.number) numbers.now }

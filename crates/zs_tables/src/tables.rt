@@ -1,5 +1,5 @@
 ghost use Rattle.std.specs.Prelude.{◌≡◌, ◌<◌, ◌==◌, ◌++◌, [], ◌∷◌, All, not, filter, IsSome, OnOk, OnErr};
-ghost use Rattle.std.specs.List.{list_any};
+ghost use Rattle.std.specs.List.{find, list_any};
 ghost use Rattle.std.specs.Option.{option_map, option_copied, ForSome, is_some};
 ghost use Rattle.zs_tables.specs.Ascending.{Ascend};
 ghost use Rattle.zs_tables.specs.Numbers.{key_at, number_at, placed, without};
@@ -9,10 +9,12 @@ ghost use Rattle.zs_tables.specs.Recipients.{matches, recipients, next_recipient
 use crate::key_ref::KeyRef;
 use crate::lists::{empty_lists, forget, note, put_last, reserve_lists};
 use crate::number_row::NumberRow;
-use crate::numbers::{find_in, first_of_text, take_out};
+use crate::numbers::{find_in, take_out};
+use crate::own::{set_own, unset_own};
 use crate::places::{find_row, ids_behind, place, row_place};
 use crate::recipients::{first_by_id, first_in_tree, keep_takers};
 use crate::subscriber::SubRow;
+use crate::texts::{Texts, first_number};
 use std::alloc::{AllocError, Global};
 use std::marker::Model;
 use std::sync::ledger::Ledger;
@@ -23,14 +25,15 @@ use zs_wire::Mapping;
 /// The live subscribers in ascending id, and the declared numbers of both mappings with their keys. A tree of the
 /// subscribers' keys finds those that a key reaches. Each number keeps the list of the subscribers whose key has a key
 /// in common with its own, and each change brings the lists up to date: a new subscriber is tested against each number,
-/// a new number takes its list from the tree, and a look-up by number tests no keys. No call that answers want of
-/// memory has changed anything.
+/// a new number takes its list from the tree, and a look-up by number tests no keys. An index by text finds the numbers
+/// of a text. No call that answers want of memory has changed anything.
 #[derive(Drop)]
 pub struct Tables {
     alloc: Global,
     rows: Vec<SubRow>,
     tree: KeyTree,
     own: Vec<NumberRow>,
+    texts: Texts,
     told: Vec<NumberRow>,
 }
 
@@ -43,7 +46,7 @@ impl Model for Tables {
 
     ghost view = { λ t. record { rows = t.rows.items; own = held t.own.items; told = held t.told.items } };
 
-    ghost invariant = { λ t. AreKept t.rows.items (map shown t.own.items) (map shown t.told.items) t.tree };
+    ghost invariant = { λ t. AreKept t.rows.items (map shown t.own.items) (map shown t.told.items) t.tree t.texts };
 }
 
 impl Tables {
@@ -56,6 +59,7 @@ impl Tables {
             rows: Vec::new(alloc),
             tree: KeyTree::new(alloc),
             own: Vec::new(alloc),
+            texts: Texts::new(alloc),
             told: Vec::new(alloc),
         }
     }
@@ -118,7 +122,7 @@ impl Tables {
             matches,
         };
         match mapping {
-            Mapping::Receiver => place(&mut self.own, new),
+            Mapping::Receiver => set_own(self.alloc, &mut self.own, &mut self.texts, new),
             Mapping::Sender => place(&mut self.told, new),
         }
     }
@@ -129,7 +133,7 @@ impl Tables {
         ensures numbers { self.new ≡ with_numbers mapping (without number (numbers_of mapping self.old)) self.old }
     {
         match mapping {
-            Mapping::Receiver => take_out(&mut self.own, number),
+            Mapping::Receiver => unset_own(&mut self.own, &mut self.texts, number),
             Mapping::Sender => take_out(&mut self.told, number),
         }
     }
@@ -141,6 +145,7 @@ impl Tables {
         self.rows.clear();
         self.tree.clear();
         self.own.clear();
+        self.texts.clear();
         empty_lists(&mut self.told);
     }
 
@@ -158,7 +163,7 @@ impl Tables {
     pub fn number_of(&self, text: &str) -> Option<u16>
         ensures { result ≡ number_at text.now self.now.own }
     {
-        first_of_text(&self.own, text)
+        first_number(&self.texts, text)
     }
 
     /// The subscribers, in ascending id.
@@ -167,6 +172,13 @@ impl Tables {
         ensures ascending { Ascend (λ row. row.id) self.now.rows }
     {
         &self.rows
+    }
+
+    /// The subscriber of that id, if there is one.
+    pub fn row(&self, id: u32) -> Option<&SubRow>
+        ensures { option_copied result ≡ find (λ row. row.id == id) self.now.rows }
+    {
+        find_row(&self.rows, id)
     }
 
     /// Whether there is a subscriber of that id.

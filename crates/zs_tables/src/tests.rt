@@ -116,9 +116,11 @@ fn numbers_change(rt: HostRuntime) -> Result<(), Fail> {
     assert!(rt; !tables.unset(Mapping::Receiver, 5));
     assert_eq!(rt; tables.number_of("a/b"), Some(6));
     assert_eq!(rt; tables.number_of("b"), None);
+    assert_eq!(rt; tables.number_of("c"), None);
     assert!(rt; tables.key_of(Mapping::Receiver, 5).is_none());
     tables.clear();
     assert_eq!(rt; tables.rows().len(), 0);
+    assert_eq!(rt; tables.number_of("a/b"), None);
     assert!(rt; tables.matches_of(Mapping::Receiver, 6).is_none());
     assert!(rt; lists(&tables, Mapping::Sender, 7, &[]));
     assert!(rt; tables.unset(Mapping::Sender, 8));

@@ -4,6 +4,7 @@ pub mod Codes
 pub mod Beside
 pub mod Plain
 pub mod Missed
+pub mod Gaps
 pub mod Turns
 pub mod RunLemmas
 pub mod HitLemmas

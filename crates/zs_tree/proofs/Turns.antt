@@ -10,6 +10,8 @@ use Rattle.zs_tree.specs.declared.runs.Bound.TheVariants.{Open, Below, Closed}
 use Rattle.zs_tree.specs.Code.{IsCut, is_rough, mark_of, onto_chunk, coded, code_cmp}
 use Rattle.zs_tree.specs.Runs.{within}
 use Rattle.zs_tree.specs.Walk.{AreCut, ArePlain, AreMissed, Led, chunks_meet}
+use Rattle.zs_tree.specs.Gap.{IsGap}
+use Rattle.zs_tree.proofs.Gaps.{gap_none}
 use Rattle.zs_tree.proofs.Codes.{UpTo, coded-append, cut_same}
 use Rattle.zs_tree.proofs.Plain.{plain_no_double, meet_on, meet_not, meet_behind}
 use Rattle.zs_tree.proofs.Missed.{missed, dead_behind, dead_high, dead_end, dead_low}
@@ -155,6 +157,18 @@ module _ (asked stored : Chunks) (cut : AreCut stored) where
       (λ more up inside.
       ap (chunks_meet asked) (append_assoc led'.front led'.back more) ∙ led'.answer (led'.back ++ more)
       ∙ meet_behind led'.back (x.now ∷ xs) more led'.plain ∙ dead_low x.now xs y ys p q more up inside)
+
+  -- behind the `**` that comes next, what is in the gap between the asked chunks
+  pub skip_stars : (left right : Chunks) (code firm : List ℕ) (y s : List ℕ) (ss : Chunks) (bound : Bound) (whole path behind : List ℕ)
+      → Led asked stored left right code firm → right ≡ y ∷ s ∷ ss → is_double_star y ≡ true → is_rough s ≡ false
+      → IsGap left behind bound → whole ≡ coded stored → behind ≡ coded (s ∷ ss)
+      → ((front' : List ℕ) → whole ≡ front' ++ behind → path ≡ front') → AreMissed asked whole path bound
+  skip_stars left right code firm y s ss bound whole path behind led r star plain gap whole_is is parted =
+      let led' : Led asked stored left (y ∷ s ∷ ss) code firm = rw r at led in
+      let gap' : IsGap left (coded (s ∷ ss)) bound = rw is at gap in
+      skip (led'.front ++ (led'.back ++ (y ∷ []))) (s ∷ ss) bound whole path behind (led'.stored_is ∙ sym (behind_all led'.front led'.back y (s ∷ ss)))
+      whole_is is parted gap'.inside
+      (λ more up inside. met_behind left y (s ∷ ss) code firm led' more ∙ gap_none left y s ss bound star plain gap' more up inside)
 
   -- both keys end together
   pub met_ends : (left right : Chunks) (code firm : List ℕ) → Led asked stored left right code firm → left ≡ [] → right ≡ []

@@ -4,3 +4,4 @@ pub mod Chunks
 pub mod Entries
 pub mod Runs
 pub mod Walk
+pub mod Gap

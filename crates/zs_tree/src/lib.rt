@@ -6,6 +6,7 @@ mod chunks;
 mod code;
 mod edits;
 mod entry;
+mod gap;
 mod least;
 mod matching;
 mod runs;

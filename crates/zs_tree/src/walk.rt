@@ -1,6 +1,6 @@
 //! A walk along an asked key and a stored one.
 
-ghost use Rattle.std.specs.Prelude.{◌≡◌, false, []};
+ghost use Rattle.std.specs.Prelude.{◌≡◌, true, false, [], ◌∷◌};
 ghost use Rattle.zs_keys.specs.Text.{is_double_star};
 ghost use Rattle.zs_tree.specs.Chunks.{chunks_left};
 ghost use Rattle.zs_tree.specs.Walk.{Tells, IsLed, IsNext, Goes};
@@ -8,6 +8,7 @@ ghost use Rattle.zs_tree.specs.Walk.{Tells, IsLed, IsNext, Goes};
 use crate::chunks::Chunks;
 use crate::code::{Beside, PLAIN, before, behind_chunk, beside_chunk, is_rough};
 use crate::entry::Entry;
+use crate::gap::gap;
 use crate::runs::Bound;
 use zs_keys::{chunk_meets, texts_meet};
 
@@ -73,7 +74,7 @@ fn take_turn<'a>(asked: &'a str, stored: &'a Entry, at: Place<'a>) -> Turn<'a>
         };
     };
     if theirs == "**" {
-        return Turn::Done(whole(asked, stored));
+        return Turn::Done(behind_stars(asked, stored, at, theirs, right));
     }
     let Some((ours, left)) = at.left.next_chunk() else {
         return Turn::Done(asked_ends(asked, stored, at, theirs));
@@ -123,6 +124,33 @@ fn asked_ends<'a>(asked: &'a str, stored: &'a Entry, at: Place<'a>, theirs: &str
         );
     }
     Answer::Skips(before(&stored.code, at.firm), Bound::Open)
+}
+
+/// The stored key goes on with a `**`, and then with what is left of it. Where a plain chunk is next there, all in the gap
+/// between the asked chunks are left out.
+fn behind_stars<'a>(
+    asked: &'a str,
+    stored: &'a Entry,
+    at: Place<'a>,
+    stars: &str,
+    right: Chunks<'a>,
+) -> Answer<'a>
+    requires led { IsLed asked.now stored.now at }
+    requires stored_next { chunks_left at.right ≡ stars.now ∷ chunks_left right }
+    requires double_star { is_double_star stars.now ≡ true }
+    ensures { Tells asked.now stored.now result }
+{
+    let Some((theirs, _)) = right.next_chunk() else {
+        return whole(asked, stored);
+    };
+    if is_rough(theirs) {
+        return whole(asked, stored);
+    }
+    let behind = behind_chunk(at.code, stars);
+    match gap(at.left, behind) {
+        Some(bound) => Answer::Skips(before(&stored.code, behind), bound),
+        None => whole(asked, stored),
+    }
 }
 
 /// Tests the whole keys, and tells of the stored one alone.

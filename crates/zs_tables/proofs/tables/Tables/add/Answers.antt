@@ -3,6 +3,7 @@ use Rattle.std.specs.Prelude.{All, map, ◌<◌}
 use Rattle.zs_tables.specs.Contents.{Contents}
 use Rattle.zs_tables.specs.Lists.{noted}
 use Rattle.zs_tables.proofs.Keyed.{new_in_tree, tree_push}
+use Rattle.zs_tables.proofs.Indexing.{still_indexed}
 use Rattle.zs_tables.proofs.Tabled.{in_order_push, same_contents, held_stays}
 use Rattle.zs_tables.proofs.tables.Tables.add.Goals as goal
 
@@ -24,6 +25,8 @@ invariant_of-self-2 c =
           (c.put_last.ensures ∙ ap (λ rows. rows ++ c.args.row ∷ []) c.in_ok-reserve.ensures.items)
           (c.note.ensures ∙ ap note c.in_ok-reserve_lists.ensures.same)
           (c.note-2.ensures ∙ ap note c.in_ok-reserve_lists-2.ensures.same);
+      indexed = still_indexed _ _ c.self.inside.texts
+          (held_stays (noted c.args.row.id c.args.row.key.text) (λ n. refl) c.self.inside.own.items _ (c.note.ensures ∙ ap note c.in_ok-reserve_lists.ensures.same)) c.self.invariant.indexed;
     }
 
 pub returns-clause-ok : goal.returns-clause-ok

@@ -1,6 +1,7 @@
 use Rattle.std.proofs.Common.{ap, refl, sym, ◌∙◌}
 use Rattle.std.specs.Prelude.{map}
 use Rattle.zs_tables.specs.Lists.{shown, held, emptied, keyed}
+use Rattle.zs_tables.proofs.Indexing.{none_indexed}
 use Rattle.zs_tables.proofs.Tabled.{in_order_cleared, same_contents, held_stays}
 use Rattle.zs_tables.proofs.tables.Tables.clear.Goals as goal
 
@@ -8,6 +9,7 @@ pub invariant_of-self : goal.invariant_of-self
 invariant_of-self c = record {
   order = in_order_cleared _ _ _ _ _ _ c.self.invariant.order c.clear.ensures.items (ap (map shown) c.clear-3.ensures.items) c.empty_lists.ensures;
   tree_is = c.clear-2.ensures ∙ sym (ap (map keyed) c.clear.ensures.items);
+  indexed = none_indexed c.clear-4.new.self c.clear-4.ensures.empty _ (ap held c.clear-3.ensures.items);
 }
 
 pub returns : goal.returns
