@@ -1,9 +1,9 @@
 -- The first cause, by tests one after the other, is the first in order of those that hold.
 use Rattle.std.proofs.Common.{◌≡◌, List, [], ◌∷◌, Bool, true, false, Option, Some, None, refl, sym, ◌∙◌, ap}
 use Rattle.std.specs.Prelude.{◌&&◌, not, if◌then◌else◌}
-use Rattle.zs_core.specs.declared.turn.Refusal.{Refusal}
-use Rattle.zs_core.specs.declared.turn.Refusal.TheVariants.{SessionClosedError, NotFound, UnknownScope, BadKeyExpr, QueryCancelled, ReplyDisjoint, NotDeclared, IdsExhausted, Ignored}
-use Rattle.zs_core.specs.Kinds.{Speaker, Application, Anytime, Network, Row}
+use Rattle.zs_events.specs.declared.turn.Refusal.{Refusal}
+use Rattle.zs_events.specs.declared.turn.Refusal.TheVariants.{SessionClosedError, NotFound, UnknownScope, BadKeyExpr, QueryCancelled, ReplyDisjoint, NotDeclared, IdsExhausted, Ignored}
+use Rattle.zs_events.specs.Kinds.{Speaker, Application, Anytime, Network, Row}
 use Rattle.zs_core.specs.Seen.{Sight, is_not_found, is_unknown, is_bad}
 use Rattle.zs_core.specs.Causes.{wants_open, is_net, holds, in_order, first_that}
 use Rattle.zs_core.specs.Turns.{refused_if, first_cause, refused_closed}

@@ -1,12 +1,12 @@
 -- What a decision makes of the tables and of the past, put together once: nothing here names a kind of event.
 use Rattle.std.proofs.Common.{◌≡◌, List, [], ◌∷◌, Bool, true, false, Option, Some, None, refl}
 use Rattle.std.specs.Prelude.{ℕ, if◌then◌else◌}
-use Rattle.zs_core.specs.declared.event.Event.{Event}
+use Rattle.zs_events.specs.declared.event.Event.{Event}
 use Rattle.zs_core.specs.declared.change.Change.{Change}
 use Rattle.zs_core.specs.declared.change.Change.TheVariants.{Nothing}
 use Rattle.zs_core.specs.declared.change.Decision.{Decision}
-use Rattle.zs_core.specs.declared.turn.Effect.{Effect}
-use Rattle.zs_core.specs.declared.turn.Refusal.{Refusal}
+use Rattle.zs_events.specs.declared.turn.Effect.{Effect}
+use Rattle.zs_events.specs.declared.turn.Refusal.{Refusal}
 use Rattle.zs_core.specs.World.{World}
 use Rattle.zs_core.specs.Entry.{Entry}
 use Rattle.zs_core.specs.Past.{with_entry}

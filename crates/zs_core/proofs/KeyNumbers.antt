@@ -3,10 +3,10 @@ use Rattle.std.proofs.Common.{◌≡◌, ◌≤◌, ℕ, List, Bool, true, false
 use Rattle.std.specs.Prelude.{is_some, unwrap_or}
 use Rattle.std.specs.Str.{bytes_eq}
 use Rattle.zs_tables.specs.Numbers.{key_at, number_at}
-use Rattle.zs_core.specs.declared.event.KeyArg.{KeyArg}
+use Rattle.zs_events.specs.declared.event.KeyArg.{KeyArg}
 use Rattle.zs_core.specs.declared.settings.Settings.{Settings}
 use Rattle.zs_core.specs.World.{World}
-use Rattle.zs_core.specs.Kinds.{KeyNumber}
+use Rattle.zs_events.specs.Kinds.{KeyNumber}
 use Rattle.zs_core.specs.Entry.{Entry, is_closed}
 use Rattle.zs_core.specs.Held.{times_declared, is_held, held_text, held_number, stands_for, key_text}
 use Rattle.zs_core.specs.Counters.{next_key, drawn_number}

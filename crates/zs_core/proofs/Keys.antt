@@ -10,15 +10,18 @@ use Rattle.zs_wire.specs.declared.wire_expr.Mapping.{Mapping}
 use Rattle.zs_wire.specs.declared.wire_expr.Mapping.TheVariants.{Sender, Receiver}
 use Rattle.zs_wire.specs.declared.wire_expr.WireExpr.{WireExpr}
 use Rattle.zs_tables.specs.Numbers.{key_at, number_at}
-use Rattle.zs_core.specs.declared.event.Event.{Event}
-use Rattle.zs_core.specs.declared.event.Event.TheVariants.{Key, UndeclareKey}
-use Rattle.zs_core.specs.declared.event.KeyArg.{KeyArg}
-use Rattle.zs_core.specs.declared.event.KeyArg.TheVariants.{Text, Number}
+use Rattle.zs_events.specs.declared.event.Event.{Event}
+use Rattle.zs_events.specs.declared.event.Event.TheVariants.{Key, UndeclareKey}
+use Rattle.zs_events.specs.declared.event.KeyArg.{KeyArg}
+use Rattle.zs_events.specs.declared.event.KeyArg.TheVariants.{Text, Number, Declared}
 use Rattle.zs_core.specs.World.{World}
-use Rattle.zs_core.specs.Kinds.{NamedKey, NoKey, OwnKey, WireKey}
+use Rattle.zs_events.specs.Kinds.{NamedKey, NoKey, OwnKey, PublisherKey, WireKey}
 use Rattle.zs_core.specs.Entry.{Entry, is_closed}
-use Rattle.zs_core.specs.Held.{declares_number, times_declared, times_returned, is_held, drawn_text, held_text, stands_for, answers_under, number_among, held_number, key_text, mapped_text, wire_text, text_named}
-use Rattle.zs_core.specs.Keys.{key_of, text_with_suffix, numbers_for, wire_of, text_of}
+use Rattle.zs_core.specs.Held.{is_claimed, declares_number, times_declared, times_returned, is_held, drawn_text, held_text, stands_for, answers_under, number_among, held_number, key_text, mapped_text, wire_text, text_named}
+use Rattle.zs_core.specs.Keys.{key_of, is_key_of, has_claim, text_with_suffix, numbers_for, wire_of, text_of}
+use Rattle.zs_core.specs.declared.publisher.PubRow.{PubRow}
+use Rattle.zs_core.specs.Publishers.{pub_at}
+use Rattle.zs_core.proofs.Live.{AreLive}
 use Rattle.zs_core.proofs.DeclaredKeys.{AreKnown, held_text_is, held_is}
 use Rattle.zs_core.proofs.DistinctNumbers.{found_again, named_again}
 
@@ -33,6 +36,7 @@ suffixed_is suffix key text is = go key ∙ ap (option_map (λ (t : List ℕ). t
 
 key_text_is : (w : World) (past : List Entry) (key : KeyArg) → AreKnown w past → key_of w key ≡ key_text past key
 key_text_is w past (Text text) k = refl
+key_text_is w past (Declared text n prefix_len) k = refl
 key_text_is w past (Number n suffix) k = suffixed_is suffix (key_at n w.keys.own) (held_text n past) (held_text_is w past n k)
 
 pub mapped_is : (w : World) (past : List Entry) (mapping : Mapping) (n : ℕ) → AreKnown w past
@@ -49,10 +53,11 @@ wire_text_is w past wire k = go (wire.scope == 0)
     go false = suffixed_is wire.suffix (key_at wire.scope (numbers_for wire.mapping w)) (mapped_text wire.mapping wire.scope past) (mapped_is w past wire.mapping wire.scope k)
 
 -- the text of a named key
-pub text_is : (w : World) (past : List Entry) (key : NamedKey) → AreKnown w past → text_of w key ≡ text_named past key
-text_is w past NoKey k = refl
-text_is w past (OwnKey key) k = key_text_is w past key k
-text_is w past (WireKey wire) k = wire_text_is w past wire k
+pub text_is : (w : World) (past : List Entry) (key : NamedKey) → AreLive w past → AreKnown w past → text_of w key ≡ text_named past key
+text_is w past NoKey l k = refl
+text_is w past (OwnKey key) l k = key_text_is w past key k
+text_is w past (PublisherKey id) l k = ap (λ (rows : List PubRow). option_map (λ (row : PubRow). row.key.text) (pub_at id rows)) l.pubs.table
+text_is w past (WireKey wire) l k = wire_text_is w past wire k
 
 -- a number that stands for a text by the events is found for it in the table
 pub found_at : (w : World) (past : List Entry) (text : List ℕ) (n : ℕ) → AreKnown w past → stands_for text (held_text n past) ≡ true → number_at text w.keys.own ≡ Some n
@@ -134,3 +139,13 @@ number_is w past text k = go (number_at text w.keys.own) refl (held_number text 
         let stands : stands_for text (held_text n past) ≡ true = stands_at w past text n k at in
         let some : is_some (held_number text past) ≡ true = among_some text past past n stands (stands_given text past n stands) in
         let no : true ≡ false = sym some ∙ ap is_some held in cc
+
+-- what is claimed of a number is so by the table where it is by the events
+pub claim_is : (w : World) (past : List Entry) (claims : Option ℕ) (text : Option (List ℕ)) → AreKnown w past → has_claim w claims text ≡ is_claimed past claims text
+claim_is w past None text k = refl
+claim_is w past (Some n) None k = refl
+claim_is w past (Some n) (Some text) k = go (key_at n w.keys.own) ∙ ap (stands_for text) (held_text_is w past n k)
+  where
+    go : (o : Option a_key) → is_key_of text o ≡ stands_for text (option_map (λ (key : a_key). key.text) o)
+    go None = refl
+    go (Some key) = refl

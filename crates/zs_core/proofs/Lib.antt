@@ -1,15 +1,22 @@
+mod Bounds
 mod Causes
 mod Changes
 mod Counts
 mod Decisions
 mod DeclaredKeys
 mod DistinctNumbers
+mod Entities
 pub mod Filters
+mod GroupNumbers
+mod Groups
 mod KeyNumbers
 mod Keys
+mod Live
 mod Numbers
 mod Publications
+mod Publishers
+mod Received
 mod Recipients
+mod Sharing
 mod Stands
 mod Steps
-mod Subscribers

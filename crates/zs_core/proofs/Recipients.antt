@@ -6,7 +6,7 @@ use Rattle.zs_wire.specs.declared.wire_expr.Mapping.{Mapping}
 use Rattle.zs_tables.specs.declared.subscriber.SubRow.{SubRow}
 use Rattle.zs_tables.specs.Numbers.{key_at}
 use Rattle.zs_tables.specs.Recipients.{matches}
-use Rattle.zs_core.specs.declared.event.Event.{Event}
+use Rattle.zs_events.specs.declared.event.Event.{Event}
 use Rattle.zs_core.specs.declared.settings.Settings.{Settings}
 use Rattle.zs_core.specs.Keys.{numbers_for}
 use Rattle.zs_core.specs.Past.{past_of}
@@ -25,4 +25,4 @@ pub lists_are_tests : ListsAreTests
 lists_are_tests s h mapping n =
     by_text (world_after s h).entities.subs (key_at n (numbers_for mapping (world_after s h)))
     ∙ ap (option_map (λ (text : List ℕ). matches text (world_after s h).entities.subs)) (mapped_is (world_after s h) (past_of s h) mapping n (standing s h).known)
-    ∙ ap (λ (rows : List SubRow). option_map (λ (text : List ℕ). matches text rows) (mapped_text mapping n (past_of s h))) (standing s h).live.table
+    ∙ ap (λ (rows : List SubRow). option_map (λ (text : List ℕ). matches text rows) (mapped_text mapping n (past_of s h))) (standing s h).live.subs.table

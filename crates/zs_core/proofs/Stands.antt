@@ -1,48 +1,66 @@
 -- What the tables are behind every history: one induction, by the changes of accepted events.
 use Rattle.std.proofs.Common.{◌≡◌, ◌+◌, ℕ, List, [], ◌∷◌, Bool, true, false, Option, Some, None, refl, sym, ◌∙◌, ap, subst}
 use Rattle.std.specs.Prelude.{not, ◌&&◌, is_some, unwrap_or, if◌then◌else◌}
-use Rattle.zs_core.specs.declared.event.Event.{Event}
+use Rattle.zs_events.specs.declared.event.Event.{Event}
 use Rattle.zs_core.specs.declared.settings.Settings.{Settings}
 use Rattle.zs_core.specs.declared.change.Change.{Change}
 use Rattle.zs_core.specs.declared.change.Change.TheVariants.{Nothing, OfKeys, OfEntities, OfNetwork, Shut}
 use Rattle.zs_core.specs.declared.change.KeyChange.TheVariants.{Declare, Hold, Release}
-use Rattle.zs_core.specs.declared.change.EntityChange.TheVariants.{AddSub, EndSub}
+use Rattle.zs_core.specs.declared.change.EntityChange.TheVariants.{AddSub, EndSub, AddPub, EndPub}
 use Rattle.zs_core.specs.declared.change.Decision.{Decision}
-use Rattle.zs_core.specs.declared.turn.Refusal.{Refusal}
-use Rattle.zs_core.specs.declared.turn.Turn.{Turn}
+use Rattle.zs_events.specs.declared.turn.Refusal.{Refusal}
+use Rattle.zs_events.specs.declared.turn.Turn.{Turn}
 use Rattle.zs_tables.specs.declared.subscriber.SubRow.{SubRow}
 use Rattle.zs_tables.specs.Numbers.{number_at}
 use Rattle.zs_core.specs.Settings.{last_entity, last_key}
-use Rattle.zs_core.specs.Turn.{answered}
+use Rattle.zs_events.specs.Turn.{answered}
 use Rattle.zs_core.specs.World.{World}
-use Rattle.zs_core.specs.Kinds.{Draws, NoNumber, EntityNumber, KeyNumber, Named, row_of}
+use Rattle.zs_events.specs.Kinds.{Draws, NoNumber, EntityNumber, KeyNumber, Named, row_of}
 use Rattle.zs_core.specs.Seen.{Sight}
 use Rattle.zs_core.specs.Entry.{Entry, is_closed}
-use Rattle.zs_core.specs.Held.{held_number, named_text}
-use Rattle.zs_core.specs.Live.{live_subs, is_live_named, is_subscriber}
+use Rattle.zs_core.specs.Held.{held_number, is_claimed, named_text}
+use Rattle.zs_core.specs.Keys.{has_claim}
+use Rattle.zs_core.specs.Live.{live_subs, live_pubs, names_some}
+use Rattle.zs_tables.specs.Groups.{groups_of, number_of_group}
+use Rattle.zs_tables.specs.declared.group_kind.GroupKind.{GroupKind}
+use Rattle.zs_tables.specs.declared.group_kind.GroupKind.TheVariants.{Subscribers, Publishers, Queriers}
+use Rattle.zs_core.specs.declared.publisher.PubRow.{PubRow}
+use Rattle.zs_core.specs.Publishers.{pub_at}
+use Rattle.zs_core.specs.Sends.{prefix_declaration}
+use Rattle.zs_core.specs.Groups.{aggregates_of, group_number, company_of, company_at}
 use Rattle.zs_core.specs.Counters.{is_spent, draws_entity, draws_key, next_entity, next_key, lacks_number, drawn_number}
 use Rattle.zs_core.specs.Causes.{past_sight, holds, in_order, first_that, refusal_of}
 use Rattle.zs_core.specs.Past.{entry_of, with_entry, past_with, past_of}
-use Rattle.zs_core.specs.Effects.{effects_on, turn_of, effects}
+use Rattle.zs_core.specs.Effects.{Known, known_of, own_keys_of, effects_on, turn_of, effects}
 use Rattle.zs_core.specs.Changes.{with_change, change_for}
-use Rattle.zs_core.specs.Turns.{text_for, finds, has_run_out, number_of, number_for, sight, first_cause, refused_closed, closed_cause, open_cause, cause, effects_of, decision_of, open_decision, decision}
+use Rattle.zs_core.specs.Turns.{text_for, finds, has_run_out, number_of, number_for, sight, first_cause, refused_closed, closed_cause, open_cause, cause, own_keys_at, known_at, effects_of, decision_of, open_decision, decision}
 use Rattle.zs_core.specs.Stands.{new_world, world_of, world_after, Stands, Steps}
 use Rattle.zs_core.proofs.Decisions.{entry_for, past_with_by, cases}
 use Rattle.zs_core.proofs.Changes.{IsMade, adds, draws_by, draws_new, made}
-use Rattle.zs_core.proofs.Subscribers.{AreLive, live_more}
-use Rattle.zs_core.proofs.DeclaredKeys.{AreKnown, known_more}
-use Rattle.zs_core.proofs.Keys.{text_is, number_is}
+use Rattle.zs_core.proofs.Live.{AreLive, live_more, live_none, there_is}
+use Rattle.zs_core.proofs.Sharing.{grouped_none}
+use Rattle.zs_core.proofs.GroupNumbers.{AreShared, shared_more, members_are, number_next}
+use Rattle.zs_core.proofs.DeclaredKeys.{AreKnown, known_more, held_text_is, count_is}
+use Rattle.zs_core.proofs.Keys.{text_is, number_is, claim_is}
 use Rattle.zs_core.proofs.Causes.{is_first}
 
 -- what the tables and counters are behind a past
 pub record AreStanding (s : Settings) (w : World) (past : List Entry) : Type 0 where
+  pub settings : w.settings ≡ s
   pub live : AreLive w past
+  pub shared : AreShared w
+  pub numbers : (kind : GroupKind) (text : List ℕ) → number_of_group text (groups_of kind w.groups) ≡ group_number s kind text past
   pub known : AreKnown w past
   pub entity : w.counters.entity ≡ next_entity s past
   pub key : w.counters.key ≡ next_key s past
 
+settings_step : (w : World) (c : Change) → (with_change c w).settings ≡ w.settings
+settings_step w Nothing = refl
+settings_step w c = refl
+
 entity_step : (w : World) (c : Change) → (with_change c w).counters.entity ≡ (if adds c then w.counters.entity + 1 else w.counters.entity)
 entity_step w (OfEntities (AddSub row)) = refl
+entity_step w (OfEntities (AddPub row)) = refl
 entity_step w (OfEntities (EndSub id)) = refl
 entity_step w Nothing = refl
 entity_step w c = refl
@@ -63,7 +81,11 @@ draws_is w past EntityNumber text k = refl
 
 standing_more : (s : Settings) (w : World) (past : List Entry) (x : Entry) (c : Change) → IsMade w x c → AreStanding s w past → AreStanding s (with_change c w) (x ∷ past)
 standing_more s w past x c m st = record {
+  settings = settings_step w c ∙ st.settings;
   live = live_more w past x c m st.live;
+  shared = shared_more w past c st.live st.shared;
+  numbers = λ kind text. number_next s w past x c kind text m st.shared (st.numbers kind text)
+      (members_are s (with_change c w) (x ∷ past) kind text (settings_step w c ∙ st.settings) (live_more w past x c m st.live) (shared_more w past c st.live st.shared));
   known = known_more w past x c m st.known;
   entity =
       entity_step w c ∙ ap (λ (n : ℕ). if adds c then n + 1 else n) st.entity
@@ -74,12 +96,15 @@ standing_more s w past x c m st = record {
 }
 
 -- what is looked up in the tables is what the events tell
-text_same : (w : World) (past : List Entry) (e : Event) → AreKnown w past → text_for w e ≡ named_text past e
-text_same w past e k = text_is w past (row_of e).key k
+pub same_text : (s : Settings) (w : World) (past : List Entry) (e : Event) → AreStanding s w past → text_for w e ≡ named_text past e
+same_text s w past e st = text_is w past (row_of e).key st.live st.known
 
-finds_is : (w : World) (past : List Entry) (names : Option Named) → AreLive w past → finds w names ≡ is_live_named past names
+finds_is : (w : World) (past : List Entry) (names : Option Named) → AreLive w past → finds w names ≡ names_some past names
 finds_is w past None l = refl
-finds_is w past (Some named) l = l.found named.kind named.id
+finds_is w past (Some named) l =
+    let there = there_is w past named.kind named.id l in
+    let left = l.left named.kind named.id in
+    λ i. there i && not (left i)
 
 lacks_is : (s : Settings) (w : World) (past : List Entry) (draws : Draws) (text : Option (List ℕ)) → AreStanding s w past → has_run_out w draws text ≡ lacks_number s past draws text
 lacks_is s w past NoNumber text st = refl
@@ -99,11 +124,13 @@ number_drawn s w past KeyNumber (Some text) st =
 
 same_sight : (s : Settings) (w : World) (past : List Entry) (e : Event) → AreStanding s w past → sight w e ≡ past_sight s past e
 same_sight s w past e st =
-    let text : text_for w e ≡ named_text past e = text_same w past e st.known in
-    let lives : finds w (row_of e).names ≡ is_live_named past (row_of e).names = finds_is w past (row_of e).names st.live in
+    let text : text_for w e ≡ named_text past e = same_text s w past e st in
+    let lives : finds w (row_of e).names ≡ names_some past (row_of e).names = finds_is w past (row_of e).names st.live in
+    let claimed : has_claim w (row_of e).claims (text_for w e) ≡ is_claimed past (row_of e).claims (named_text past e) =
+    ap (has_claim w (row_of e).claims) text ∙ claim_is w past (row_of e).claims (named_text past e) st.known in
     let lacks : has_run_out w (row_of e).draws (text_for w e) ≡ lacks_number s past (row_of e).draws (named_text past e) =
     ap (has_run_out w (row_of e).draws) text ∙ lacks_is s w past (row_of e).draws (named_text past e) st in
-    λ i. record { text = text i; lives = lives i; lacks = lacks i }
+    λ i. record { text = text i; lives = lives i; claimed = claimed i; lacks = lacks i }
 
 pub same_cause : (s : Settings) (w : World) (past : List Entry) (e : Event) → AreStanding s w past → cause w e ≡ refusal_of s past e
 same_cause s w past e st =
@@ -114,10 +141,7 @@ same_cause s w past e st =
 pub same_number : (s : Settings) (w : World) (past : List Entry) (e : Event) → AreStanding s w past
     → number_for w e ≡ drawn_number s past (row_of e).draws (named_text past e)
 same_number s w past e st =
-    ap (number_of w (row_of e).draws) (text_same w past e st.known) ∙ number_drawn s w past (row_of e).draws (named_text past e) st
-
-pub same_text : (s : Settings) (w : World) (past : List Entry) (e : Event) → AreStanding s w past → text_for w e ≡ named_text past e
-same_text s w past e st = text_same w past e st.known
+    ap (number_of w (row_of e).draws) (same_text s w past e st) ∙ number_drawn s w past (row_of e).draws (named_text past e) st
 
 same_entry : (s : Settings) (w : World) (past : List Entry) (e : Event) → AreStanding s w past → entry_for w e ≡ entry_of s past e
 same_entry s w past e st =
@@ -133,16 +157,40 @@ same_joins s w past e st =
     let entry = same_entry s w past e st in
     λ i. with_entry (refusal i) (closed i) (entry i) past
 
--- and so is the turn
-abbrev turn_by : Bool → Option Refusal → Option ℕ → List SubRow → Option (List ℕ) → Event → Turn
-turn_by closed refusal number rows text e =
-    if closed then answered refusal None [] else answered refusal number (effects_on rows text e)
+-- what effects are read off
+own_keys_same : (s : Settings) (w : World) (past : List Entry) → AreStanding s w past → own_keys_at w ≡ own_keys_of s past
+own_keys_same s w past st = λ i. record {
+  tag = (ap (λ (settings : Settings). settings.tag) st.settings) i;
+  text_of = λ n. held_text_is w past n st.known i;
+  count_of = λ n. count_is w past n st.known i;
+  number_of = λ text. number_is w past text st.known i;
+  published = λ id. prefix_declaration (ap (λ (settings : Settings). settings.tag) st.settings i) (pub_at id (st.live.pubs.table i));
+}
 
-turn_decided : (w : World) (e : Event) → (decision w e).turn ≡ turn_by w.closed (cause w e) (number_for w e) w.entities.subs (text_for w e) e
+company_same : (s : Settings) (w : World) (past : List Entry) (kind : GroupKind) → AreStanding s w past → company_at w.settings w.groups kind ≡ company_of s kind past
+company_same s w past kind st = λ i. record {
+  aggregates = aggregates_of kind (st.settings i);
+  members = λ text. members_are s w past kind text st.settings st.live st.shared i;
+  number = λ text. st.numbers kind text i;
+}
+
+known_same : (s : Settings) (w : World) (past : List Entry) → AreStanding s w past → known_at w ≡ known_of s past
+known_same s w past st =
+    let keys = own_keys_same s w past st in
+    let subs = st.live.subs.table in
+    let pubs = st.live.pubs.table in
+    λ i. record { keys = keys i; subs = subs i; pubs = pubs i; company = λ kind. company_same s w past kind st i }
+
+-- and so is the turn
+abbrev turn_by : Bool → Option Refusal → Option ℕ → Known → Option (List ℕ) → Event → Turn
+turn_by closed refusal number known text e =
+    if closed then answered refusal None [] else answered refusal number (effects_on known number text e)
+
+turn_decided : (w : World) (e : Event) → (decision w e).turn ≡ turn_by w.closed (cause w e) (number_for w e) (known_at w) (text_for w e) e
 turn_decided w e = go w.closed
   where
     go : (b : Bool) → (if b then decision_of (closed_cause e) None [] Nothing else open_decision w e).turn
-        ≡ turn_by b (if b then closed_cause e else open_cause w e) (number_for w e) w.entities.subs (text_for w e) e
+        ≡ turn_by b (if b then closed_cause e else open_cause w e) (number_for w e) (known_at w) (text_for w e) e
     go true = refl
     go false = refl
 
@@ -151,17 +199,21 @@ same_turn s w past e st =
     let closed = st.known.closed in
     let refusal = same_cause s w past e st in
     let number = same_number s w past e st in
-    let rows = st.live.table in
+    let known = known_same s w past st in
     let text = same_text s w past e st in
-    turn_decided w e ∙ (λ i. turn_by (closed i) (refusal i) (number i) (rows i) (text i) e)
+    turn_decided w e ∙ (λ i. turn_by (closed i) (refusal i) (number i) (known i) (text i) e)
 
-none_there : (b : Bool) → (b && false) ≡ false
-none_there true = refl
-none_there false = refl
+no_numbers : (s : Settings) (kind : GroupKind) (text : List ℕ) → number_of_group text (groups_of kind (new_world s).groups) ≡ group_number s kind text []
+no_numbers s Subscribers text = refl
+no_numbers s Publishers text = refl
+no_numbers s Queriers text = refl
 
 standing_opened : (s : Settings) → AreStanding s (new_world s) []
 standing_opened s = record {
-  live = record { table = refl; found = λ kind id. none_there (is_subscriber kind); below = tt; ascend = tt };
+  settings = refl;
+  live = live_none (new_world s) refl refl refl;
+  shared = record { subs = grouped_none s.aggregated_subscribers; pubs = grouped_none s.aggregated_publishers; queriers = refl };
+  numbers = no_numbers s;
   known = record {
     closed = refl;
     emptied = λ shut. cc;

@@ -1,12 +1,12 @@
 -- What one step makes of a state that stands for a history.
 use Rattle.std.proofs.Common.{◌≡◌, List, [], ◌∷◌, Bool, true, false, Option, Some, None, refl, sym, ◌∙◌, ap, subst}
 use Rattle.std.specs.Prelude.{ℕ}
-use Rattle.zs_core.specs.declared.event.Event.{Event}
+use Rattle.zs_events.specs.declared.event.Event.{Event}
 use Rattle.zs_core.specs.declared.settings.Settings.{Settings}
 use Rattle.zs_core.specs.declared.change.Change.{Change}
 use Rattle.zs_core.specs.declared.change.Decision.{Decision}
-use Rattle.zs_core.specs.declared.turn.Kind.{Kind}
-use Rattle.zs_core.specs.Turn.{was_refused}
+use Rattle.zs_events.specs.declared.turn.Kind.{Kind}
+use Rattle.zs_events.specs.Turn.{was_refused}
 use Rattle.zs_core.specs.World.{World}
 use Rattle.zs_core.specs.Entry.{Entry}
 use Rattle.zs_core.specs.DeclaredKeys.{has_holder}
@@ -18,6 +18,7 @@ use Rattle.zs_core.specs.Stands.{world_of, world_after, Stands, Previews, Steps,
 use Rattle.zs_core.proofs.Decisions.{entry_for, cases}
 use Rattle.zs_core.proofs.Changes.{made, IsMade}
 use Rattle.zs_core.proofs.DeclaredKeys.{held_is}
+use Rattle.zs_core.proofs.Live.{there_is}
 use Rattle.zs_core.proofs.Stands.{standing, same_turn, steps}
 
 -- what holds of no past, and goes on with each event that an open session accepts, holds after every history
@@ -81,4 +82,4 @@ held_told w n answer is s h stands =
     is ∙ ap (λ (v : World). has_holder n v.keys.holders) stands ∙ held_is (world_after s h) (past_of s h) n (standing s h).known
 
 pub live_told : (w : World) (kind : Kind) (id : ℕ) (answer : Bool) → answer ≡ is_there kind id w → IsLive w kind id answer
-live_told w kind id answer is s h stands = is ∙ ap (is_there kind id) stands ∙ (standing s h).live.found kind id
+live_told w kind id answer is s h stands = is ∙ ap (is_there kind id) stands ∙ there_is (world_after s h) (past_of s h) kind id (standing s h).live

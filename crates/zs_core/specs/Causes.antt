@@ -1,13 +1,13 @@
 -- When each refusal holds, told by the events before: each cause by itself, and the order in which they are tried.
 use Rattle.std.specs.Prelude.{Bool, true, false, ◌&&◌, not, List, [], ◌∷◌, Option, Some, None, if◌then◌else◌}
-use Rattle.zs_core.specs.declared.event.Event.{Event}
+use Rattle.zs_events.specs.declared.event.Event.{Event}
 use Rattle.zs_core.specs.declared.settings.Settings.{Settings}
-use Rattle.zs_core.specs.declared.turn.Refusal.{Refusal}
-use Rattle.zs_core.specs.declared.turn.Refusal.TheVariants.{SessionClosedError, NotFound, UnknownScope, BadKeyExpr, QueryCancelled, ReplyDisjoint, NotDeclared, IdsExhausted, Ignored}
-use Rattle.zs_core.specs.Kinds.{Speaker, Application, Anytime, Network, Row, row_of}
+use Rattle.zs_events.specs.declared.turn.Refusal.{Refusal}
+use Rattle.zs_events.specs.declared.turn.Refusal.TheVariants.{SessionClosedError, NotFound, UnknownScope, BadKeyExpr, QueryCancelled, ReplyDisjoint, NotDeclared, IdsExhausted, Ignored}
+use Rattle.zs_events.specs.Kinds.{Speaker, Application, Anytime, Network, Row, row_of}
 use Rattle.zs_core.specs.Entry.{Entry, is_closed}
-use Rattle.zs_core.specs.Held.{named_text}
-use Rattle.zs_core.specs.Live.{is_live_named}
+use Rattle.zs_core.specs.Held.{is_claimed, named_text}
+use Rattle.zs_core.specs.Live.{names_some}
 use Rattle.zs_core.specs.Counters.{lacks_number}
 use Rattle.zs_core.specs.Seen.{Sight, is_not_found, is_unknown, is_bad}
 
@@ -36,7 +36,8 @@ holds closed row seen refusal = false
 abbrev pub past_sight : Settings → List Entry → Event → Sight
 past_sight s past e = record {
   text = named_text past e;
-  lives = is_live_named past (row_of e).names;
+  lives = names_some past (row_of e).names;
+  claimed = is_claimed past (row_of e).claims (named_text past e);
   lacks = lacks_number s past (row_of e).draws (named_text past e);
 }
 

@@ -2,7 +2,7 @@
 use Rattle.std.specs.Prelude.{ℕ, ◌+◌, ◌-◌, Bool, true, false, not, nat_lt, ◌&&◌, is_some, unwrap_or, List, [], ◌∷◌, Option, Some, None, if◌then◌else◌}
 use Rattle.zs_core.specs.declared.settings.Settings.{Settings}
 use Rattle.zs_core.specs.Settings.{last_entity, last_key}
-use Rattle.zs_core.specs.Kinds.{Draws, NoNumber, EntityNumber, KeyNumber, row_of}
+use Rattle.zs_events.specs.Kinds.{Draws, NoNumber, EntityNumber, KeyNumber, row_of}
 use Rattle.zs_core.specs.Entry.{Entry}
 use Rattle.zs_core.specs.Held.{held_number}
 

@@ -1,8 +1,8 @@
 -- An accepted event as it stands in the past.
 use Rattle.std.specs.Prelude.{ℕ, Bool, true, false, List, Option}
 use Rattle.std.specs.List.{list_any}
-use Rattle.zs_core.specs.declared.event.Event.{Event}
-use Rattle.zs_core.specs.declared.event.Event.TheVariants.{Close}
+use Rattle.zs_events.specs.declared.event.Event.{Event}
+use Rattle.zs_events.specs.declared.event.Event.TheVariants.{Close}
 
 -- the number that it answered, the text that its key stood for, and the event
 pub record Entry : Type 0 where

@@ -1,16 +1,19 @@
 -- Which keys are held and which are told, by the events alone: plain counts over all that happened, with no table.
-use Rattle.std.specs.Prelude.{ℕ, ◌+◌, ◌-◌, Bool, false, ◌==◌, ◌&&◌, not, nat_lt, List, [], ◌∷◌, ◌++◌, Option, Some, None, option_map, if◌then◌else◌, encode_utf8_all}
+use Rattle.std.specs.Prelude.{ℕ, ◌+◌, ◌-◌, Bool, true, false, ◌==◌, ◌&&◌, not, nat_lt, List, [], ◌∷◌, ◌++◌, Option, Some, None, option_map, if◌then◌else◌, encode_utf8_all}
 use Rattle.std.specs.Option.{option_or}
 use Rattle.std.specs.Str.{bytes_eq}
-use Rattle.zs_core.specs.declared.event.Event.{Event}
-use Rattle.zs_core.specs.declared.event.Event.TheVariants.{Key, UndeclareKey, NetKeyExpr}
-use Rattle.zs_core.specs.declared.event.KeyArg.{KeyArg}
-use Rattle.zs_core.specs.declared.event.KeyArg.TheVariants.{Text, Number}
+use Rattle.zs_events.specs.declared.event.Event.{Event}
+use Rattle.zs_events.specs.declared.event.Event.TheVariants.{Key, UndeclareKey, Net}
+use Rattle.zs_events.specs.declared.event.KeyArg.{KeyArg}
+use Rattle.zs_events.specs.declared.event.KeyArg.TheVariants.{Text, Number, Declared}
+use Rattle.zs_wire.specs.declared.message.Message.TheVariants.{DeclareKeyExpr}
 use Rattle.zs_wire.specs.declared.wire_expr.Mapping.{Mapping}
 use Rattle.zs_wire.specs.declared.wire_expr.Mapping.TheVariants.{Sender, Receiver}
 use Rattle.zs_wire.specs.declared.wire_expr.WireExpr.{WireExpr}
-use Rattle.zs_core.specs.Kinds.{NamedKey, NoKey, OwnKey, WireKey, row_of}
+use Rattle.zs_events.specs.Kinds.{NamedKey, NoKey, OwnKey, PublisherKey, WireKey, row_of}
 use Rattle.zs_core.specs.Entry.{Entry, is_closed}
+use Rattle.zs_core.specs.Publishers.{pub_at}
+use Rattle.zs_core.specs.Live.{live_pubs}
 
 -- whether an event declared a key and was answered this number
 abbrev pub declares_number : ℕ → Event → Option ℕ → Bool
@@ -20,11 +23,12 @@ declares_number n e number = false
 -- whether an event gave a key of this number back
 abbrev pub returns_number : ℕ → Event → Bool
 returns_number n (UndeclareKey (Number number suffix)) = number == n
+returns_number n (UndeclareKey (Declared text number prefix_len)) = number == n
 returns_number n e = false
 
 -- whether an event tells what a number of the network stands for
 abbrev pub tells_number : ℕ → Event → Bool
-tells_number n (NetKeyExpr number wire) = number == n
+tells_number n (Net (DeclareKeyExpr number wire)) = number == n
 tells_number n e = false
 
 -- how often a declaration was answered the number
@@ -59,6 +63,12 @@ abbrev pub stands_for : List ℕ → Option (List ℕ) → Bool
 stands_for text None = false
 stands_for text (Some held) = bytes_eq held text
 
+-- whether the text of a key is held under the number that an event claims, if it claims one
+abbrev pub is_claimed : List Entry → Option ℕ → Option (List ℕ) → Bool
+is_claimed past None text = true
+is_claimed past (Some n) None = false
+is_claimed past (Some n) (Some text) = stands_for text (held_text n past)
+
 -- whether an event was answered a number that stands for the text
 abbrev pub answers_under : List ℕ → List Entry → Event → Option ℕ → Bool
 answers_under text past (Key key) (Some n) = stands_for text (held_text n past)
@@ -77,6 +87,7 @@ held_number text past = number_among text past past
 abbrev pub key_text : List Entry → KeyArg → Option (List ℕ)
 key_text past (Text text) = Some (encode_utf8_all text)
 key_text past (Number number suffix) = option_map (λ text. text ++ encode_utf8_all suffix) (held_text number past)
+key_text past (Declared text number prefix_len) = Some (encode_utf8_all text)
 
 -- the text that the network told last of a number
 abbrev pub told_text : ℕ → List Entry → Option (List ℕ)
@@ -98,6 +109,7 @@ wire_text past wire =
 abbrev pub text_named : List Entry → NamedKey → Option (List ℕ)
 text_named past NoKey = None
 text_named past (OwnKey key) = key_text past key
+text_named past (PublisherKey id) = option_map (λ row. row.key.text) (pub_at id (live_pubs past))
 text_named past (WireKey wire) = wire_text past wire
 
 -- the text that the key of an event stands for

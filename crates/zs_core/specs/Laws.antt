@@ -1,21 +1,28 @@
 -- What the tables hold after every history, and how events are answered, told by the events alone: each law is the clause of a
 -- public function.
-use Rattle.std.specs.Prelude.{◌≡◌, ℕ, Bool, true, false, List, Option, Some, None, option_map}
+use Rattle.std.specs.Prelude.{◌≡◌, ◌≤◌, ℕ, length, Bool, true, false, List, Option, Some, None, option_map, IsUtf8}
+use Rattle.std.specs.Option.{IfSome}
 use Rattle.zs_wire.specs.declared.wire_expr.Mapping.{Mapping}
+use Rattle.zs_tables.specs.Ascending.{Ascend}
+use Rattle.zs_tables.specs.Groups.{groups_of, members_of, number_of_group}
+use Rattle.zs_tables.specs.declared.group_kind.GroupKind.{GroupKind}
 use Rattle.zs_tables.specs.Numbers.{key_at}
 use Rattle.zs_tables.specs.Recipients.{matches}
-use Rattle.zs_core.specs.declared.event.Event.{Event}
-use Rattle.zs_core.specs.declared.event.Event.TheVariants.{Key}
-use Rattle.zs_core.specs.declared.event.KeyArg.{KeyArg}
+use Rattle.zs_events.specs.declared.event.Event.{Event}
+use Rattle.zs_events.specs.declared.event.Event.TheVariants.{Key}
+use Rattle.zs_events.specs.declared.event.KeyArg.{KeyArg}
 use Rattle.zs_core.specs.declared.settings.Settings.{Settings}
-use Rattle.zs_core.specs.declared.turn.Refusal.{Refusal}
-use Rattle.zs_core.specs.Kinds.{row_of}
+use Rattle.zs_events.specs.declared.turn.Refusal.{Refusal}
+use Rattle.zs_events.specs.Kinds.{row_of}
 use Rattle.zs_core.specs.Entry.{is_closed}
 use Rattle.zs_core.specs.Held.{times_declared, is_held, held_text, held_count, key_text, told_text, mapped_text, named_text}
-use Rattle.zs_core.specs.Live.{live_subs, Ascend}
+use Rattle.zs_core.specs.Live.{live_subs, live_pubs}
+use Rattle.zs_core.specs.Groups.{group, group_number}
 use Rattle.zs_core.specs.Counters.{next_entity, next_key, drawn_number}
 use Rattle.zs_core.specs.Causes.{has_cause, refusal_of}
 use Rattle.zs_core.specs.Past.{past_of, entry_of}
+use Rattle.zs_core.specs.Effects.{effects}
+use Rattle.zs_core.specs.Received.{messages_of, sent, AreReadAs, AreSpelled, AreUtf8}
 use Rattle.zs_core.specs.Keys.{numbers_for}
 use Rattle.zs_core.specs.DeclaredKeys.{holders_of}
 use Rattle.zs_core.specs.Turns.{cause, text_for, number_for}
@@ -25,9 +32,21 @@ use Rattle.zs_core.specs.Stands.{world_after}
 abbrev pub TableIsLive : Type 0
 TableIsLive = (s : Settings) (h : List Event) → (world_after s h).entities.subs ≡ live_subs (past_of s h)
 
+-- so does that of publishers
+abbrev pub PublishersAreLive : Type 0
+PublishersAreLive = (s : Settings) (h : List Event) → (world_after s h).entities.pubs ≡ live_pubs (past_of s h)
+
 -- the live subscribers stand in ascending number, and so no number is there twice
 abbrev pub SubscribersAscend : Type 0
-SubscribersAscend = (s : Settings) (h : List Event) → Ascend (live_subs (past_of s h))
+SubscribersAscend = (s : Settings) (h : List Event) → Ascend (λ row. row.id) (live_subs (past_of s h))
+
+-- the groups are the live entities of their kind that the network is told of and that share their text, each with the number
+-- of the first that joined it since it was last empty
+abbrev pub GroupsAreLive : Type 0
+GroupsAreLive =
+    (s : Settings) (h : List Event) (kind : GroupKind) (text : List ℕ)
+    → (members_of text (groups_of kind (world_after s h).groups) ≡ group s kind text (past_of s h))
+    × (number_of_group text (groups_of kind (world_after s h).groups) ≡ group_number s kind text (past_of s h))
 
 -- the table of declared keys has the held numbers with their texts, and no others
 abbrev pub KeysAreHeld : Type 0
@@ -96,3 +115,14 @@ Names test None = (refusal : Refusal) → test refusal ≡ false
 -- so an event is refused exactly where a cause holds, and for one that holds
 abbrev pub RefusalsHaveCauses : Type 0
 RefusalsHaveCauses = (s : Settings) (h : List Event) (e : Event) → Names (has_cause s (past_of s h) e) (cause (world_after s h) e)
+
+-- each message that an event sends is read as the text of the event's key, or as the text that a group shares where it declares
+-- one, by a receiver of all that was sent before it
+abbrev pub WireFormsAreRead : Type 0
+WireFormsAreRead =
+    (s : Settings) (h : List Event) (e : Event) → AreSpelled s → AreUtf8 (past_of s h) → IfSome (named_text (past_of s h) e) IsUtf8
+    → AreReadAs s (named_text (past_of s h) e) (sent s h) (messages_of (effects s h e).effects)
+
+-- no event sends more than one message
+abbrev pub OneMessageAtMost : Type 0
+OneMessageAtMost = (s : Settings) (h : List Event) (e : Event) → length (messages_of (effects s h e).effects) ≤ 1

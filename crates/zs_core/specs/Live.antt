@@ -1,41 +1,60 @@
 -- What is live, told by the events alone: a plain filter over all that was ever declared, with no table.
-use Rattle.std.specs.Prelude.{ℕ, ◌<◌, Bool, true, false, ◌==◌, ◌&&◌, ◌||◌, not, List, [], ◌∷◌, ◌++◌, Option, Some, None, filter}
-use Rattle.std.specs.List.{list_any, AllByRecursion}
-use Rattle.zs_core.specs.declared.event.Event.{Event}
-use Rattle.zs_core.specs.declared.event.Event.TheVariants.{Sub, Undeclare, Close}
-use Rattle.zs_core.specs.declared.event.EntityKind.TheVariants.{Sub as sub_kind}
-use Rattle.zs_core.specs.declared.turn.Kind.{Kind}
-use Rattle.zs_core.specs.declared.turn.Kind.TheVariants.{Subscriber}
+use Rattle.std.specs.Prelude.{ℕ, Bool, true, false, ◌==◌, ◌&&◌, ◌||◌, not, List, [], ◌∷◌, ◌++◌, Option, Some, None, filter}
+use Rattle.std.specs.List.{list_any}
+use Rattle.zs_events.specs.declared.event.Event.{Event}
+use Rattle.zs_events.specs.declared.event.Event.TheVariants.{Sub, Pub, Undeclare, Background, Close}
+use Rattle.zs_events.specs.declared.event.EntityKind.{EntityKind}
+use Rattle.zs_events.specs.declared.event.EntityKind.TheVariants.{Sub as sub_kind, Pub as pub_kind}
+use Rattle.zs_events.specs.declared.event.BackgroundKind.TheVariants.{Sub as background_sub}
+use Rattle.zs_events.specs.declared.turn.Kind.{Kind}
+use Rattle.zs_events.specs.declared.turn.Kind.TheVariants.{Subscriber, Publisher}
 use Rattle.zs_tables.specs.declared.subscriber.SubRow.{SubRow}
-use Rattle.zs_core.specs.Kinds.{Named}
+use Rattle.zs_events.specs.Kinds.{Named}
 use Rattle.zs_core.specs.Entry.{Entry}
+use Rattle.zs_core.specs.declared.publisher.PubRow.{PubRow}
 use Rattle.zs_core.specs.Subscribers.{sub_row}
+use Rattle.zs_core.specs.Publishers.{pub_row}
 
 -- the list with more behind it
 abbrev pub appended : {A : Type 0} → List A → List A → List A
 appended xs [] = xs
 appended xs (y ∷ ys) = xs ++ (y ∷ ys)
 
--- all subscribers that were ever declared, the first one first
-abbrev pub declared_subs : List Entry → List SubRow
-declared_subs [] = []
-declared_subs (x ∷ past) = appended (declared_subs past) (sub_row x.event x.number x.text)
+-- all that was ever declared of a sort of entities, the first one first
+abbrev pub declared : {R : Type 0} → (Event → Option ℕ → Option (List ℕ) → List R) → List Entry → List R
+declared row [] = []
+declared row (x ∷ past) = appended (declared row past) (row x.event x.number x.text)
 
--- the kind of subscribers
+-- the kind of subscribers, and of publishers
 abbrev pub is_subscriber : Kind → Bool
 is_subscriber Subscriber = true
 is_subscriber kind = false
 
+abbrev pub is_publisher : Kind → Bool
+is_publisher Publisher = true
+is_publisher kind = false
+
+-- whether the sort of what is undeclared has that kind
+abbrev pub is_of : EntityKind → Kind → Bool
+is_of sub_kind kind = is_subscriber kind
+is_of pub_kind kind = is_publisher kind
+
 -- whether a declaration of that kind drew this number
 abbrev pub drew : Kind → ℕ → Event → Option ℕ → Bool
 drew kind id (Sub origin key) (Some number) = is_subscriber kind && id == number
+drew kind id (Pub destination key encoding qos reliable) (Some number) = is_publisher kind && id == number
 drew kind id e number = false
 
 -- whether an event ends what has this kind and number: its undeclaration, or the close
 abbrev pub ends : Kind → ℕ → Event → Bool
-ends kind id (Undeclare sub_kind number) = is_subscriber kind && id == number
+ends kind id (Undeclare sort number) = is_of sort kind && id == number
 ends kind id Close = true
 ends kind id e = false
+
+-- whether an event leaves what has this kind and number to itself
+abbrev pub leaves : Kind → ℕ → Event → Bool
+leaves kind id (Background background_sub number) = is_subscriber kind && id == number
+leaves kind id e = false
 
 -- an event of the past drew the number, and none after it, nor any of the later ones, ended it
 abbrev pub drew_unended : Kind → ℕ → List Event → List Entry → Bool
@@ -47,16 +66,22 @@ drew_unended kind id later (x ∷ past) =
 abbrev pub is_live : Kind → ℕ → List Entry → Bool
 is_live kind id past = drew_unended kind id [] past
 
--- whether what an event names is live, if it names anything
-abbrev pub is_live_named : List Entry → Option Named → Bool
-is_live_named past None = true
-is_live_named past (Some named) = is_live named.kind named.id past
+-- whether it was left to itself
+abbrev pub was_left : Kind → ℕ → List Entry → Bool
+was_left kind id past = list_any (λ x. leaves kind id x.event) past
 
--- the live subscribers, in the order of their declarations
+-- whether it can be named: it is live and was not left to itself
+abbrev pub is_named : Kind → ℕ → List Entry → Bool
+is_named kind id past = is_live kind id past && not (was_left kind id past)
+
+-- whether what an event names can be named, if it names anything
+abbrev pub names_some : List Entry → Option Named → Bool
+names_some past None = true
+names_some past (Some named) = is_named named.kind named.id past
+
+-- the live subscribers and the live publishers, in the order of their declarations
 abbrev pub live_subs : List Entry → List SubRow
-live_subs past = filter (λ row. is_live Subscriber row.id past) (declared_subs past)
+live_subs past = filter (λ row. is_live Subscriber row.id past) (declared sub_row past)
 
--- the numbers of rows rise from each one to all behind it
-abbrev pub Ascend : List SubRow → Type 0
-Ascend [] = Unit {0}
-Ascend (row ∷ rows) = AllByRecursion (λ later. row.id < later.id) rows × Ascend rows
+abbrev pub live_pubs : List Entry → List PubRow
+live_pubs past = filter (λ row. is_live Publisher row.id past) (declared pub_row past)

@@ -1,19 +1,21 @@
-use Rattle.std.specs.Prelude.{ℕ, Bool, List, None, map, filter, ◌&&◌, if◌then◌else◌}
+use Rattle.std.specs.Prelude.{ℕ, Bool, List, [], map, filter, ◌&&◌, not, if◌then◌else◌}
 use Rattle.zs_keys.specs.Key.{undeclared}
 use Rattle.zs_keys.specs.Matching.{intersects}
 use Rattle.zs_sample.specs.declared.locality.Locality.{Locality}
 use Rattle.zs_sample.specs.declared.quality.Reliability.TheVariants.{BestEffort, Reliable}
 use Rattle.zs_sample.specs.declared.sample_fields.SampleFields.{SampleFields}
-use Rattle.zs_wire.specs.declared.sample_kind.SampleKind.TheVariants.{Put as put_kind}
+use Rattle.zs_wire.specs.declared.sample_kind.SampleKind.{SampleKind}
+use Rattle.zs_wire.specs.declared.sample_kind.SampleKind.TheVariants.{Put as put_kind, Delete as delete_kind}
 use Rattle.zs_sample.specs.Encoding.{encoding_of}
 use Rattle.zs_sample.specs.Quality.{priority_of}
-use Rattle.zs_tables.specs.Recipients.{has_session, has_network}
-use Rattle.zs_core.specs.declared.state.publications.Content.{Content as named_content}
-use Rattle.zs_core.specs.Kinds.{Content}
-use Rattle.zs_core.specs.declared.turn.Effect.{Effect}
-use Rattle.zs_core.specs.declared.turn.Effect.TheVariants.{Hand}
-use Rattle.zs_core.specs.declared.turn.HandOver.TheVariants.{Sample as sample_for}
-use Rattle.zs_core.specs.declared.turn.Kind.TheVariants.{Subscriber}
+use Rattle.zs_tables.specs.Recipients.{has_session, has_network, recipients}
+use Rattle.zs_core.specs.declared.state.content.Content.{Content as named_content}
+use Rattle.zs_core.specs.declared.state.content.PublisherContent.{PublisherContent as named_publisher_content}
+use Rattle.zs_events.specs.Kinds.{Content, PublisherContent, default_encoding}
+use Rattle.zs_events.specs.declared.turn.Effect.{Effect}
+use Rattle.zs_events.specs.declared.turn.Effect.TheVariants.{Hand}
+use Rattle.zs_events.specs.declared.turn.HandOver.TheVariants.{Sample as sample_for}
+use Rattle.zs_events.specs.declared.turn.Kind.TheVariants.{Subscriber}
 use Rattle.zs_tables.specs.declared.subscriber.SubRow.{SubRow}
 
 -- a publication: made in this session, for a destination, or come in from the network
@@ -36,26 +38,46 @@ abbrev pub content_by : named_content → Content
 content_by c = record {
   local = c.local;
   destination = c.destination;
-  payload = c.payload.now;
-  encoding = c.encoding.now;
+  body = c.body;
   qos = c.qos;
   reliable = c.reliable;
 }
 
--- the sample of a put on this text: the empty encoding is the default, and a priority outside 1 to 7 is Data
+-- what a publisher is told to publish that the code names
+abbrev pub published_content : named_publisher_content → PublisherContent
+published_content c = record {
+  kind = c.kind;
+  payload = c.payload;
+  encoding = c.encoding;
+  timestamp = c.timestamp;
+  source = c.source;
+  attachment = c.attachment;
+}
+
+-- the payload that is handed out: a deletion has none
+abbrev pub handed_payload : SampleKind → List (List ℕ) → List (List ℕ)
+handed_payload put_kind payload = payload
+handed_payload delete_kind payload = []
+
+-- the encoding: the empty text is the default, which a deletion has too
+abbrev pub handed_encoding : SampleKind → List ℕ → List ℕ
+handed_encoding put_kind encoding = encoding_of encoding
+handed_encoding delete_kind encoding = default_encoding
+
+-- the sample of a publication on this text: a priority outside 1 to 7 is Data
 abbrev pub sample_on : List ℕ → Content → SampleFields
 sample_on text c = record {
   key_expr = undeclared text;
-  payload = c.payload;
-  kind = put_kind;
-  encoding = encoding_of c.encoding;
-  timestamp = None;
+  payload = handed_payload c.body.kind c.body.payload;
+  kind = c.body.kind;
+  encoding = handed_encoding c.body.kind c.body.encoding;
+  timestamp = c.body.timestamp;
   express = c.qos.express;
   priority = priority_of c.qos.priority;
   congestion_control = c.qos.congestion;
   reliability = if c.reliable then Reliable else BestEffort;
-  source_info = None;
-  attachment = None;
+  source_info = c.body.source;
+  attachment = c.body.attachment;
 }
 
 -- one sample for each subscriber that is allowed it, in the order of the rows
@@ -69,3 +91,7 @@ hand_to sample id = Hand (sample_for Subscriber id sample)
 -- the sample for each of these subscribers
 abbrev pub hands_to : SampleFields → List ℕ → List Effect
 hands_to sample ids = map (hand_to sample) ids
+
+-- the subscribers that a publication on this text reaches: none where this session isn't in its destination
+abbrev pub reached : Bool → Locality → List ℕ → List SubRow → List ℕ
+reached local destination text rows = if local && not (has_session destination) then [] else recipients local text rows

@@ -1,12 +1,14 @@
 -- What is looked up for an event, and the tests of it.
 use Rattle.std.specs.Prelude.{ℕ, Bool, false, not, ◌||◌, is_none, List, Option, Some, None}
 use Rattle.zs_keys.specs.Text.{is_canonical}
-use Rattle.zs_core.specs.Kinds.{NamedKey, OwnKey, WireKey, Row}
+use Rattle.zs_events.specs.Kinds.{NamedKey, OwnKey, WireKey, Row}
 
--- the text of its key, whether what it names is live, and whether it lacks a number to draw
+-- the text of its key, whether what it names can be named, whether what it claims of a number is so, and whether it lacks a number
+-- to draw
 pub record Sight : Type 0 where
   pub text : Option (List ℕ)
   pub lives : Bool
+  pub claimed : Bool
   pub lacks : Bool
 
 -- an application's key that stands for no text
@@ -24,9 +26,9 @@ abbrev pub is_bad : Option (List ℕ) → Bool
 is_bad None = false
 is_bad (Some text) = not (is_canonical text)
 
--- an event that names a number which is not held, or what is not live
+-- an event that names a number which is not held, or not with the text that it claims, or what cannot be named
 abbrev pub is_not_found : Row → Sight → Bool
-is_not_found row seen = is_unheld row.key seen.text || not seen.lives
+is_not_found row seen = is_unheld row.key seen.text || not seen.lives || not seen.claimed
 
 -- an event from the network with a number that stands for nothing, or that would tell of number 0
 abbrev pub is_unknown : Row → Sight → Bool

@@ -1,4 +1,4 @@
-use Rattle.std.specs.Prelude.{ℕ, Bool, not, nat_lt, nat_le, ◌==◌, ◌&&◌}
+use Rattle.std.specs.Prelude.{ℕ, [], Bool, not, nat_lt, nat_le, ◌==◌, ◌&&◌}
 use Rattle.zs_core.specs.declared.settings.Settings.{Settings}
 
 -- the last entity number, which no entity draws
@@ -10,9 +10,9 @@ abbrev pub last_key : ℕ
 last_key = 65535
 
 -- the settings where none are given: the session's identifier and tag are 1, it is entity 1, its first key number
--- is 1, lines have at most 65536 bytes, and there are 4294967296 reads
+-- is 1, no keys are aggregated, lines have at most 65536 bytes, and there are 4294967296 reads
 abbrev pub default_settings : Settings
-default_settings = record { zid = 1; tag = 1; entity_start = 1; key_start = 1; line_max = 65536; turns = 4294967296 }
+default_settings = record { zid = 1; tag = 1; entity_start = 1; key_start = 1; aggregated_subscribers = []; aggregated_publishers = []; line_max = 65536; turns = 4294967296 }
 
 -- settings that a session can be opened with
 abbrev pub is_valid : Settings → Bool

@@ -1,14 +1,15 @@
 -- The tables that a history leaves, and when a state stands for it.
 use Rattle.std.specs.Prelude.{◌≡◌, ℕ, ◌+◌, Bool, false, List, [], ◌∷◌}
-use Rattle.zs_core.specs.declared.event.Event.{Event}
+use Rattle.zs_events.specs.declared.event.Event.{Event}
 use Rattle.zs_core.specs.declared.settings.Settings.{Settings}
-use Rattle.zs_core.specs.declared.turn.Kind.{Kind}
-use Rattle.zs_core.specs.declared.turn.Turn.{Turn}
+use Rattle.zs_events.specs.declared.turn.Kind.{Kind}
+use Rattle.zs_events.specs.declared.turn.Turn.{Turn}
 use Rattle.zs_core.specs.World.{World}
 use Rattle.zs_core.specs.Changes.{with_change, change_for}
 use Rattle.zs_core.specs.Entry.{Entry, is_closed}
 use Rattle.zs_core.specs.Held.{is_held}
 use Rattle.zs_core.specs.Live.{is_live}
+use Rattle.zs_core.specs.Groups.{no_groups}
 use Rattle.zs_core.specs.Past.{past_of}
 use Rattle.zs_core.specs.Effects.{effects}
 
@@ -18,8 +19,9 @@ new_world s = record {
   settings = s;
   closed = false;
   counters = record { entity = s.entity_start + 1; key = s.key_start };
-  entities = record { subs = [] };
+  entities = record { subs = []; pubs = []; left_subs = [] };
   keys = record { own = []; holders = []; told = [] };
+  groups = no_groups;
 }
 
 -- what a session is after these accepted events, the newest first: each makes its change

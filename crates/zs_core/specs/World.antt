@@ -1,6 +1,8 @@
 use Rattle.std.specs.Prelude.{ℕ, Bool, List}
 use Rattle.zs_core.specs.declared.settings.Settings.{Settings}
 use Rattle.zs_tables.specs.declared.subscriber.SubRow.{SubRow}
+use Rattle.zs_tables.specs.Groups.{AllGroups}
+use Rattle.zs_core.specs.declared.publisher.PubRow.{PubRow}
 use Rattle.zs_tables.specs.Numbers.{NumberedKey}
 use Rattle.zs_tables.specs.Contents.{Contents}
 use Rattle.zs_core.specs.declared.declared_key.KeyHolders.{KeyHolders}
@@ -13,6 +15,9 @@ pub record Counters : Type 0 where
 -- what the application has declared and not ended, ascending by number
 pub record Entities : Type 0 where
   pub subs : List SubRow
+  pub pubs : List PubRow
+  -- the numbers of the subscribers that were left to themselves
+  pub left_subs : List ℕ
 
 -- the keys that numbers stand for: those that this session declared, how many hold each of them, and those that the
 -- network told
@@ -28,6 +33,8 @@ pub record World : Type 0 where
   pub counters : Counters
   pub entities : Entities
   pub keys : DeclaredKeys
+  -- those that share a network declaration
+  pub groups : AllGroups
 
 -- the tables that find subscribers by number, as they are at this moment
 abbrev pub tables_of : World → Contents

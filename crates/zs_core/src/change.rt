@@ -1,8 +1,9 @@
 ghost use Rattle.std.specs.Prelude.{◌≡◌, [], Some, None};
 ghost use Rattle.zs_core.specs.Turns.{decision_of};
 
-use crate::turn::{Effects, Refusal, Turn};
+use crate::publisher::PubRow;
 use std::alloc::Global;
+use zs_events::{Effects, Refusal, Turn};
 use zs_keys::KeyExpr;
 use zs_tables::SubRow;
 
@@ -24,6 +25,12 @@ pub enum EntityChange {
     AddSub { row: SubRow },
     /// A subscriber ends.
     EndSub { id: u32 },
+    /// A publisher is declared: it draws a number.
+    AddPub { row: PubRow },
+    /// A publisher ends.
+    EndPub { id: u32 },
+    /// A subscriber is left to itself.
+    LeaveSub { id: u32 },
 }
 
 /// What an accepted event makes of what the network told.
@@ -77,6 +84,15 @@ impl Decision {
     {
         Decision {
             turn: Turn::of(effects),
+            change,
+        }
+    }
+
+    pub(crate) fn accepted(number: Option<u32>, effects: Effects, change: Change) -> Decision
+        ensures { result ≡ decision_of None number effects change }
+    {
+        Decision {
+            turn: Turn::accepted(number, effects),
             change,
         }
     }

@@ -1,6 +1,6 @@
 //! Laws over the definitions: each is the contract of a function that does nothing.
 
-ghost use Rattle.zs_core.specs.Laws.{TableIsLive, SubscribersAscend, KeysAreHeld, HoldersAreCounted, KeysAreTold, CountersAreTold, ClosedIsTold, TextsAreNamed, NumbersAreDrawn, HeldTextsKeepNumbers, KeyNumbersAreNew, ListsAreTests, FirstCause, RefusalsHaveCauses};
+ghost use Rattle.zs_core.specs.Laws.{TableIsLive, SubscribersAscend, PublishersAreLive, GroupsAreLive, KeysAreHeld, HoldersAreCounted, KeysAreTold, CountersAreTold, ClosedIsTold, TextsAreNamed, NumbersAreDrawn, HeldTextsKeepNumbers, KeyNumbersAreNew, ListsAreTests, FirstCause, RefusalsHaveCauses, WireFormsAreRead, OneMessageAtMost};
 
 /// After any history the table of subscribers holds those that were declared and not ended since, and no others.
 pub fn table_is_live()
@@ -10,6 +10,17 @@ pub fn table_is_live()
 /// After any history the live subscribers stand in ascending number, each once.
 pub fn subscribers_ascend()
     ensures { SubscribersAscend }
+{}
+
+/// After any history the table of publishers holds those that were declared and not ended since, and no others.
+pub fn publishers_are_live()
+    ensures { PublishersAreLive }
+{}
+
+/// After any history the group of a text has as members the live entities of its kind that the network is told of and that
+/// share the text, and the number of the first that joined it since it was last empty.
+pub fn groups_are_live()
+    ensures { GroupsAreLive }
 {}
 
 /// After any history the table of declared keys has each number that was given back less often than it was declared,
@@ -72,4 +83,15 @@ pub fn first_cause()
 /// Behind any history an event is refused exactly where one of the causes holds, and the refusal names one that holds.
 pub fn refusals_have_causes()
     ensures { RefusalsHaveCauses }
+{}
+
+/// The form that a message gives a key is read as the key's text: for each message that an event sends and that names
+/// a key, by a receiver of all that the session sent before, where the texts are UTF-8, as those of a program are.
+pub fn wire_forms_are_read()
+    ensures { WireFormsAreRead }
+{}
+
+/// No event sends more than one message.
+pub fn one_message_at_most()
+    ensures { OneMessageAtMost }
 {}

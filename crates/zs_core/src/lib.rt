@@ -3,23 +3,30 @@
 #![tactic(auto)]
 
 pub use declared_key::KeyHolders;
-pub use event::{EntityKind, Event, KeyArg};
+pub use key_list::KeyList;
 pub use laws::{
-    closed_is_told, counters_are_told, first_cause, held_texts_keep_numbers, holders_are_counted,
-    key_numbers_are_new, keys_are_held, keys_are_told, lists_are_tests, numbers_are_drawn,
-    refusals_have_causes, subscribers_ascend, table_is_live, texts_are_named,
+    closed_is_told, counters_are_told, first_cause, groups_are_live, held_texts_keep_numbers,
+    holders_are_counted, key_numbers_are_new, keys_are_held, keys_are_told, lists_are_tests,
+    numbers_are_drawn, one_message_at_most, publishers_are_live, refusals_have_causes,
+    subscribers_ascend, table_is_live, texts_are_named, wire_forms_are_read,
 };
+pub use publisher::{Prefix, PubRow};
 pub use settings::Settings;
 pub use state::SessionState;
-pub use turn::{Answer, Effect, Effects, HandOver, Kind, Refusal, Turn};
+pub use zs_events::{
+    Answer, BackgroundKind, Effect, Effects, EntityKind, Event, HandOver, KeyArg, Kind, Refusal,
+    Turn,
+};
 pub use zs_tables::{KeyRef, SubRow};
 
 mod change;
 mod declared_key;
-mod event;
+mod id_set;
+mod key_list;
 mod laws;
+mod pub_table;
+mod publisher;
 mod settings;
 mod state;
 #[cfg(test)]
 mod tests;
-mod turn;

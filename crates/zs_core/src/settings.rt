@@ -1,11 +1,14 @@
-ghost use Rattle.std.specs.Prelude.{◌≡◌};
+ghost use Rattle.std.specs.Prelude.{◌≡◌, IfOk};
 ghost use Rattle.zs_core.specs.Settings.{is_valid};
+
+use crate::key_list::KeyList;
+use std::alloc::{AllocError, Global};
 
 /// The most bytes that any settings allow a line.
 pub const LINE_MAX: u32 = 1 << 20;
 
 /// What a session is opened with.
-#[derive(Clone, Copy, Debug, PartialEq, Eq, Hash)]
+#[derive(Debug, PartialEq, Eq, Drop)]
 pub struct Settings {
     /// The session's own identifier in the network, its ZenohId: not 0.
     pub zid: u128,
@@ -15,6 +18,10 @@ pub struct Settings {
     pub entity_start: u32,
     /// The number of the first key that it declares: not 0, which no declared key has.
     pub key_start: u16,
+    /// What subscribers on narrower keys are told to the network as: each is on the first of these that includes its key.
+    pub aggregated_subscribers: KeyList,
+    /// The same for publishers.
+    pub aggregated_publishers: KeyList,
     /// How many bytes a line of a script may have.
     pub line_max: u32,
     /// How many reads of its input a run makes at most.
@@ -34,6 +41,22 @@ impl Settings {
             && self.line_max <= LINE_MAX
             && self.turns >= 1
     }
+
+    /// The same settings. The texts of their keys share their memory.
+    pub fn try_clone(&self, alloc: Global) -> Result<Settings, AllocError>
+        ensures { IfOk result (λ copy. copy ≡ self.now) }
+    {
+        Ok(Settings {
+            zid: self.zid,
+            tag: self.tag,
+            entity_start: self.entity_start,
+            key_start: self.key_start,
+            aggregated_subscribers: self.aggregated_subscribers.try_clone(alloc)?,
+            aggregated_publishers: self.aggregated_publishers.try_clone(alloc)?,
+            line_max: self.line_max,
+            turns: self.turns,
+        })
+    }
 }
 
 impl Default for Settings {
@@ -48,6 +71,8 @@ impl Default for Settings {
             tag: 1,
             entity_start: 1,
             key_start: 1,
+            aggregated_subscribers: KeyList::new(),
+            aggregated_publishers: KeyList::new(),
             line_max: 65536,
             turns: 1 << 32,
         }

@@ -2,22 +2,30 @@ ghost use Rattle.std.specs.Prelude.{◌≡◌, None, [], IfOk, OnOk, OnErr};
 ghost use Rattle.zs_core.specs.Turns.{decision_of, decision, closed_cause};
 ghost use Rattle.zs_core.specs.Changes.{Fits, with_change};
 
+use self::content::{delete_body, local_content, publisher_delete, publisher_put, put_body};
 use crate::change::{Change, Decision};
 use crate::declared_key::KeyHolders;
-use crate::event::{EntityKind, Event};
+use crate::id_set::IdSet;
+use crate::pub_table::PubTable;
 use crate::settings::Settings;
-use crate::turn::Refusal;
 use std::alloc::{AllocError, Global};
 use std::marker::Model;
-use zs_tables::Tables;
+use zs_events::{BackgroundKind, EntityKind, Event, Refusal};
+use zs_tables::{Groups, Tables};
 
+mod backgrounds;
+mod content;
 mod declared_keys;
+mod groups;
 mod keys;
+mod messages;
 mod publications;
+mod publishers;
 mod recipients;
 mod status;
 mod stepping;
 mod subscribers;
+mod wires;
 
 /// A session: what the application declared, and the numbers that it draws next. It changes by `step` alone.
 /// Contracts see it as a `World` of plain lists and counters.
@@ -30,6 +38,9 @@ pub struct SessionState {
     next_key: u16,
     tables: Tables,
     holders: Vec<KeyHolders>,
+    publishers: PubTable,
+    left_subs: IdSet,
+    groups: Groups,
 }
 
 impl Model for SessionState {
@@ -41,13 +52,14 @@ impl Model for SessionState {
       settings = s.settings;
       closed = s.closed;
       counters = record { entity = s.next_entity; key = s.next_key };
-      entities = record { subs = s.tables.rows };
+      entities = record { subs = s.tables.rows; pubs = s.publishers; left_subs = s.left_subs };
       keys = record { own = s.tables.own; holders = s.holders.items; told = s.tables.told };
+      groups = s.groups;
     } };
 
-    ghost use Rattle.std.specs.Prelude.{◌<◌, All};
+    ghost use Rattle.zs_core.specs.Bounds.{AreBelow};
 
-    ghost invariant = { λ s. All (λ row. row.id < s.next_entity) s.tables.rows };
+    ghost invariant = { λ s. AreBelow s.next_entity s.tables.rows s.publishers s.groups };
 }
 
 impl SessionState {
@@ -66,26 +78,73 @@ impl SessionState {
                 kind: EntityKind::Sub,
                 id,
             } => self.decide_undeclare_sub(*id),
+            Event::Pub {
+                destination,
+                key,
+                encoding,
+                qos,
+                reliable,
+            } => self.decide_pub(*destination, key, encoding, *qos, *reliable),
+            Event::Undeclare {
+                kind: EntityKind::Pub,
+                id,
+            } => self.decide_undeclare_pub(*id),
+            Event::Background {
+                kind: BackgroundKind::Sub,
+                id,
+            } => self.decide_background_sub(*id),
             Event::Put {
                 destination,
                 key,
                 payload,
                 encoding,
+                timestamp,
                 qos,
                 reliable,
-            } => self.decide_put(*destination, key, payload, encoding, *qos, *reliable),
-            Event::NetKeyExpr { number, wire } => self.decide_net_key_expr(*number, wire),
-            Event::NetUndeclareKeyExpr { .. } | Event::NetClose => {
-                Ok(Decision::quiet(self.alloc, None, Change::Nothing))
+                source,
+                attachment,
+            } => {
+                let body = put_body(
+                    self.alloc, payload, encoding, *timestamp, *source, attachment,
+                )?;
+                self.decide_own(key, local_content(*destination, body, *qos, *reliable))
             }
-            Event::NetPut {
-                wire,
+            Event::Delete {
+                destination,
+                key,
+                timestamp,
+                qos,
+                reliable,
+                source,
+                attachment,
+            } => {
+                let body = delete_body(self.alloc, *timestamp, *source, attachment)?;
+                self.decide_own(key, local_content(*destination, body, *qos, *reliable))
+            }
+            Event::PublisherPut {
+                id,
                 payload,
                 encoding,
-                qos,
-                reliable,
-            } => self.decide_net_put(wire, payload, encoding, *qos, *reliable),
+                timestamp,
+                source,
+                attachment,
+            } => {
+                let content = publisher_put(
+                    self.alloc, payload, encoding, *timestamp, *source, attachment,
+                )?;
+                self.decide_published(*id, content)
+            }
+            Event::PublisherDelete {
+                id,
+                timestamp,
+                source,
+                attachment,
+            } => {
+                let content = publisher_delete(self.alloc, *timestamp, *source, attachment)?;
+                self.decide_published(*id, content)
+            }
             Event::Close => self.decide_close(),
+            Event::Net(message) => self.decide_message(message),
         }
     }
 
@@ -113,13 +172,19 @@ fn closed_decision(alloc: Global, event: &Event) -> Decision
     ensures { result ≡ decision_of (closed_cause event.now) None [] Change.Nothing }
 {
     match event {
-        Event::Undeclare { .. } | Event::Close => Decision::quiet(alloc, None, Change::Nothing),
-        Event::NetKeyExpr { .. }
-        | Event::NetUndeclareKeyExpr { .. }
-        | Event::NetPut { .. }
-        | Event::NetClose => Decision::refused(alloc, Refusal::Ignored),
-        Event::Key { .. } | Event::UndeclareKey { .. } | Event::Sub { .. } | Event::Put { .. } => {
-            Decision::refused(alloc, Refusal::SessionClosedError)
-        }
+        Event::Undeclare { .. } | Event::Background { .. } | Event::Close => Decision::quiet(
+            alloc,
+            None,
+            Change::Nothing,
+        ),
+        Event::Net(_) => Decision::refused(alloc, Refusal::Ignored),
+        Event::Key { .. }
+        | Event::UndeclareKey { .. }
+        | Event::Sub { .. }
+        | Event::Pub { .. }
+        | Event::Put { .. }
+        | Event::Delete { .. }
+        | Event::PublisherPut { .. }
+        | Event::PublisherDelete { .. } => Decision::refused(alloc, Refusal::SessionClosedError),
     }
 }

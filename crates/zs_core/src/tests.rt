@@ -4,7 +4,7 @@ use crate::{Answer, Event, KeyArg, Kind, SessionState, Settings};
 use std::alloc::{AllocError, Global};
 use std::process::Abort;
 use std::test::Fail;
-use zs_sample::{Locality, Text};
+use zs_sample::{CongestionControl, Locality, QoSType, Text, ZBytes};
 use zs_wire::Mapping;
 
 fn key() -> Event {
@@ -17,6 +17,28 @@ fn sub() -> Event {
     Event::Sub {
         origin: Locality::Any,
         key: KeyArg::Text(Text::fixed("a/*")),
+    }
+}
+
+fn put() -> Event {
+    Event::Put {
+        destination: Locality::Any,
+        key: KeyArg::Declared {
+            text: Text::fixed("a/b/c"),
+            number: 1,
+            prefix_len: 3,
+        },
+        payload: ZBytes::new(),
+        encoding: Text::fixed(""),
+        timestamp: None,
+        qos: QoSType {
+            priority: 5,
+            congestion: CongestionControl::Drop,
+            express: false,
+        },
+        reliable: true,
+        source: None,
+        attachment: None,
     }
 }
 
@@ -46,6 +68,7 @@ fn tells_what_it_holds(rt: HostRuntime) -> Result<(), Fail> {
     let mut state = session(&rt, rt.alloc())?;
     assert!(rt; step(&rt, &mut state, key())? == Some(1));
     assert!(rt; step(&rt, &mut state, sub())? == Some(2));
+    assert!(rt; step(&rt, &mut state, put())? == None);
     assert!(rt; state.zid() == 1);
     assert!(rt; state.held(1));
     assert!(rt; state.is_live(Kind::Subscriber, 2));

@@ -1,17 +1,18 @@
-ghost use Rattle.std.specs.Prelude.{◌≡◌, ◌<◌, ◌==◌, not, true, filter, map, IfOk, OnOk, OnErr, vec_len, vec_capacity, nat_lt};
-ghost use Rattle.zs_core.specs.Turns.{open_decision};
+ghost use Rattle.std.specs.Prelude.{◌≡◌, ◌<◌, ◌==◌, not, true, None, filter, map, IfOk, OnOk, OnErr, vec_len, vec_capacity, nat_lt};
+ghost use Rattle.zs_core.specs.Turns.{decision_of, open_decision, own_keys_at};
+ghost use Rattle.zs_core.specs.Sends.{return_sends};
 ghost use Rattle.zs_core.specs.Changes.{KeysFit, with_change};
 ghost use Rattle.zs_core.specs.DeclaredKeys.{last_count, holders_of, has_holder, raised, can_rise, one_more, one_less};
 
 use super::SessionState;
-use super::keys::{into_owned, is_nothing};
+use super::keys::{into_owned, is_whole};
+use super::wires::full_wire;
 use crate::change::{Change, Decision, KeyChange, NetworkChange};
 use crate::declared_key::KeyHolders;
-use crate::event::{Event, KeyArg};
-use crate::turn::Refusal;
 use std::alloc::AllocError;
+use zs_events::{Effect, Effects, Event, KeyArg, Refusal};
 use zs_keys::KeyExpr;
-use zs_wire::{Mapping, WireExpr};
+use zs_wire::{Mapping, Message};
 
 impl SessionState {
     pub(super) fn decide_key(&self, key: &KeyArg) -> Result<Decision, AllocError>
@@ -29,43 +30,40 @@ impl SessionState {
             return Ok(Decision::refused(self.alloc, Refusal::IdsExhausted));
         }
         let number = self.next_key;
+        let wire = full_wire(self.alloc, key.as_str())?;
+        let mut effects = Effects::new(self.alloc);
+        effects.push(Effect::Send(Message::DeclareKeyExpr { number, wire }))?;
         let key = into_owned(self.alloc, key)?;
         let change = Change::OfKeys(KeyChange::Declare { number, key });
-        Ok(Decision::quiet(self.alloc, Some(u32::from(number)), change))
+        Ok(Decision::accepted(Some(u32::from(number)), effects, change))
     }
 
     pub(super) fn decide_undeclare_key(&self, key: &KeyArg) -> Result<Decision, AllocError>
         ensures { IfOk result (λ made. made ≡ open_decision self.now (Event.UndeclareKey key.now)) }
     {
+        if !self.has_claim(key) {
+            return Ok(Decision::refused(self.alloc, Refusal::NotFound));
+        }
         if let Err(refusal) = self.resolve(key)? {
             return Ok(Decision::refused(self.alloc, refusal));
         }
         match key {
-            KeyArg::Number { number, suffix } if is_nothing(suffix) => {
-                let change = Change::OfKeys(KeyChange::Release { number: *number });
-                Ok(Decision::quiet(self.alloc, None, change))
+            KeyArg::Number { number, .. } | KeyArg::Declared { number, .. } if is_whole(key) => {
+                self.decide_return(*number)
             }
             _ => Ok(Decision::refused(self.alloc, Refusal::NotDeclared)),
         }
     }
 
-    pub(super) fn decide_net_key_expr(
-        &self,
-        number: u16,
-        wire: &WireExpr,
-    ) -> Result<Decision, AllocError>
-        ensures { IfOk result (λ made. made ≡ open_decision self.now (Event.NetKeyExpr number wire.now)) }
+    /// A held number is given back. Where that is the last time, the network hears of it.
+    fn decide_return(&self, number: u16) -> Result<Decision, AllocError>
+        ensures { IfOk result (λ made. made ≡ decision_of None None (return_sends (own_keys_at self.now) number) (Change.OfKeys (KeyChange.Release number))) }
     {
-        if number == 0 {
-            return Ok(Decision::refused(self.alloc, Refusal::UnknownScope));
+        let mut effects = Effects::new(self.alloc);
+        if holders_of(number, &self.holders) <= 1 {
+            effects.push(Effect::Send(Message::UndeclareKeyExpr { number }))?;
         }
-        let key = match self.resolve_wire(wire)? {
-            Ok(key) => key,
-            Err(refusal) => return Ok(Decision::refused(self.alloc, refusal)),
-        };
-        let key = into_owned(self.alloc, key)?;
-        let change = Change::OfNetwork(NetworkChange::TellKey { number, key });
-        Ok(Decision::quiet(self.alloc, None, change))
+        Ok(Decision::of(effects, Change::OfKeys(KeyChange::Release { number })))
     }
 
     pub(super) fn change_keys(&mut self, change: KeyChange) -> Result<(), AllocError>

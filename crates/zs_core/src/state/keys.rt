@@ -1,11 +1,11 @@
 ghost use Rattle.std.specs.Prelude.{◌≡◌, ◌++◌, Some, IfOk};
-ghost use Rattle.zs_core.specs.Kinds.{is_nothing, is_whole};
-ghost use Rattle.zs_core.specs.Keys.{key_of, wire_of, resolution};
+ghost use Rattle.zs_events.specs.Kinds.{is_nothing, is_all_of, is_whole, claim_of};
+ghost use Rattle.zs_tables.specs.Numbers.{key_at};
+ghost use Rattle.zs_core.specs.Keys.{key_of, wire_of, has_claim, is_key_of, resolution};
 
 use super::SessionState;
-use crate::event::KeyArg;
-use crate::turn::Refusal;
 use std::alloc::{AllocError, Global};
+use zs_events::{KeyArg, Refusal};
 use zs_keys::{KeyError, KeyExpr};
 use zs_sample::Text;
 use zs_wire::{Mapping, WireExpr};
@@ -14,6 +14,8 @@ use zs_wire::{Mapping, WireExpr};
 #[derive(Clone, Copy)]
 pub(super) enum KeyName<'a> {
     Own(&'a KeyArg),
+    /// The key of the publisher of that number.
+    Publisher(u32),
     Wire(&'a WireExpr),
 }
 
@@ -26,13 +28,37 @@ impl SessionState {
         ensures { IfOk result (λ found. found ≡ resolution Refusal.NotFound (key_of self.now key.now)) }
     {
         match key {
-            KeyArg::Text(text) => Ok(canonical(text.as_str())),
+            KeyArg::Text(text) | KeyArg::Declared { text, .. } => Ok(canonical(text.as_str())),
             KeyArg::Number { number, suffix } => {
                 let Some(known) = self.tables.key_of(Mapping::Receiver, *number) else {
                     return Ok(Err(Refusal::NotFound));
                 };
                 with_suffix(self.alloc, known, suffix.as_str())
             }
+        }
+    }
+
+    /// Whether the text of a key argument stands under the number that it claims, if it claims one.
+    pub(super) fn has_claim(&self, key: &KeyArg) -> bool
+        ensures { result ≡ has_claim self.now (claim_of key.now) (key_of self.now key.now) }
+    {
+        match key {
+            KeyArg::Declared {
+                text,
+                number,
+                prefix_len,
+            } if is_all_of(text, *prefix_len) => self.stands_under(*number, text.as_str()),
+            _ => true,
+        }
+    }
+
+    /// Whether a number that this session declared stands for that text.
+    pub(super) fn stands_under(&self, number: u16, text: &str) -> bool
+        ensures { result ≡ is_key_of text.now (key_at number self.now.keys.own) }
+    {
+        match self.tables.key_of(Mapping::Receiver, number) {
+            Some(key) => key.as_str() == text,
+            None => false,
         }
     }
 
@@ -96,7 +122,19 @@ pub(super) fn is_whole(key: &KeyArg) -> bool
     match key {
         KeyArg::Text(_) => false,
         KeyArg::Number { number: _, suffix } => is_nothing(suffix),
+        KeyArg::Declared {
+            text,
+            prefix_len,
+            ..
+        } => is_all_of(text, *prefix_len),
     }
+}
+
+/// Whether a declaration of this length is one of the whole text.
+fn is_all_of(text: &Text, prefix_len: u32) -> bool
+    ensures { result ≡ is_all_of text.now prefix_len }
+{
+    text.as_str().len() == prefix_len as usize
 }
 
 /// Whether a text is empty.

@@ -1,213 +1,230 @@
-ghost use Rattle.std.specs.Prelude.{◌≡◌, ◌⊎◌, ◌+◌, ◌<◌, Some, None, true, false, IfOk};
-ghost use Rattle.zs_tables.specs.Contents.{text_meant, IsByNumber};
-ghost use Rattle.zs_tables.specs.Recipients.{has_session, recipients};
-ghost use Rattle.zs_core.specs.World.{World, tables_of};
-ghost use Rattle.zs_core.specs.Kinds.{is_nothing, is_whole};
-ghost use Rattle.zs_core.specs.Keys.{key_of, wire_of, text_of, named_by, is_number_alone};
-ghost use Rattle.zs_core.specs.Turns.{open_decision};
-ghost use Rattle.zs_core.specs.Effects.{publication_on, hands_for};
-ghost use Rattle.zs_core.specs.Publications.{content_by, sample_on, hands, hand_to, hands_to};
+ghost use Rattle.std.specs.Prelude.{◌≡◌, ◌⊎◌, ◌+◌, ◌++◌, ◌<◌, Some, None, true, false, IfOk, OnOk};
 ghost use Rattle.zs_keys.specs.Key.{undeclared};
+ghost use Rattle.zs_tables.specs.Contents.{text_meant, IsByNumber};
+ghost use Rattle.zs_tables.specs.Recipients.{has_session, has_network, recipients};
+ghost use Rattle.zs_events.specs.Kinds.{OwnKey, WireKey, OwnContent, is_nothing};
+ghost use Rattle.zs_core.specs.World.{World, tables_of};
+ghost use Rattle.zs_core.specs.Keys.{key_of, wire_of, text_of, named_by, is_number, is_number_alone};
+ghost use Rattle.zs_core.specs.Sends.{declaration_of, prefix_declaration, push_sends};
+ghost use Rattle.zs_core.specs.Publishers.{pub_at};
+ghost use Rattle.zs_core.specs.Effects.{publication_on, hands_for};
+ghost use Rattle.zs_core.specs.Publications.{content_by, reached, hand_to, hands_to};
+ghost use Rattle.zs_core.specs.Turns.{own_keys_at, publication_effects, publication_decision};
 
 use super::SessionState;
-use super::keys::{KeyName, into_owned, is_nothing, is_whole};
+use super::content::{Content, sample_of};
+use super::keys::{KeyName, is_nothing};
+use super::recipients::{has_network, has_session};
+use super::wires::push_of;
 use crate::change::{Change, Decision};
-use crate::event::{Event, KeyArg};
-use crate::turn::{Effect, Effects, HandOver, Kind};
+use crate::publisher::PubRow;
 use std::alloc::{AllocError, Global};
 use std::marker::Brand;
 use std::sync::ledger::{Blank, Ledger};
-use zs_keys::{KeyExpr, Steps};
-use zs_sample::{
-    Encoding, Locality, Priority, QoSType, Reliability, Sample, SampleFields, SampleKind, Text,
-    ZBytes,
-};
+use zs_events::{Effect, Effects, HandOver, KeyArg, Kind};
+use zs_keys::{Declared, KeyExpr, Steps};
+use zs_sample::{Locality, Sample};
 use zs_tables::{KeyRef, Tables};
 use zs_wire::{Mapping, WireExpr};
 
-/// A publication but for its key: made here for a destination, or come in.
-#[derive(Clone, Copy)]
-pub(super) struct Content<'a> {
-    local: bool,
-    destination: Locality,
-    payload: &'a ZBytes,
-    encoding: &'a Text,
-    qos: QoSType,
-    reliable: bool,
-}
-
 impl SessionState {
-    pub(super) fn decide_put(
-        &self,
-        destination: Locality,
-        key: &KeyArg,
-        payload: &ZBytes,
-        encoding: &Text,
-        qos: QoSType,
-        reliable: bool,
-    ) -> Result<Decision, AllocError>
-        ensures { IfOk result (λ made. made ≡ open_decision self.now (Event.Put destination key.now payload.now encoding.now qos reliable)) }
+    /// A publication that the application makes on a key.
+    pub(super) fn decide_own(&self, key: &KeyArg, content: Content) -> Result<Decision, AllocError>
+        ensures { IfOk result (λ made. made ≡ publication_decision self.now (OwnKey key.now) (content_by content)) }
     {
         let resolved = match self.resolve(key)? {
             Ok(key) => key,
             Err(refusal) => return Ok(Decision::refused(self.alloc, refusal)),
         };
-        let content = Content {
-            local: true,
-            destination,
-            payload,
-            encoding,
-            qos,
-            reliable,
-        };
-        let effects = self.hands_of(KeyName::Own(key), resolved, content)?;
+        let effects = self.publish(KeyName::Own(key), resolved, content)?;
         Ok(Decision::of(effects, Change::Nothing))
     }
 
-    pub(super) fn decide_net_put(
+    /// A publication that comes in.
+    pub(super) fn decide_incoming(
         &self,
         wire: &WireExpr,
-        payload: &ZBytes,
-        encoding: &Text,
-        qos: QoSType,
-        reliable: bool,
+        content: Content,
     ) -> Result<Decision, AllocError>
-        ensures { IfOk result (λ made. made ≡ open_decision self.now (Event.NetPut wire.now payload.now encoding.now qos reliable)) }
+        ensures { IfOk result (λ made. made ≡ publication_decision self.now (WireKey wire.now) (content_by content)) }
     {
         let resolved = match self.resolve_wire(wire)? {
             Ok(key) => key,
             Err(refusal) => return Ok(Decision::refused(self.alloc, refusal)),
         };
-        let content = Content {
-            local: false,
-            destination: Locality::Any,
-            payload,
-            encoding,
-            qos,
-            reliable,
-        };
-        let effects = self.hands_of(KeyName::Wire(wire), resolved, content)?;
+        let effects = self.publish(KeyName::Wire(wire), resolved, content)?;
         Ok(Decision::of(effects, Change::Nothing))
     }
 
-    /// What a put on that key brings about: one sample for each subscriber that is allowed it. `key` says how they are
-    /// found.
-    fn hands_of(
+    /// What a publication on that key brings about: its message, and one sample for each subscriber that is allowed
+    /// it. `key` says how they are found.
+    pub(super) fn publish(
         &self,
         key: KeyName<'_>,
         resolved: KeyExpr<'_>,
-        content: Content<'_>,
+        content: Content,
     ) -> Result<Effects, AllocError>
         requires meant { text_of self.now (named_by key) ≡ Some resolved.text }
         requires plain { resolved ≡ undeclared resolved.text }
         ensures { IfOk result (λ effects.
-            effects ≡ hands_for self.now.entities.subs (publication_on (Some resolved.entry.text) (Some (content_by content.entry)))) }
+            effects ≡ publication_effects self.now (named_by key.entry) (Some resolved.entry.text) (content_by content)) }
     {
-        let sample = sample_of_put(self.alloc, resolved, content)?;
-        self.hand_over_counted::<Brand>(
-            Blank::new(1),
-            content.local,
-            content.destination,
-            key,
-            &sample,
-        )
+        let mut effects = self.sends_of(key, resolved.as_str(), &content)?;
+        self.hand_over(&mut effects, key, resolved, content)?;
+        Ok(effects)
     }
 
-    /// `hand_over` with a counter of its own, which nobody reads.
-    fn hand_over_counted<L: Ledger>(
+    /// The message of a publication, where it goes to the network.
+    fn sends_of(
+        &self,
+        key: KeyName<'_>,
+        text: &str,
+        content: &Content,
+    ) -> Result<Effects, AllocError>
+        ensures { IfOk result (λ effects.
+            effects ≡ push_sends (own_keys_at self.now) text.now (declaration_of (own_keys_at self.now) text.now (named_by key.entry)) (content_by content.now)) }
+    {
+        let mut effects = Effects::new(self.alloc);
+        if content.local && has_network(content.destination) {
+            let declared = self.declaration_of(key, text)?;
+            let wire = self.wire_form(text, declared)?;
+            effects.push(Effect::Send(push_of(self.alloc, wire, content)?))?;
+        }
+        Ok(effects)
+    }
+
+    /// The declaration of a publisher's key, where it was named by a declared one.
+    fn published(&self, id: u32) -> Option<Declared>
+        ensures { result ≡ prefix_declaration self.now.settings.tag (pub_at id self.now.entities.pubs) }
+    {
+        match self.publishers.get(id) {
+            Some(row) => prefix_declaration(self.settings.tag, row),
+            None => None,
+        }
+    }
+
+    /// The declaration of a key that stands for that text: one from the network has none.
+    fn declaration_of(&self, key: KeyName<'_>, text: &str) -> Result<Option<Declared>, AllocError>
+        ensures { IfOk result (λ declared. declared ≡ declaration_of (own_keys_at self.now) text.now (named_by key.entry)) }
+    {
+        match key {
+            KeyName::Own(key) => self.declared_by(key, text),
+            KeyName::Publisher(id) => Ok(self.published(id)),
+            KeyName::Wire(_) => Ok(None),
+        }
+    }
+
+    /// Adds one sample for each subscriber that is allowed the publication.
+    fn hand_over(
+        &self,
+        effects: &mut Effects,
+        key: KeyName<'_>,
+        resolved: KeyExpr<'_>,
+        content: Content,
+    ) -> Result<(), AllocError>
+        requires meant { text_of self.now (named_by key) ≡ Some resolved.text }
+        requires plain { resolved ≡ undeclared resolved.text }
+        ensures { OnOk result (effects.new
+            ≡ effects.old ++ hands_for self.now.entities.subs (publication_on (Some resolved.entry.text) (OwnContent (content_by content)))) }
+    {
+        let local = content.local;
+        let to = content.destination;
+        let ids = self.recipients_uncounted::<Brand>(Blank::new(1), local, to, key, &resolved)?;
+        if ids.is_empty() {
+            return Ok(());
+        }
+        let sample = sample_of(self.alloc, resolved, content)?;
+        hand_to_all(self.alloc, effects, &ids, sample)
+    }
+
+    /// `recipients` with a counter of its own, which nobody reads.
+    fn recipients_uncounted<L: Ledger>(
         &self,
         blank: Blank,
         local: bool,
         destination: Locality,
         key: KeyName<'_>,
-        sample: &Sample,
-    ) -> Result<Effects, AllocError>
+        resolved: &KeyExpr<'_>,
+    ) -> Result<Vec<u32>, AllocError>
         requires name { blank.name ≡ L.name }
         requires parts { blank.parts ≡ L.parts }
         requires some { 0 < blank.parts }
-        requires meant { text_of self.now (named_by key) ≡ Some sample.now.key_expr.text }
-        ensures { IfOk result (λ effects.
-            effects ≡ hands (record { local = local; destination = destination; sample = sample.now }) self.now.entities.subs) }
+        requires meant { text_of self.now (named_by key) ≡ Some resolved.now.text }
+        ensures { IfOk result (λ ids. ids.items ≡ reached local destination resolved.now.text self.now.entities.subs) }
     {
         let mut steps = Steps::<L>::new(blank);
-        self.hand_over(local, destination, key, sample, &mut steps)
+        self.recipients(local, destination, key, resolved, &mut steps)
     }
 
-    /// One sample for each subscriber that is allowed the publication. They are found by the list of the key's number,
-    /// where the key is a number by itself: then no step is counted.
-    fn hand_over<L: Ledger>(
+    /// The ascending numbers of the subscribers that are allowed a publication. They are found by the list of the key's
+    /// number, where the key is a number by itself: then no step is counted.
+    fn recipients<L: Ledger>(
         &self,
         local: bool,
         destination: Locality,
         key: KeyName<'_>,
-        sample: &Sample,
+        resolved: &KeyExpr<'_>,
         steps: &mut Steps<L>,
-    ) -> Result<Effects, AllocError>
-        requires { text_of self.now (named_by key) ≡ Some sample.now.key_expr.text }
-        ensures hands { IfOk result (λ effects.
-            effects ≡ hands (record { local = local; destination = destination; sample = sample.now }) self.now.entities.subs) }
+    ) -> Result<Vec<u32>, AllocError>
+        requires { text_of self.now (named_by key) ≡ Some resolved.now.text }
+        ensures ids { IfOk result (λ ids. ids.items ≡ reached local destination resolved.now.text self.now.entities.subs) }
         ensures uncounted { is_number_alone (named_by key.entry) ≡ true → steps.new ≡ steps.old }
     {
         if local && !has_session(destination) {
-            return Ok(Effects::new(self.alloc));
+            return Ok(Vec::new(self.alloc));
         }
-        let by = key_ref(key, sample.key_expr());
-        hands_by(self.alloc, &self.tables, local, by, sample, steps)
+        ids_by(
+            self.alloc,
+            &self.tables,
+            local,
+            key_ref(key, resolved),
+            resolved,
+            steps,
+        )
     }
 }
 
-/// The sample of a put.
-fn sample_of_put(
-    alloc: Global,
-    key: KeyExpr<'_>,
-    content: Content<'_>,
-) -> Result<Sample, AllocError>
-    requires { key ≡ undeclared key.text }
-    ensures { IfOk result (λ sample. sample ≡ sample_on key.entry.text (content_by content.entry)) }
+/// The declaration that a publisher's key was named by.
+fn prefix_declaration(tag: u64, row: &PubRow) -> Option<Declared>
+    ensures { result ≡ prefix_declaration tag (Some row.now) }
 {
-    let qos = content.qos;
-    Ok(Sample::from_fields(SampleFields {
-        key_expr: into_owned(alloc, key)?,
-        payload: content.payload.try_clone(alloc)?,
-        kind: SampleKind::Put,
-        encoding: Encoding::of(alloc, content.encoding.as_str())?,
-        timestamp: None,
-        express: qos.express,
-        priority: Priority::handed_out(qos.priority),
-        congestion_control: qos.congestion,
-        reliability: Reliability::of(content.reliable),
-        source_info: None,
-        attachment: None,
-    }))
+    match row.prefix {
+        Some(prefix) => Some(Declared {
+            number: prefix.number,
+            prefix_len: prefix.len,
+            tag,
+        }),
+        None => None,
+    }
 }
 
 /// How the subscribers of a key are found: by its number, where the key is a number by itself.
-fn key_ref<'a>(key: KeyName<'a>, resolved: &'a KeyExpr<'static>) -> KeyRef<'a>
+fn key_ref<'a>(key: KeyName<'a>, resolved: &'a KeyExpr<'a>) -> KeyRef<'a>
     ensures by_number { is_number_alone (named_by key.entry) ≡ true → IsByNumber result }
     ensures meant { (w : World) → text_of w (named_by key.entry) ≡ Some resolved.now.text → text_meant result (tables_of w) ≡ Some resolved.now.text }
 {
     match key {
         KeyName::Own(key) => own_ref(key, resolved),
+        KeyName::Publisher(_) => KeyRef::Text(resolved),
         KeyName::Wire(wire) => wire_ref(wire, resolved),
     }
 }
 
 /// How the subscribers of an application's key are found: by its number, where it is a declared one by itself.
-fn own_ref<'a>(key: &KeyArg, resolved: &'a KeyExpr<'static>) -> KeyRef<'a>
-    ensures by_number { is_whole key.now ≡ true → IsByNumber result }
+fn own_ref<'a>(key: &KeyArg, resolved: &'a KeyExpr<'a>) -> KeyRef<'a>
+    ensures by_number { is_number key.now ≡ true → IsByNumber result }
     ensures meant { (w : World) → key_of w key.now ≡ Some resolved.now.text → text_meant result (tables_of w) ≡ Some resolved.now.text }
 {
-    if !is_whole(key) {
-        return KeyRef::Text(resolved);
-    }
     match key {
-        KeyArg::Text(_) => KeyRef::Text(resolved),
-        KeyArg::Number { number, suffix: _ } => KeyRef::Number(Mapping::Receiver, *number),
+        KeyArg::Number { number, suffix } if is_nothing(suffix) => {
+            KeyRef::Number(Mapping::Receiver, *number)
+        }
+        _ => KeyRef::Text(resolved),
     }
 }
 
 /// How the subscribers of a wire expression's key are found: by its number, where it is a declared one by itself.
-fn wire_ref<'a>(wire: &WireExpr, resolved: &'a KeyExpr<'static>) -> KeyRef<'a>
+fn wire_ref<'a>(wire: &WireExpr, resolved: &'a KeyExpr<'a>) -> KeyRef<'a>
     ensures by_number { is_nothing wire.now.suffix ≡ true → (wire.now.scope ≡ 0) ⊎ IsByNumber result }
     ensures meant { (w : World) → wire_of w wire.now ≡ Some resolved.now.text → text_meant result (tables_of w) ≡ Some resolved.now.text }
 {
@@ -220,52 +237,41 @@ fn wire_ref<'a>(wire: &WireExpr, resolved: &'a KeyExpr<'static>) -> KeyRef<'a>
     KeyRef::Number(wire.mapping, wire.scope)
 }
 
-/// One sample for each subscriber that receives a publication on that key. `local` says that it was made in this
-/// session.
-fn hands_by<L: Ledger>(
+/// The ascending numbers of the subscribers that receive a publication on that key. `local` says that it was made in
+/// this session.
+fn ids_by<L: Ledger>(
     alloc: Global,
     tables: &Tables,
     local: bool,
     key: KeyRef<'_>,
-    sample: &Sample,
+    text: &KeyExpr<'_>,
     steps: &mut Steps<L>,
-) -> Result<Effects, AllocError>
-    requires { text_meant key tables.now ≡ Some sample.now.key_expr.text }
-    ensures hands { IfOk result (λ effects. effects ≡ hands_to sample.now (recipients local sample.now.key_expr.text tables.now.rows)) }
+) -> Result<Vec<u32>, AllocError>
+    requires { text_meant key tables.now ≡ Some text.now.text }
+    ensures ids { IfOk result (λ ids. ids.items ≡ recipients local text.now.text tables.now.rows) }
     ensures uncounted { IsByNumber key.entry → steps.new ≡ steps.old }
 {
     match key {
-        KeyRef::Text(text) => hands_by_text(alloc, tables, local, text, sample, steps),
-        KeyRef::Number(..) => walk(alloc, tables, local, key, sample, steps),
+        KeyRef::Text(_) => ids_by_text(alloc, tables, local, text, steps),
+        KeyRef::Number(..) => walk(alloc, tables, local, key, text, steps),
     }
 }
 
 /// They are found by one look-up of the key's text, which counts as a step.
-fn hands_by_text<L: Ledger>(
+fn ids_by_text<L: Ledger>(
     alloc: Global,
     tables: &Tables,
     local: bool,
     key: &KeyExpr<'_>,
-    sample: &Sample,
     steps: &mut Steps<L>,
-) -> Result<Effects, AllocError>
-    ensures hands { IfOk result (λ effects. effects ≡ hands_to sample.now (recipients local key.now.text tables.now.rows)) }
+) -> Result<Vec<u32>, AllocError>
+    ensures ids { IfOk result (λ ids. ids.items ≡ recipients local key.now.text tables.now.rows) }
     ensures counted { steps.new ≡ steps.old + 1 }
 {
     steps.tick();
     let mut ids = Vec::new(alloc);
     tables.recipients_into(key, local, &mut ids)?;
-    hands_for_ids(alloc, &ids, sample)
-}
-
-fn hands_for_ids(alloc: Global, ids: &[u32], sample: &Sample) -> Result<Effects, AllocError>
-    ensures { IfOk result (λ effects. effects ≡ hands_to sample.now ids.now) }
-{
-    let mut effects = Effects::new(alloc);
-    for id in ids {
-        effects.push(hand_to(*id, sample.try_clone(alloc)?))?;
-    }
-    Ok(effects)
+    Ok(ids)
 }
 
 /// They are found from each to the next.
@@ -274,20 +280,51 @@ fn walk<L: Ledger>(
     tables: &Tables,
     local: bool,
     key: KeyRef<'_>,
-    sample: &Sample,
+    text: &KeyExpr<'_>,
     steps: &mut Steps<L>,
-) -> Result<Effects, AllocError>
-    requires { text_meant key tables.now ≡ Some sample.now.key_expr.text }
-    ensures hands { IfOk result (λ effects. effects ≡ hands_to sample.now (recipients local sample.now.key_expr.text tables.now.rows)) }
+) -> Result<Vec<u32>, AllocError>
+    requires { text_meant key tables.now ≡ Some text.now.text }
+    ensures ids { IfOk result (λ ids. ids.items ≡ recipients local text.now.text tables.now.rows) }
     ensures uncounted { IsByNumber key.entry → steps.new ≡ steps.old }
 {
-    let mut effects = Effects::new(alloc);
+    let mut ids = Vec::new(alloc);
     let mut after = None;
     'recipients: while let Some(id) = tables.next_recipient(key, local, after, steps) {
-        effects.push(hand_to(id, sample.try_clone(alloc)?))?;
+        ids.push(id)?;
         after = Some(id);
     }
-    Ok(effects)
+    Ok(ids)
+}
+
+/// Adds a sample for each of those subscribers. The last one gets the sample itself, and no copy.
+fn hand_to_all(
+    alloc: Global,
+    effects: &mut Effects,
+    ids: &[u32],
+    sample: Sample,
+) -> Result<(), AllocError>
+    ensures { OnOk result (effects.new ≡ effects.old ++ hands_to sample ids.now) }
+{
+    let Some((last, others)) = ids.split_last() else {
+        return Ok(());
+    };
+    hand_copies(alloc, effects, others, &sample)?;
+    effects.push(hand_to(*last, sample))
+}
+
+/// Adds a copy of a sample for each of those subscribers.
+fn hand_copies(
+    alloc: Global,
+    effects: &mut Effects,
+    ids: &[u32],
+    sample: &Sample,
+) -> Result<(), AllocError>
+    ensures { OnOk result (effects.new ≡ effects.old ++ hands_to sample.now ids.now) }
+{
+    for id in ids {
+        effects.push(hand_to(*id, sample.try_clone(alloc)?))?;
+    }
+    Ok(())
 }
 
 /// A sample for the subscriber of that number.
@@ -299,11 +336,4 @@ fn hand_to(id: u32, sample: Sample) -> Effect
         id,
         sample,
     })
-}
-
-/// Whether a destination has this session in it.
-fn has_session(locality: Locality) -> bool
-    ensures { result ≡ has_session locality }
-{
-    matches!(locality, Locality::SessionLocal | Locality::Any)
 }

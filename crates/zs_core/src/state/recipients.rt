@@ -2,13 +2,14 @@ ghost use Rattle.std.specs.Prelude.{◌≡◌, IsSome};
 ghost use Rattle.std.specs.Option.{option_map, option_copied, ForSome};
 ghost use Rattle.zs_tables.specs.Numbers.{key_at};
 ghost use Rattle.zs_tables.specs.Contents.{text_meant, IsByNumber};
-ghost use Rattle.zs_tables.specs.Recipients.{matches, next_recipient};
+ghost use Rattle.zs_tables.specs.Recipients.{has_session, has_network, matches, next_recipient};
 ghost use Rattle.zs_core.specs.World.{tables_of};
 ghost use Rattle.zs_core.specs.Keys.{numbers_for};
 
 use super::SessionState;
 use std::sync::ledger::Ledger;
 use zs_keys::Steps;
+use zs_sample::Locality;
 use zs_tables::KeyRef;
 use zs_wire::Mapping;
 
@@ -38,4 +39,18 @@ impl SessionState {
     {
         self.tables.next_recipient(key, local, after, steps)
     }
+}
+
+/// Whether a locality has this session in it.
+pub(super) fn has_session(locality: Locality) -> bool
+    ensures { result ≡ has_session locality }
+{
+    matches!(locality, Locality::SessionLocal | Locality::Any)
+}
+
+/// Whether a locality has the network in it.
+pub(super) fn has_network(locality: Locality) -> bool
+    ensures { result ≡ has_network locality }
+{
+    matches!(locality, Locality::Remote | Locality::Any)
 }

@@ -1,10 +1,9 @@
 ghost use Rattle.std.specs.Prelude.{◌≡◌};
-ghost use Rattle.zs_core.specs.Live.{is_subscriber};
 ghost use Rattle.zs_core.specs.Stands.{ClosedIs, IsHeld, IsLive};
 
 use super::SessionState;
 use super::declared_keys::has_holder;
-use crate::turn::Kind;
+use zs_events::Kind;
 
 impl SessionState {
     /// The session's own identifier in the network, its ZenohId.
@@ -33,12 +32,10 @@ impl SessionState {
     pub fn is_live(&self, kind: Kind, id: u32) -> bool
         ensures { IsLive self.now kind id result }
     {
-        is_subscriber(kind) && self.tables.has(id)
+        match kind {
+            Kind::Subscriber => self.tables.has(id),
+            Kind::Publisher => self.publishers.has(id),
+            _ => false,
+        }
     }
-}
-
-fn is_subscriber(kind: Kind) -> bool
-    ensures { result ≡ is_subscriber kind }
-{
-    matches!(kind, Kind::Subscriber)
 }

@@ -1,15 +1,16 @@
 ghost use Rattle.std.specs.Prelude.{◌≡◌, [], true, IsTrue, IfOk, OnErr};
 ghost use Rattle.zs_core.specs.Settings.{is_valid};
-ghost use Rattle.zs_core.specs.Turn.{was_refused};
+ghost use Rattle.zs_events.specs.Turn.{was_refused};
 ghost use Rattle.zs_core.specs.Stands.{world_after, Steps, Previews};
 
 use super::SessionState;
 use crate::change::Decision;
-use crate::event::Event;
+use crate::id_set::IdSet;
+use crate::pub_table::PubTable;
 use crate::settings::Settings;
-use crate::turn::Turn;
 use std::alloc::{AllocError, Global};
-use zs_tables::Tables;
+use zs_events::{Event, Turn};
+use zs_tables::{Groups, Tables};
 
 impl SessionState {
     /// An open session in which nothing is declared. It keeps the allocator.
@@ -19,12 +20,15 @@ impl SessionState {
     {
         Ok(SessionState {
             alloc,
-            settings: *settings,
+            settings: settings.try_clone(alloc)?,
             closed: false,
             next_entity: settings.entity_start + 1,
             next_key: settings.key_start,
             tables: Tables::new(alloc),
             holders: Vec::new(alloc),
+            publishers: PubTable::new(alloc),
+            left_subs: IdSet::new(alloc),
+            groups: Groups::new(alloc),
         })
     }
 

@@ -1,22 +1,32 @@
-ghost use Rattle.std.specs.Prelude.{◌≡◌, IfOk, OnOk, OnErr};
-ghost use Rattle.zs_core.specs.Turns.{open_decision};
+ghost use Rattle.std.specs.Prelude.{◌≡◌, ◌≢◌, ◌<◌, ◌++◌, ◌∷◌, [], Some, None, All, IfOk, OnOk, OnErr};
+ghost use Rattle.zs_core.specs.Turns.{known_at, open_decision};
+ghost use Rattle.zs_core.specs.Effects.{group_sends};
 ghost use Rattle.zs_core.specs.Changes.{EntitiesFit, with_change};
-ghost use Rattle.zs_core.specs.Subscribers.{sub_ends};
+ghost use Rattle.std.specs.Prelude.{◌&&◌, ◌==◌, not};
+ghost use Rattle.std.specs.List.{list_any};
+ghost use Rattle.std.specs.Option.{option_map};
+ghost use Rattle.zs_tables.specs.Groups.{with_groups, groups_of, members_of};
+ghost use Rattle.zs_core.specs.Groups.{company_at, sub_shared, share_text, joined_by, left_found, last_sends, leaving, subscriber_end};
+ghost use Rattle.zs_core.specs.Subscribers.{is_sub, sub_at, sub_ends};
 
 use super::SessionState;
+use super::groups::{join_group, joins_first, last_number, leave_group};
 use super::keys::into_owned;
+use super::recipients::has_network;
 use crate::change::{Change, Decision, EntityChange};
-use crate::event::{EntityKind, Event, KeyArg};
-use crate::turn::{Effect, Effects, Kind, Refusal};
+use crate::key_list::{KeyList, copy_of};
 use std::alloc::{AllocError, Global};
+use zs_events::{Effect, Effects, EntityKind, Event, KeyArg, Kind, Refusal};
+use zs_keys::KeyExpr;
 use zs_sample::Locality;
-use zs_tables::SubRow;
+use zs_tables::{GroupKind, Groups, SubRow, Tables};
+use zs_wire::Message;
 
 impl SessionState {
     pub(super) fn decide_sub(&self, origin: Locality, key: &KeyArg) -> Result<Decision, AllocError>
         ensures { IfOk result (λ made. made ≡ open_decision self.now (Event.Sub origin key.now)) }
     {
-        let key = match self.resolve(key)? {
+        let resolved = match self.resolve(key)? {
             Ok(key) => key,
             Err(refusal) => return Ok(Decision::refused(self.alloc, refusal)),
         };
@@ -27,19 +37,20 @@ impl SessionState {
         let row = SubRow {
             id,
             origin,
-            key: into_owned(self.alloc, key)?,
+            key: into_owned(self.alloc, resolved)?,
         };
+        let effects = self.joining_sub(id, origin, key, &row.key)?;
         let change = Change::OfEntities(EntityChange::AddSub { row });
-        Ok(Decision::quiet(self.alloc, Some(id), change))
+        Ok(Decision::accepted(Some(id), effects, change))
     }
 
     pub(super) fn decide_undeclare_sub(&self, id: u32) -> Result<Decision, AllocError>
         ensures { IfOk result (λ made. made ≡ open_decision self.now (Event.Undeclare EntityKind.Sub id)) }
     {
-        if !self.tables.has(id) {
+        if !self.names_sub(id) {
             return Ok(Decision::refused(self.alloc, Refusal::NotFound));
         }
-        let mut effects = Effects::new(self.alloc);
+        let mut effects = self.leaving_sub(id)?;
         effects.push(Effect::End {
             kind: Kind::Subscriber,
             id,
@@ -47,10 +58,73 @@ impl SessionState {
         Ok(Decision::of(effects, Change::OfEntities(EntityChange::EndSub { id })))
     }
 
+    /// What is sent where a subscriber joins the group of its text: the declaration of a group that had no members.
+    fn joining_sub(
+        &self,
+        id: u32,
+        origin: Locality,
+        key: &KeyArg,
+        resolved: &KeyExpr<'_>,
+    ) -> Result<Effects, AllocError>
+        ensures { IfOk result (λ effects. effects ≡ group_sends (known_at self.now) (Event.Sub origin key.now) (Some id) (Some resolved.now.text) ++ []) }
+    {
+        let mut effects = Effects::new(self.alloc);
+        let aggregates = &self.settings.aggregated_subscribers;
+        if joins_first(
+            &self.groups,
+            GroupKind::Subscribers,
+            aggregates,
+            has_network(origin),
+            resolved,
+        ) {
+            let wire = self.group_wire(aggregates, key, resolved)?;
+            effects.push(Effect::Send(Message::DeclareSubscriber { id, wire }))?;
+        }
+        Ok(effects)
+    }
+
+    /// What is sent where a subscriber leaves it: the end of a group that has no other.
+    fn leaving_sub(&self, id: u32) -> Result<Effects, AllocError>
+        ensures { IfOk result (λ effects. effects ≡ group_sends (known_at self.now) (Event.Undeclare EntityKind.Sub id) None None) }
+    {
+        let mut effects = Effects::new(self.alloc);
+        if let Some(number) = self.last_number_of_sub(id) {
+            effects.push(Effect::Send(Message::UndeclareSubscriber { id: number }))?;
+        }
+        Ok(effects)
+    }
+
+    /// The number of the group that a subscriber leaves as its last member, if it is there and the network was told of it.
+    fn last_number_of_sub(&self, id: u32) -> Option<u32>
+        ensures { leaving (company_at self.now.settings self.now.groups GroupKind.Subscribers) subscriber_end (option_map sub_shared (sub_at id self.now.entities.subs))
+            ≡ last_sends subscriber_end result }
+    {
+        let Some(row) = self.tables.row(id) else {
+            return None;
+        };
+        let aggregates = &self.settings.aggregated_subscribers;
+        last_number(
+            &self.groups,
+            GroupKind::Subscribers,
+            aggregates,
+            has_network(row.origin),
+            &row.key,
+        )
+    }
+
+    /// Whether a subscriber of that number can be named.
+    pub(super) fn names_sub(&self, id: u32) -> bool
+        ensures { result ≡ (is_sub id self.now.entities.subs && not (list_any (λ other. other == id) self.now.entities.left_subs)) }
+    {
+        self.tables.has(id) && !self.left_subs.contains(id)
+    }
+
     pub(super) fn decide_close(&self) -> Result<Decision, AllocError>
         ensures { IfOk result (λ made. made ≡ open_decision self.now Event.Close) }
     {
-        let effects = ends_of(self.alloc, self.tables.rows())?;
+        let mut effects = Effects::new(self.alloc);
+        effects.push(Effect::Send(Message::Close))?;
+        push_ends(&mut effects, self.tables.rows())?;
         Ok(Decision::of(effects, Change::Shut))
     }
 
@@ -65,6 +139,12 @@ impl SessionState {
                 self.end_sub(id);
                 Ok(())
             }
+            EntityChange::AddPub { row } => self.add_pub(row),
+            EntityChange::EndPub { id } => {
+                self.end_pub(id);
+                Ok(())
+            }
+            EntityChange::LeaveSub { id } => self.leave_sub(id),
         }
     }
 
@@ -74,7 +154,14 @@ impl SessionState {
         ensures ok { OnOk result (self.new ≡ with_change (Change.OfEntities (EntityChange.AddSub row)) self.old) }
         ensures err { OnErr result (self.new ≡ self.old) }
     {
-        self.tables.add(row)?;
+        let aggregates = &self.settings.aggregated_subscribers;
+        add_to_group(
+            self.alloc,
+            &mut self.tables,
+            &mut self.groups,
+            aggregates,
+            row,
+        )?;
         self.next_entity += 1;
         Ok(())
     }
@@ -82,6 +169,12 @@ impl SessionState {
     fn end_sub(&mut self, id: u32)
         ensures { self.new ≡ with_change (Change.OfEntities (EntityChange.EndSub id)) self.old }
     {
+        leave_sub_group(
+            &mut self.groups,
+            &self.tables,
+            &self.settings.aggregated_subscribers,
+            id,
+        );
         self.tables.remove(id);
     }
 
@@ -92,19 +185,64 @@ impl SessionState {
         self.closed = true;
         self.tables.clear();
         self.holders.clear();
+        self.publishers.clear();
+        self.groups = Groups::new(self.alloc);
     }
 }
 
-/// That these subscribers are called no more.
-fn ends_of(alloc: Global, rows: &[SubRow]) -> Result<Effects, AllocError>
-    ensures { IfOk result (λ effects. effects ≡ sub_ends rows.now) }
+/// A subscriber is there, and in the group of its text.
+fn add_to_group(
+    alloc: Global,
+    tables: &mut Tables,
+    groups: &mut Groups,
+    aggregates: &KeyList,
+    row: SubRow,
+) -> Result<(), AllocError>
+    requires below { All (λ other. other.id < row.id) tables.old.rows }
+    requires new { All (λ member. member ≢ row.id) (members_of (share_text aggregates.now row.key.text) groups.old.subscribers) }
+    ensures tables { OnOk result (tables.new ≡ record tables.old { rows = tables.old.rows ++ row ∷ [] }) }
+    ensures groups { OnOk result (groups.new ≡ record groups.old { subscribers = joined_by aggregates.now (sub_shared row) groups.old.subscribers }) }
+    ensures same_tables { OnErr result (tables.new ≡ tables.old) }
+    ensures same_groups { OnErr result (groups.new ≡ groups.old) }
 {
-    let mut effects = Effects::new(alloc);
+    let id = row.id;
+    let told = has_network(row.origin);
+    let key = copy_of(alloc, &row.key)?;
+    tables.add(row)?;
+    if let Err(error) = join_group(groups, GroupKind::Subscribers, aggregates, told, &key, id) {
+        tables.remove(id);
+        return Err(error);
+    }
+    Ok(())
+}
+
+/// A subscriber leaves the group of its text, if it is there.
+fn leave_sub_group(groups: &mut Groups, tables: &Tables, aggregates: &KeyList, id: u32)
+    ensures { groups.new ≡ with_groups GroupKind.Subscribers
+        (left_found aggregates.now (option_map sub_shared (sub_at id tables.now.rows)) (groups_of GroupKind.Subscribers groups.old)) groups.old }
+{
+    if let Some(row) = tables.row(id) {
+        let told = has_network(row.origin);
+        leave_group(
+            groups,
+            GroupKind::Subscribers,
+            aggregates,
+            told,
+            &row.key,
+            row.id,
+        );
+    }
+}
+
+/// Adds that these subscribers are called no more.
+fn push_ends(effects: &mut Effects, rows: &[SubRow]) -> Result<(), AllocError>
+    ensures { OnOk result (effects.new ≡ effects.old ++ sub_ends rows.now) }
+{
     for row in rows {
         effects.push(Effect::End {
             kind: Kind::Subscriber,
             id: row.id,
         })?;
     }
-    Ok(effects)
+    Ok(())
 }

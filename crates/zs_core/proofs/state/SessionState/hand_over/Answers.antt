@@ -1,27 +1,27 @@
-use Rattle.std.proofs.Common.{◌≡◌, List, Bool, true, false, sym, ◌∙◌, ap, subst, IfOk}
-use Rattle.zs_tables.specs.Recipients.{has_session}
-use Rattle.zs_core.specs.declared.turn.Effect.{Effect}
-use Rattle.zs_core.specs.World.{World}
-use Rattle.zs_core.specs.Publications.{hands}
-use Rattle.zs_core.proofs.Publications.{no_hands, walked_hands}
-use Rattle.zs_core.proofs.state.SessionState.hand_over.Goals.{else-local-via-then-local+else-not-has_session, else-local-via-else-local}
+use Rattle.std.proofs.Common.{◌≡◌, List, [], ◌++◌, OnOk, sym, ◌∙◌, ap, subst, append-nil}
+use Rattle.std.specs.Prelude.{vec_len}
+use Rattle.std.proofs.lemmas.Bool.{eqb-true}
+use Rattle.std.proofs.lemmas.List.{nil_from_length}
+use Rattle.zs_events.specs.declared.turn.Effect.{Effect}
+use Rattle.zs_core.specs.Publications.{content_by, sample_on, hands, hands_to, reached}
+use Rattle.zs_core.proofs.Publications.{reached_hands}
 use Rattle.zs_core.proofs.state.SessionState.hand_over.Goals as goal
 
-pub returns-then-not-has_session-clause-hands : goal.returns-then-not-has_session-clause-hands
-returns-then-not-has_session-clause-hands g c =
-    let away : has_session c.args.destination ≡ false = cc in
-    c.new.ensures
-    ∙ sym (ap (λ (local : Bool). hands (record { local = local; destination = c.args.destination; sample = c.args.sample.now }) c.args.self.now.entities.subs) c.if-local.true
-    ∙ no_hands c.args.destination c.args.sample.now c.args.self.now.entities.subs away)
+pub returns-then-is_empty : goal.returns-then-is_empty
+returns-then-is_empty c =
+    let sample = sample_on c.args.resolved.text (content_by c.args.content) in
+    let nobody : c.in_ok-ids.ids.items ≡ [] = nil_from_length _ (sym c.in_ok-ids.ids.ok.0 ∙ eqb-true (vec_len c.in_ok-ids.ids) 0 (sym c.is_empty.ensures ∙ c.if-is_empty.true)) in
+    let none : hands (record { local = c.args.content.local; destination = c.args.content.destination; sample = sample }) c.args.self.now.entities.subs ≡ [] =
+    reached_hands c.args.content.local c.args.content.destination sample c.args.self.now.entities.subs
+    ∙ ap (hands_to sample) (sym c.in_ok-ids.ensures ∙ nobody) in
+    sym (ap (λ (fx : List Effect). c.args.effects.now ++ fx) none ∙ append-nil c.args.effects.now)
 
-pub returns-clause-hands : goal.returns-clause-hands
-returns-clause-hands g c =
-    let here : c.args.local ≡ true → has_session c.args.destination ≡ true = elim c.else-local.branch [
-      | else-local-via-then-local+else-not-has_session w ↦ λ e. cc
-      | else-local-via-else-local w ↦ λ e. cc
-    ] in
-    let rows : c.self.inside.tables.rows ≡ c.args.self.now.entities.subs = ap (λ (w : World). w.entities.subs) c.self.view_is in
-    subst (λ (fx : List Effect). IfOk c.hands_by.result (λ effects. effects ≡ fx))
-    (sym (walked_hands c.args.local c.args.destination c.args.sample.now c.self.inside.tables.rows here)
-    ∙ ap (hands (record { local = c.args.local; destination = c.args.destination; sample = c.args.sample.now })) rows)
-    c.hands_by.ensures.hands
+pub returns : goal.returns
+returns c =
+    let sample = sample_on c.args.resolved.text (content_by c.args.content) in
+    let all : hands_to c.in_ok-sample.sample c.deref.result.now
+    ≡ hands (record { local = c.args.content.local; destination = c.args.content.destination; sample = sample }) c.args.self.now.entities.subs =
+    ap (hands_to c.in_ok-sample.sample) (c.deref.ensures.value ∙ c.in_ok-ids.ensures)
+    ∙ ap (λ s. hands_to s (reached c.args.content.local c.args.content.destination c.args.resolved.text c.args.self.now.entities.subs)) c.in_ok-sample.ensures
+    ∙ sym (reached_hands c.args.content.local c.args.content.destination sample c.args.self.now.entities.subs) in
+    subst (λ (fx : List Effect). OnOk c.hand_to_all.result (c.hand_to_all.new.effects ≡ c.args.effects.now ++ fx)) all c.hand_to_all.ensures

@@ -1,7 +1,7 @@
 use Rattle.std.proofs.Common.{◌≡◌, ◌≤◌, ℕ, List, [], ◌∷◌, length, refl, ap, ◌∙◌, ◌==◌, encode_utf8_all, arith}
 use Rattle.std.proofs.lemmas.Bool.Decides.{nat_tests}
 use Rattle.std.proofs.lemmas.Str.{length-le-encodes}
-use Rattle.zs_core.specs.Kinds.{is_nothing}
+use Rattle.zs_events.specs.Kinds.{is_nothing}
 use Rattle.zs_core.proofs.state.keys.is_nothing.Goals as goal
 
 -- no characters have no bytes, and others have some

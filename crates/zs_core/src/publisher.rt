@@ -1,0 +1,25 @@
+use zs_keys::KeyExpr;
+use zs_sample::{Locality, QoSType, Text};
+
+/// A number of this session that stood for the first bytes of a key's text when the key was named.
+#[derive(Clone, Copy, Debug, PartialEq, Eq, Hash, Drop)]
+pub struct Prefix {
+    pub number: u16,
+    /// How many bytes.
+    pub len: u32,
+}
+
+/// A live publisher.
+#[derive(Debug, Drop)]
+pub struct PubRow {
+    pub id: u32,
+    /// Whom its publications are for.
+    pub destination: Locality,
+    pub key: KeyExpr<'static>,
+    /// The declared part of its key, if it was named by one.
+    pub prefix: Option<Prefix>,
+    /// Of its puts that name none.
+    pub encoding: Text,
+    pub qos: QoSType,
+    pub reliable: bool,
+}

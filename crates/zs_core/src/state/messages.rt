@@ -1,0 +1,64 @@
+ghost use Rattle.std.specs.Prelude.{◌≡◌, IfOk};
+ghost use Rattle.zs_core.specs.Turns.{open_decision, heard_decision};
+
+use super::SessionState;
+use super::content::incoming_content;
+use super::keys::into_owned;
+use crate::change::{Change, Decision, NetworkChange};
+use std::alloc::AllocError;
+use zs_events::{Event, Refusal};
+use zs_wire::{Message, WireExpr};
+
+impl SessionState {
+    /// What a message from the network makes of an open session. Those of gets, queryables, liveliness and matching
+    /// change nothing, but their keys must be known ones.
+    pub(super) fn decide_message(&self, message: &Message) -> Result<Decision, AllocError>
+        ensures { IfOk result (λ made. made ≡ open_decision self.now (Event.Net message.now)) }
+    {
+        match message {
+            Message::DeclareKeyExpr { number, wire } => self.decide_key_expr(*number, wire),
+            Message::Push(push) => {
+                let content = incoming_content(self.alloc, push)?;
+                self.decide_incoming(&push.wire, content)
+            }
+            Message::DeclareSubscriber { wire, .. }
+            | Message::DeclareQueryable { wire, .. }
+            | Message::DeclareToken { wire, .. } => self.decide_heard(wire),
+            Message::Request(request) => self.decide_heard(&request.wire),
+            Message::UndeclareKeyExpr { .. }
+            | Message::UndeclareSubscriber { .. }
+            | Message::UndeclareQueryable { .. }
+            | Message::UndeclareToken { .. }
+            | Message::DeclareFinal { .. }
+            | Message::Interest { .. }
+            | Message::Response(_)
+            | Message::ResponseFinal { .. }
+            | Message::Close => Ok(Decision::quiet(self.alloc, None, Change::Nothing)),
+        }
+    }
+
+    fn decide_key_expr(&self, number: u16, wire: &WireExpr) -> Result<Decision, AllocError>
+        ensures { IfOk result (λ made. made ≡ open_decision self.now (Event.Net (Message.DeclareKeyExpr number wire.now))) }
+    {
+        if number == 0 {
+            return Ok(Decision::refused(self.alloc, Refusal::UnknownScope));
+        }
+        let key = match self.resolve_wire(wire)? {
+            Ok(key) => key,
+            Err(refusal) => return Ok(Decision::refused(self.alloc, refusal)),
+        };
+        let key = into_owned(self.alloc, key)?;
+        let change = Change::OfNetwork(NetworkChange::TellKey { number, key });
+        Ok(Decision::quiet(self.alloc, None, change))
+    }
+
+    /// A message that names a key and changes nothing.
+    fn decide_heard(&self, wire: &WireExpr) -> Result<Decision, AllocError>
+        ensures { IfOk result (λ made. made ≡ heard_decision self.now wire.now) }
+    {
+        match self.resolve_wire(wire)? {
+            Ok(_) => Ok(Decision::quiet(self.alloc, None, Change::Nothing)),
+            Err(refusal) => Ok(Decision::refused(self.alloc, refusal)),
+        }
+    }
+}

@@ -1,0 +1,259 @@
+-- Each kind of event, said once: who says it, the key that it names, what it draws, whom it names and what it publishes, with the
+-- texts in them. What is said of all events is read off these rows.
+use Rattle.std.specs.Prelude.{ℕ, Bool, true, false, not, ◌==◌, List, [], ◌∷◌, length, Option, Some, None, codes, encode_utf8_all, if◌then◌else◌}
+use Rattle.zs_events.specs.declared.event.Event.{Event}
+use Rattle.zs_events.specs.declared.event.Event.TheVariants.{Key, UndeclareKey, Sub, Pub, Undeclare, Background, Put, Delete, PublisherPut, PublisherDelete, Close, Net}
+use Rattle.zs_events.specs.declared.event.EntityKind.{EntityKind}
+use Rattle.zs_events.specs.declared.event.EntityKind.TheVariants.{Sub as sub_kind, Pub as pub_kind}
+use Rattle.zs_events.specs.declared.event.BackgroundKind.{BackgroundKind}
+use Rattle.zs_events.specs.declared.event.BackgroundKind.TheVariants.{Sub as background_sub}
+use Rattle.zs_events.specs.declared.event.KeyArg.{KeyArg}
+use Rattle.zs_events.specs.declared.event.KeyArg.TheVariants.{Text, Number, Declared}
+use Rattle.zs_events.specs.declared.turn.Kind.{Kind}
+use Rattle.zs_events.specs.declared.turn.Kind.TheVariants.{Subscriber, Publisher}
+use Rattle.zs_sample.specs.Encoding.{encoding_of}
+use Rattle.zs_sample.specs.declared.locality.Locality.{Locality}
+use Rattle.zs_sample.specs.declared.locality.Locality.TheVariants.{Any}
+use Rattle.zs_wire.specs.declared.body.Body.{Body}
+use Rattle.zs_wire.specs.declared.body.Value.{Value}
+use Rattle.zs_wire.specs.declared.message.Message.{Message}
+use Rattle.zs_wire.specs.declared.message.Message.TheVariants.{DeclareKeyExpr, UndeclareKeyExpr, DeclareSubscriber, UndeclareSubscriber, DeclareQueryable, UndeclareQueryable, DeclareToken, UndeclareToken, DeclareFinal, Interest, Push as push_message, Request as request_message, Response as response_message, ResponseFinal, Close as close_message}
+use Rattle.zs_wire.specs.declared.origin.SourceInfo.{SourceInfo}
+use Rattle.zs_wire.specs.declared.origin.Timestamp.{Timestamp}
+use Rattle.zs_wire.specs.declared.push.Push.{Push}
+use Rattle.zs_wire.specs.declared.quality.QoSType.{QoSType}
+use Rattle.zs_wire.specs.declared.sample_kind.SampleKind.{SampleKind}
+use Rattle.zs_wire.specs.declared.sample_kind.SampleKind.TheVariants.{Put as put_kind, Delete as delete_kind}
+use Rattle.zs_wire.specs.declared.wire_expr.WireExpr.{WireExpr}
+
+-- who says an event: the application, to an open session alone or at any time, or the network
+pub data Speaker : Type 0 where
+  Application : Speaker
+  Anytime : Speaker
+  Network : Speaker
+
+-- the key that an event names: none, an application's, that of a publisher, or one from the network
+pub data NamedKey : Type 0 where
+  NoKey : NamedKey
+  OwnKey : (key : KeyArg) → NamedKey
+  PublisherKey : (id : ℕ) → NamedKey
+  WireKey : (wire : WireExpr) → NamedKey
+
+-- what an event draws: no number, one of an entity, or one of a key, unless the key has one
+pub data Draws : Type 0 where
+  NoNumber : Draws
+  EntityNumber : Draws
+  KeyNumber : Draws
+
+-- an entity by its kind and number
+pub record Named : Type 0 where
+  pub kind : Kind
+  pub id : ℕ
+
+-- a publication but for its key: made here for a destination, or come in
+pub record Content : Type 0 where
+  pub local : Bool
+  pub destination : Locality
+  pub body : Body
+  pub qos : QoSType
+  pub reliable : Bool
+
+-- what a publisher is told to publish: without an encoding it has the publisher's
+pub record PublisherContent : Type 0 where
+  pub kind : SampleKind
+  pub payload : List (List ℕ)
+  pub encoding : Option (List ℕ)
+  pub timestamp : Option Timestamp
+  pub source : Option SourceInfo
+  pub attachment : Option (List (List ℕ))
+
+-- what an event publishes: nothing, content with qualities of its own, or content with those of a publisher
+pub data Publishes : Type 0 where
+  NoContent : Publishes
+  OwnContent : (content : Content) → Publishes
+  ByPublisher : (id : ℕ) (content : PublisherContent) → Publishes
+
+-- what is said of a kind of event
+pub record Row : Type 0 where
+  pub says : Speaker
+  pub key : NamedKey
+  pub draws : Draws
+  pub names : Option Named
+  -- it would tell what number 0 stands for
+  pub tells_zero : Bool
+  -- it gives back a key that is not a declared number by itself
+  pub gives_part : Bool
+  -- the number under which it says that its key's text is held
+  pub claims : Option ℕ
+  pub publishes : Publishes
+  -- its texts beside that of its key
+  pub texts : List (List ℕ)
+
+-- an event of which no more is said than who says it
+abbrev pub said_by : Speaker → Row
+said_by speaker = record {
+  says = speaker;
+  key = NoKey;
+  draws = NoNumber;
+  names = None;
+  tells_zero = false;
+  gives_part = false;
+  claims = None;
+  publishes = NoContent;
+  texts = [];
+}
+
+-- a message from the network that names a key
+abbrev pub told_on : WireExpr → Row
+told_on wire = record (said_by Network) { key = WireKey wire }
+
+-- no text
+abbrev pub is_nothing : List ℕ → Bool
+is_nothing [] = true
+is_nothing (c ∷ text) = false
+
+-- whether a declaration of this length is one of the whole text
+abbrev pub is_all_of : List ℕ → ℕ → Bool
+is_all_of text prefix_len = length (encode_utf8_all text) == prefix_len
+
+-- a key argument that is a declared number and nothing behind it
+abbrev pub is_whole : KeyArg → Bool
+is_whole (Text text) = false
+is_whole (Number number suffix) = is_nothing suffix
+is_whole (Declared text number prefix_len) = is_all_of text prefix_len
+
+-- the number under which a key argument says that its whole text is held
+abbrev pub claim_of : KeyArg → Option ℕ
+claim_of (Text text) = None
+claim_of (Number number suffix) = None
+claim_of (Declared text number prefix_len) = if is_all_of text prefix_len then Some number else None
+
+-- the kind of what is undeclared, and of what is left to itself
+abbrev pub kind_of : EntityKind → Kind
+kind_of sub_kind = Subscriber
+kind_of pub_kind = Publisher
+
+abbrev pub background_kind_of : BackgroundKind → Kind
+background_kind_of background_sub = Subscriber
+
+-- the encoding where none is named
+abbrev pub default_encoding : List ℕ
+default_encoding = codes "zenoh/bytes"
+
+-- what a put says of its key, and a deletion: the empty encoding is the default
+abbrev pub put_body : List (List ℕ) → List ℕ → Option Timestamp → Option SourceInfo → Option (List (List ℕ)) → Body
+put_body payload encoding timestamp source attachment = record {
+  kind = put_kind;
+  payload = payload;
+  encoding = encoding_of encoding;
+  timestamp = timestamp;
+  source = source;
+  attachment = attachment;
+}
+
+abbrev pub delete_body : Option Timestamp → Option SourceInfo → Option (List (List ℕ)) → Body
+delete_body timestamp source attachment = record {
+  kind = delete_kind;
+  payload = [];
+  encoding = default_encoding;
+  timestamp = timestamp;
+  source = source;
+  attachment = attachment;
+}
+
+-- a publication made here, and one that came in
+abbrev pub local_content : Locality → Body → QoSType → Bool → Content
+local_content destination body qos reliable = record {
+  local = true;
+  destination = destination;
+  body = body;
+  qos = qos;
+  reliable = reliable;
+}
+
+abbrev pub incoming_content : Push → Content
+incoming_content push = record { local = false; destination = Any; body = push.body; qos = push.qos; reliable = push.reliable }
+
+-- a publisher's number and kind
+abbrev pub publisher_named : ℕ → Option Named
+publisher_named id = Some (record { kind = Publisher; id = id })
+
+-- the text that there is, if there is one
+abbrev pub text_if : Option (List ℕ) → List (List ℕ)
+text_if None = []
+text_if (Some text) = text ∷ []
+
+-- the texts of a value, if there is one
+abbrev pub value_texts : Option Value → List (List ℕ)
+value_texts None = []
+value_texts (Some value) = value.encoding ∷ []
+
+-- the row of each message
+abbrev pub message_row : Message → Row
+message_row (DeclareKeyExpr number wire) = record (told_on wire) { tells_zero = number == 0 }
+message_row (UndeclareKeyExpr number) = said_by Network
+message_row (DeclareSubscriber id wire) = told_on wire
+message_row (UndeclareSubscriber id) = said_by Network
+message_row (DeclareQueryable id complete wire) = told_on wire
+message_row (UndeclareQueryable id) = said_by Network
+message_row (DeclareToken id wire interest) = told_on wire
+message_row (UndeclareToken id wire interest) = said_by Network
+message_row (DeclareFinal interest) = said_by Network
+message_row (Interest id mode what wire) = said_by Network
+message_row (push_message push) = record (told_on push.wire) {
+  publishes = OwnContent (incoming_content push);
+  texts = push.body.encoding ∷ [];
+}
+message_row (request_message request) = told_on request.wire
+message_row (response_message response) = said_by Network
+message_row (ResponseFinal rid) = said_by Network
+message_row close_message = said_by Network
+
+-- the row of each kind
+abbrev pub row_of : Event → Row
+row_of (Key key) = record (said_by Application) { key = OwnKey key; draws = KeyNumber }
+row_of (UndeclareKey key) = record (said_by Application) { key = OwnKey key; gives_part = not (is_whole key); claims = claim_of key }
+row_of (Sub origin key) = record (said_by Application) { key = OwnKey key; draws = EntityNumber }
+row_of (Pub destination key encoding qos reliable) = record (said_by Application) {
+  key = OwnKey key;
+  draws = EntityNumber;
+  texts = encoding ∷ [];
+}
+row_of (Undeclare kind id) = record (said_by Anytime) { names = Some (record { kind = kind_of kind; id = id }) }
+row_of (Background kind id) = record (said_by Anytime) { names = Some (record { kind = background_kind_of kind; id = id }) }
+row_of (Put destination key payload encoding timestamp qos reliable source attachment) = record (said_by Application) {
+  key = OwnKey key;
+  publishes = OwnContent (local_content destination (put_body payload encoding timestamp source attachment) qos reliable);
+  texts = encoding ∷ [];
+}
+row_of (Delete destination key timestamp qos reliable source attachment) = record (said_by Application) {
+  key = OwnKey key;
+  publishes = OwnContent (local_content destination (delete_body timestamp source attachment) qos reliable);
+}
+row_of (PublisherPut id payload encoding timestamp source attachment) = record (said_by Application) {
+  key = PublisherKey id;
+  names = publisher_named id;
+  publishes = ByPublisher id (record {
+    kind = put_kind;
+    payload = payload;
+    encoding = encoding;
+    timestamp = timestamp;
+    source = source;
+    attachment = attachment;
+  });
+  texts = text_if encoding;
+}
+row_of (PublisherDelete id timestamp source attachment) = record (said_by Application) {
+  key = PublisherKey id;
+  names = publisher_named id;
+  publishes = ByPublisher id (record {
+    kind = delete_kind;
+    payload = [];
+    encoding = Some default_encoding;
+    timestamp = timestamp;
+    source = source;
+    attachment = attachment;
+  });
+}
+row_of Close = said_by Anytime
+row_of (Net message) = message_row message
