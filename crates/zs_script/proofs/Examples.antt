@@ -4,23 +4,29 @@ use Rattle.std.specs.Str.{chars, is_utf8}
 use Rattle.std.specs.Fmt.{digits}
 use Rattle.hex.proofs.OnLiterals.{hex_on_literals}
 use Rattle.zs_keys.specs.Key.{undeclared}
-use Rattle.zs_wire.specs.declared.quality.CongestionControl.TheVariants.{Drop}
+use Rattle.zs_wire.specs.declared.message.Message.TheVariants.{DeclareKeyExpr, UndeclareKeyExpr, Push, Close as close_message}
+use Rattle.zs_wire.specs.declared.quality.CongestionControl.TheVariants.{Drop, Block}
+use Rattle.zs_wire.specs.declared.request.QueryTarget.TheVariants.{All}
+use Rattle.zs_wire.specs.declared.sample_kind.SampleKind.TheVariants.{Put as put_kind, Delete as delete_kind}
+use Rattle.zs_wire.specs.declared.wire_expr.Mapping.TheVariants.{Sender, Receiver}
 use Rattle.zs_sample.specs.declared.quality.Priority.TheVariants.{Data}
 use Rattle.zs_sample.specs.declared.quality.Reliability.TheVariants.{Reliable}
-use Rattle.zs_wire.specs.declared.sample_kind.SampleKind.TheVariants.{Put as put_kind}
 use Rattle.zs_sample.specs.declared.locality.Locality.TheVariants.{SessionLocal, Remote, Any}
-use Rattle.zs_core.specs.declared.event.KeyArg.TheVariants.{Text, Number}
-use Rattle.zs_core.specs.declared.event.Event.TheVariants.{Key, UndeclareKey, Sub, Undeclare, Put, NetKeyExpr, NetUndeclareKeyExpr, NetPut, Close}
-use Rattle.zs_wire.specs.declared.wire_expr.Mapping.TheVariants.{Sender, Receiver}
-use Rattle.zs_core.specs.declared.event.EntityKind.TheVariants.{Sub as sub_kind}
-use Rattle.zs_core.specs.declared.turn.Answer.TheVariants.{Ok as accepted, Refused}
-use Rattle.zs_core.specs.declared.turn.Effect.TheVariants.{Hand, End}
-use Rattle.zs_core.specs.declared.turn.HandOver.TheVariants.{Sample}
-use Rattle.zs_core.specs.declared.turn.Kind.TheVariants.{Subscriber}
-use Rattle.zs_core.specs.declared.turn.Refusal.TheVariants.{NotFound}
+use Rattle.zs_events.specs.declared.event.BackgroundKind.TheVariants.{Sub as background_sub}
+use Rattle.zs_events.specs.declared.event.EntityKind.TheVariants.{Sub as sub_kind, Pub as pub_kind}
+use Rattle.zs_events.specs.declared.event.Event.TheVariants.{Key, UndeclareKey, Sub, Pub, Undeclare, Background, Put, Delete, PublisherPut, PublisherDelete, Close, Net}
+use Rattle.zs_events.specs.declared.event.KeyArg.TheVariants.{Text, Number}
+use Rattle.zs_events.specs.declared.turn.Answer.TheVariants.{Ok as accepted, Refused}
+use Rattle.zs_events.specs.declared.turn.Effect.TheVariants.{Hand, End}
+use Rattle.zs_events.specs.declared.turn.HandOver.TheVariants.{Sample}
+use Rattle.zs_events.specs.declared.turn.Kind.TheVariants.{Subscriber}
+use Rattle.zs_events.specs.declared.turn.Refusal.TheVariants.{NotFound}
 use Rattle.zs_script.specs.Lines.{lines, fields}
-use Rattle.zs_script.specs.Grammar.{event_of}
-use Rattle.zs_script.specs.Printing.{turn_text}
+use Rattle.zs_script.specs.Parts.{selector, target, timeout, value, responder, read, form}
+use Rattle.zs_script.specs.Grammar.{undeclare_of, background_of, push_of, net_of, event_of}
+use Rattle.zs_script.specs.Pieces.{written}
+use Rattle.zs_script.specs.Printing.{hand_pieces, turn_text}
+use Rattle.zs_script.specs.Words.{hex_digits}
 
 -- bytes cut at line feeds, with and without one at the end
 two_lines : lines (codes "ab" ++ 10 ∷ codes "c") ≡ codes "ab" ∷ codes "c" ∷ []
@@ -34,120 +40,215 @@ three_fields = refl
 
 -- lines and their events
 a_sub : event_of (codes "sub" ++ 9 ∷ codes "any" ++ 9 ∷ codes "test/k") ≡ Some (Sub Any (Text (codes "test/k")))
-unfolding event_of chars is_utf8 hex_on_literals lib.Utf8.encode
+unfolding event_of undeclare_of background_of net_of push_of form read chars is_utf8 hex_on_literals lib.Utf8.encode
 a_sub = refl
 
 a_local_sub : event_of (codes "sub" ++ 9 ∷ codes "local" ++ 9 ∷ codes "") ≡ Some (Sub SessionLocal (Text []))
-unfolding event_of chars is_utf8 hex_on_literals lib.Utf8.encode
+unfolding event_of undeclare_of background_of net_of push_of form read chars is_utf8 hex_on_literals lib.Utf8.encode
 a_local_sub = refl
 
-a_put : event_of (codes "put" ++ 9 ∷ codes "any" ++ 9 ∷ codes "test/k" ++ 9 ∷ codes "x7a656e6f68") ≡ Some (Put Any (Text (codes "test/k")) (codes "zenoh" ∷ []) (codes "zenoh/bytes") (record { priority = 5; congestion = Drop; express = false }) true)
-unfolding event_of chars is_utf8 hex_on_literals lib.Utf8.encode
+a_put : event_of (codes "put" ++ 9 ∷ codes "any" ++ 9 ∷ codes "test/k" ++ 9 ∷ codes "x7a656e6f68") ≡ Some (Put Any (Text (codes "test/k")) (codes "zenoh" ∷ []) (codes "zenoh/bytes") None (record { priority = 5; congestion = Drop; express = false }) true None None)
+unfolding event_of undeclare_of background_of net_of push_of form read chars is_utf8 hex_on_literals lib.Utf8.encode
 a_put = refl
 
-an_empty_put : event_of (codes "put" ++ 9 ∷ codes "remote" ++ 9 ∷ codes "k" ++ 9 ∷ codes "x") ≡ Some (Put Remote (Text (codes "k")) [] (codes "zenoh/bytes") (record { priority = 5; congestion = Drop; express = false }) true)
-unfolding event_of chars is_utf8 hex_on_literals lib.Utf8.encode
+an_empty_put : event_of (codes "put" ++ 9 ∷ codes "remote" ++ 9 ∷ codes "k" ++ 9 ∷ codes "x") ≡ Some (Put Remote (Text (codes "k")) [] (codes "zenoh/bytes") None (record { priority = 5; congestion = Drop; express = false }) true None None)
+unfolding event_of undeclare_of background_of net_of push_of form read chars is_utf8 hex_on_literals lib.Utf8.encode
 an_empty_put = refl
 
-upper_digits : event_of (codes "put" ++ 9 ∷ codes "any" ++ 9 ∷ codes "k" ++ 9 ∷ codes "xA0Ff") ≡ Some (Put Any (Text (codes "k")) ((160 ∷ 255 ∷ []) ∷ []) (codes "zenoh/bytes") (record { priority = 5; congestion = Drop; express = false }) true)
-unfolding event_of chars is_utf8 hex_on_literals lib.Utf8.encode
+upper_digits : event_of (codes "put" ++ 9 ∷ codes "any" ++ 9 ∷ codes "k" ++ 9 ∷ codes "xA0Ff") ≡ Some (Put Any (Text (codes "k")) ((160 ∷ 255 ∷ []) ∷ []) (codes "zenoh/bytes") None (record { priority = 5; congestion = Drop; express = false }) true None None)
+unfolding event_of undeclare_of background_of net_of push_of form read chars is_utf8 hex_on_literals lib.Utf8.encode
 upper_digits = refl
 
+all_options : event_of (codes "put" ++ 9 ∷ codes "any" ++ 9 ∷ codes "k" ++ 9 ∷ codes "x01" ++ 9 ∷ codes "enc=text/plain" ++ 9 ∷ codes "ts=5:a" ++ 9 ∷ codes "prio=1" ++ 9 ∷ codes "cc=block" ++ 9 ∷ codes "express=1" ++ 9 ∷ codes "rel=0" ++ 9 ∷ codes "src=7:3:9" ++ 9 ∷ codes "att=xff") ≡ Some (Put Any (Text (codes "k")) ((1 ∷ []) ∷ []) (codes "text/plain") (Some (record { time = 5; id = 10 })) (record { priority = 1; congestion = Block; express = true }) false (Some (record { source_id = record { zid = 7; eid = 3 }; source_sn = 9 })) (Some ((255 ∷ []) ∷ [])))
+unfolding event_of undeclare_of background_of net_of push_of form read chars is_utf8 hex_on_literals lib.Utf8.encode
+all_options = refl
+
+empty_encoding : event_of (codes "put" ++ 9 ∷ codes "any" ++ 9 ∷ codes "k" ++ 9 ∷ codes "x" ++ 9 ∷ codes "enc=") ≡ Some (Put Any (Text (codes "k")) [] (codes "zenoh/bytes") None (record { priority = 5; congestion = Drop; express = false }) true None None)
+unfolding event_of undeclare_of background_of net_of push_of form read chars is_utf8 hex_on_literals lib.Utf8.encode
+empty_encoding = refl
+
+control_priority : event_of (codes "put" ++ 9 ∷ codes "any" ++ 9 ∷ codes "k" ++ 9 ∷ codes "x" ++ 9 ∷ codes "prio=0") ≡ None
+unfolding event_of undeclare_of background_of net_of push_of form read chars is_utf8 hex_on_literals lib.Utf8.encode
+control_priority = refl
+
+other_order : event_of (codes "put" ++ 9 ∷ codes "any" ++ 9 ∷ codes "k" ++ 9 ∷ codes "x" ++ 9 ∷ codes "cc=drop" ++ 9 ∷ codes "prio=1") ≡ None
+unfolding event_of undeclare_of background_of net_of push_of form read chars is_utf8 hex_on_literals lib.Utf8.encode
+other_order = refl
+
+option_twice : event_of (codes "put" ++ 9 ∷ codes "any" ++ 9 ∷ codes "k" ++ 9 ∷ codes "x" ++ 9 ∷ codes "rel=1" ++ 9 ∷ codes "rel=1") ≡ None
+unfolding event_of undeclare_of background_of net_of push_of form read chars is_utf8 hex_on_literals lib.Utf8.encode
+option_twice = refl
+
+bad_flag : event_of (codes "put" ++ 9 ∷ codes "any" ++ 9 ∷ codes "k" ++ 9 ∷ codes "x" ++ 9 ∷ codes "express=2") ≡ None
+unfolding event_of undeclare_of background_of net_of push_of form read chars is_utf8 hex_on_literals lib.Utf8.encode
+bad_flag = refl
+
+bad_source : event_of (codes "put" ++ 9 ∷ codes "any" ++ 9 ∷ codes "k" ++ 9 ∷ codes "x" ++ 9 ∷ codes "src=7:3") ≡ None
+unfolding event_of undeclare_of background_of net_of push_of form read chars is_utf8 hex_on_literals lib.Utf8.encode
+bad_source = refl
+
+a_delete : event_of (codes "delete" ++ 9 ∷ codes "local" ++ 9 ∷ codes "#1" ++ 9 ∷ codes "ts=0:0") ≡ Some (Delete SessionLocal (Number 1 []) (Some (record { time = 0; id = 0 })) (record { priority = 5; congestion = Drop; express = false }) true None None)
+unfolding event_of undeclare_of background_of net_of push_of form read chars is_utf8 hex_on_literals lib.Utf8.encode
+a_delete = refl
+
+no_encoding_of_a_delete : event_of (codes "delete" ++ 9 ∷ codes "any" ++ 9 ∷ codes "k" ++ 9 ∷ codes "enc=a") ≡ None
+unfolding event_of undeclare_of background_of net_of push_of form read chars is_utf8 hex_on_literals lib.Utf8.encode
+no_encoding_of_a_delete = refl
+
+a_pub : event_of (codes "pub" ++ 9 ∷ codes "remote" ++ 9 ∷ codes "k" ++ 9 ∷ codes "enc=a" ++ 9 ∷ codes "prio=7" ++ 9 ∷ codes "rel=0") ≡ Some (Pub Remote (Text (codes "k")) (codes "a") (record { priority = 7; congestion = Drop; express = false }) false)
+unfolding event_of undeclare_of background_of net_of push_of form read chars is_utf8 hex_on_literals lib.Utf8.encode
+a_pub = refl
+
+a_publisher_put : event_of (codes "pput" ++ 9 ∷ codes "2" ++ 9 ∷ codes "x01") ≡ Some (PublisherPut 2 ((1 ∷ []) ∷ []) None None None None)
+unfolding event_of undeclare_of background_of net_of push_of form read chars is_utf8 hex_on_literals lib.Utf8.encode
+a_publisher_put = refl
+
+a_default_named : event_of (codes "pput" ++ 9 ∷ codes "2" ++ 9 ∷ codes "x" ++ 9 ∷ codes "enc=") ≡ Some (PublisherPut 2 [] (Some (codes "zenoh/bytes")) None None None)
+unfolding event_of undeclare_of background_of net_of push_of form read chars is_utf8 hex_on_literals lib.Utf8.encode
+a_default_named = refl
+
+a_publisher_delete : event_of (codes "pdel" ++ 9 ∷ codes "2" ++ 9 ∷ codes "att=x") ≡ Some (PublisherDelete 2 None None (Some []))
+unfolding event_of undeclare_of background_of net_of push_of form read chars is_utf8 hex_on_literals lib.Utf8.encode
+a_publisher_delete = refl
+
 an_undeclare : event_of (codes "undeclare" ++ 9 ∷ codes "sub" ++ 9 ∷ codes "2") ≡ Some (Undeclare sub_kind 2)
-unfolding event_of chars is_utf8 hex_on_literals lib.Utf8.encode
+unfolding event_of undeclare_of background_of net_of push_of form read chars is_utf8 hex_on_literals lib.Utf8.encode
 an_undeclare = refl
 
-the_last_number : event_of (codes "undeclare" ++ 9 ∷ codes "sub" ++ 9 ∷ codes "4294967295") ≡ Some (Undeclare sub_kind 4294967295)
-unfolding event_of chars is_utf8 hex_on_literals lib.Utf8.encode
-the_last_number = refl
-
-a_push : event_of (codes "net" ++ 9 ∷ codes "push" ++ 9 ∷ codes "s0:k" ++ 9 ∷ codes "put" ++ 9 ∷ codes "x01") ≡ Some (NetPut (record { scope = 0; suffix = codes "k"; mapping = Sender }) ((1 ∷ []) ∷ []) (codes "zenoh/bytes") (record { priority = 5; congestion = Drop; express = false }) true)
-unfolding event_of chars is_utf8 hex_on_literals lib.Utf8.encode
-a_push = refl
-
-a_told_number : event_of (codes "net" ++ 9 ∷ codes "keyexpr" ++ 9 ∷ codes "7" ++ 9 ∷ codes "r1:/b") ≡ Some (NetKeyExpr 7 (record { scope = 1; suffix = codes "/b"; mapping = Receiver }))
-unfolding event_of chars is_utf8 hex_on_literals lib.Utf8.encode
-a_told_number = refl
-
-a_number_given_up : event_of (codes "net" ++ 9 ∷ codes "unkeyexpr" ++ 9 ∷ codes "7") ≡ Some (NetUndeclareKeyExpr 7)
-unfolding event_of chars is_utf8 hex_on_literals lib.Utf8.encode
-a_number_given_up = refl
-
-no_colon : event_of (codes "net" ++ 9 ∷ codes "keyexpr" ++ 9 ∷ codes "7" ++ 9 ∷ codes "s0") ≡ None
-unfolding event_of chars is_utf8 hex_on_literals lib.Utf8.encode
-no_colon = refl
+a_pub_undeclared : event_of (codes "undeclare" ++ 9 ∷ codes "pub" ++ 9 ∷ codes "4294967295") ≡ Some (Undeclare pub_kind 4294967295)
+unfolding event_of undeclare_of background_of net_of push_of form read chars is_utf8 hex_on_literals lib.Utf8.encode
+a_pub_undeclared = refl
 
 too_great : event_of (codes "undeclare" ++ 9 ∷ codes "sub" ++ 9 ∷ codes "4294967296") ≡ None
-unfolding event_of chars is_utf8 hex_on_literals lib.Utf8.encode
+unfolding event_of undeclare_of background_of net_of push_of form read chars is_utf8 hex_on_literals lib.Utf8.encode
 too_great = refl
 
 leading_zero : event_of (codes "undeclare" ++ 9 ∷ codes "sub" ++ 9 ∷ codes "02") ≡ None
-unfolding event_of chars is_utf8 hex_on_literals lib.Utf8.encode
+unfolding event_of undeclare_of background_of net_of push_of form read chars is_utf8 hex_on_literals lib.Utf8.encode
 leading_zero = refl
 
+a_background : event_of (codes "background" ++ 9 ∷ codes "sub" ++ 9 ∷ codes "2") ≡ Some (Background background_sub 2)
+unfolding event_of undeclare_of background_of net_of push_of form read chars is_utf8 hex_on_literals lib.Utf8.encode
+a_background = refl
+
+no_background : event_of (codes "background" ++ 9 ∷ codes "pub" ++ 9 ∷ codes "2") ≡ None
+unfolding event_of undeclare_of background_of net_of push_of form read chars is_utf8 hex_on_literals lib.Utf8.encode
+no_background = refl
+
+a_push : event_of (codes "net" ++ 9 ∷ codes "push" ++ 9 ∷ codes "s0:k" ++ 9 ∷ codes "put" ++ 9 ∷ codes "x01" ++ 9 ∷ codes "prio=0") ≡ Some (Net (Push (record {
+  wire = record { scope = 0; suffix = codes "k"; mapping = Sender };
+  body = record { kind = put_kind; payload = (1 ∷ []) ∷ []; encoding = codes "zenoh/bytes"; timestamp = None; source = None; attachment = None };
+  qos = record { priority = 0; congestion = Drop; express = false };
+  reliable = true;
+})))
+unfolding event_of undeclare_of background_of net_of push_of form read chars is_utf8 hex_on_literals lib.Utf8.encode
+a_push = refl
+
+a_push_of_nothing : event_of (codes "net" ++ 9 ∷ codes "push" ++ 9 ∷ codes "r1:" ++ 9 ∷ codes "del" ++ 9 ∷ codes "rel=0") ≡ Some (Net (Push (record {
+  wire = record { scope = 1; suffix = []; mapping = Receiver };
+  body = record { kind = delete_kind; payload = []; encoding = codes "zenoh/bytes"; timestamp = None; source = None; attachment = None };
+  qos = record { priority = 5; congestion = Drop; express = false };
+  reliable = false;
+})))
+unfolding event_of undeclare_of background_of net_of push_of form read chars is_utf8 hex_on_literals lib.Utf8.encode
+a_push_of_nothing = refl
+
+a_told_number : event_of (codes "net" ++ 9 ∷ codes "keyexpr" ++ 9 ∷ codes "7" ++ 9 ∷ codes "r1:/b") ≡ Some (Net (DeclareKeyExpr 7 (record { scope = 1; suffix = codes "/b"; mapping = Receiver })))
+unfolding event_of undeclare_of background_of net_of push_of form read chars is_utf8 hex_on_literals lib.Utf8.encode
+a_told_number = refl
+
+a_number_given_up : event_of (codes "net" ++ 9 ∷ codes "unkeyexpr" ++ 9 ∷ codes "7") ≡ Some (Net (UndeclareKeyExpr 7))
+unfolding event_of undeclare_of background_of net_of push_of form read chars is_utf8 hex_on_literals lib.Utf8.encode
+a_number_given_up = refl
+
+a_net_close : event_of (codes "net" ++ 9 ∷ codes "close") ≡ Some (Net close_message)
+unfolding event_of undeclare_of background_of net_of push_of form read chars is_utf8 hex_on_literals lib.Utf8.encode
+a_net_close = refl
+
+no_colon : event_of (codes "net" ++ 9 ∷ codes "keyexpr" ++ 9 ∷ codes "7" ++ 9 ∷ codes "s0") ≡ None
+unfolding event_of undeclare_of background_of net_of push_of form read chars is_utf8 hex_on_literals lib.Utf8.encode
+no_colon = refl
+
 numbered : event_of (codes "sub" ++ 9 ∷ codes "any" ++ 9 ∷ codes "#1") ≡ Some (Sub Any (Number 1 []))
-unfolding event_of chars is_utf8 hex_on_literals lib.Utf8.encode
+unfolding event_of undeclare_of background_of net_of push_of form read chars is_utf8 hex_on_literals lib.Utf8.encode
 numbered = refl
 
 numbered_suffix : event_of (codes "sub" ++ 9 ∷ codes "any" ++ 9 ∷ codes "#1:x") ≡ Some (Sub Any (Number 1 (codes "x")))
-unfolding event_of chars is_utf8 hex_on_literals lib.Utf8.encode
+unfolding event_of undeclare_of background_of net_of push_of form read chars is_utf8 hex_on_literals lib.Utf8.encode
 numbered_suffix = refl
 
 numbered_colon : event_of (codes "sub" ++ 9 ∷ codes "any" ++ 9 ∷ codes "#1:") ≡ Some (Sub Any (Number 1 []))
-unfolding event_of chars is_utf8 hex_on_literals lib.Utf8.encode
+unfolding event_of undeclare_of background_of net_of push_of form read chars is_utf8 hex_on_literals lib.Utf8.encode
 numbered_colon = refl
 
 no_number : event_of (codes "sub" ++ 9 ∷ codes "any" ++ 9 ∷ codes "#x") ≡ Some (Sub Any (Text (codes "#x")))
-unfolding event_of chars is_utf8 hex_on_literals lib.Utf8.encode
+unfolding event_of undeclare_of background_of net_of push_of form read chars is_utf8 hex_on_literals lib.Utf8.encode
 no_number = refl
 
 number_too_great : event_of (codes "sub" ++ 9 ∷ codes "any" ++ 9 ∷ codes "#65536") ≡ Some (Sub Any (Text (codes "#65536")))
-unfolding event_of chars is_utf8 hex_on_literals lib.Utf8.encode
+unfolding event_of undeclare_of background_of net_of push_of form read chars is_utf8 hex_on_literals lib.Utf8.encode
 number_too_great = refl
 
 number_zero : event_of (codes "sub" ++ 9 ∷ codes "any" ++ 9 ∷ codes "#01") ≡ Some (Sub Any (Text (codes "#01")))
-unfolding event_of chars is_utf8 hex_on_literals lib.Utf8.encode
+unfolding event_of undeclare_of background_of net_of push_of form read chars is_utf8 hex_on_literals lib.Utf8.encode
 number_zero = refl
 
 a_key : event_of (codes "key" ++ 9 ∷ codes "#65535:/b:c") ≡ Some (Key (Number 65535 (codes "/b:c")))
-unfolding event_of chars is_utf8 hex_on_literals lib.Utf8.encode
+unfolding event_of undeclare_of background_of net_of push_of form read chars is_utf8 hex_on_literals lib.Utf8.encode
 a_key = refl
 
 a_key_given_back : event_of (codes "undeclare" ++ 9 ∷ codes "key" ++ 9 ∷ codes "k") ≡ Some (UndeclareKey (Text (codes "k")))
-unfolding event_of chars is_utf8 hex_on_literals lib.Utf8.encode
+unfolding event_of undeclare_of background_of net_of push_of form read chars is_utf8 hex_on_literals lib.Utf8.encode
 a_key_given_back = refl
 
 a_close : event_of (codes "close") ≡ Some Close
-unfolding event_of chars is_utf8 hex_on_literals lib.Utf8.encode
+unfolding event_of undeclare_of background_of net_of push_of form read chars is_utf8 hex_on_literals lib.Utf8.encode
 a_close = refl
 
-no_close : event_of (codes "close" ++ 9 ∷ []) ≡ None
-unfolding event_of chars is_utf8 hex_on_literals lib.Utf8.encode
-no_close = refl
-
 odd_digits : event_of (codes "put" ++ 9 ∷ codes "any" ++ 9 ∷ codes "k" ++ 9 ∷ codes "x1") ≡ None
-unfolding event_of chars is_utf8 hex_on_literals lib.Utf8.encode
+unfolding event_of undeclare_of background_of net_of push_of form read chars is_utf8 hex_on_literals lib.Utf8.encode
 odd_digits = refl
 
 no_place : event_of (codes "sub" ++ 9 ∷ codes "all" ++ 9 ∷ codes "k") ≡ None
-unfolding event_of chars is_utf8 hex_on_literals lib.Utf8.encode
+unfolding event_of undeclare_of background_of net_of push_of form read chars is_utf8 hex_on_literals lib.Utf8.encode
 no_place = refl
 
-one_field_more : event_of (codes "sub" ++ 9 ∷ codes "any" ++ 9 ∷ codes "k" ++ 9 ∷ codes "") ≡ None
-unfolding event_of chars is_utf8 hex_on_literals lib.Utf8.encode
+no_close : event_of (codes "close" ++ 9 ∷ []) ≡ None
+unfolding event_of undeclare_of background_of net_of push_of form read chars is_utf8 hex_on_literals lib.Utf8.encode
+no_close = refl
+
+one_field_more : event_of (codes "sub" ++ 9 ∷ codes "any" ++ 9 ∷ codes "k" ++ 9 ∷ []) ≡ None
+unfolding event_of undeclare_of background_of net_of push_of form read chars is_utf8 hex_on_literals lib.Utf8.encode
 one_field_more = refl
 
-other_scope : event_of (codes "net" ++ 9 ∷ codes "push" ++ 9 ∷ codes "s1:k" ++ 9 ∷ codes "put" ++ 9 ∷ codes "x") ≡ Some (NetPut (record { scope = 1; suffix = codes "k"; mapping = Sender }) ([]) (codes "zenoh/bytes") (record { priority = 5; congestion = Drop; express = false }) true)
-unfolding event_of chars is_utf8 hex_on_literals lib.Utf8.encode
-other_scope = refl
-
-other_mapping : event_of (codes "net" ++ 9 ∷ codes "push" ++ 9 ∷ codes "r0:k" ++ 9 ∷ codes "put" ++ 9 ∷ codes "x") ≡ Some (NetPut (record { scope = 0; suffix = codes "k"; mapping = Receiver }) ([]) (codes "zenoh/bytes") (record { priority = 5; congestion = Drop; express = false }) true)
-unfolding event_of chars is_utf8 hex_on_literals lib.Utf8.encode
-other_mapping = refl
-
-empty_line : event_of (codes "") ≡ None
-unfolding event_of chars is_utf8 hex_on_literals lib.Utf8.encode
+empty_line : event_of [] ≡ None
+unfolding event_of undeclare_of background_of net_of push_of form read chars is_utf8 hex_on_literals lib.Utf8.encode
 empty_line = refl
+
+-- parts that no form has yet
+a_selector : read selector (codes "#1:b?x?y" ∷ []) ≡ Some ((Number 1 (codes "b"), codes "x?y"), [])
+unfolding read chars lib.Utf8.encode
+a_selector = refl
+
+a_target : read target (codes "target=all" ∷ []) ≡ Some (All, [])
+unfolding read
+a_target = refl
+
+a_timeout : read timeout (codes "timeout=7" ∷ []) ≡ Some (Some 7, [])
+unfolding read
+a_timeout = refl
+
+a_value : read value (codes "enc=" ∷ codes "att=x" ∷ []) ≡ Some (Some (record { payload = []; encoding = codes "zenoh/bytes" }), codes "att=x" ∷ [])
+unfolding read chars lib.Utf8.encode
+a_value = refl
+
+no_value : read value (codes "att=x" ∷ []) ≡ Some (None, codes "att=x" ∷ [])
+unfolding read
+no_value = refl
+
+a_responder : read responder (codes "by=f:2" ∷ []) ≡ Some (Some (record { zid = 15; eid = 2 }), [])
+unfolding read
+a_responder = refl
 
 -- a turn that hands a sample
 a_hand : turn_text 2 (record {
@@ -157,7 +258,7 @@ a_hand : turn_text 2 (record {
     payload = codes "zenoh" ∷ [];
     kind = put_kind;
     encoding = codes "zenoh/bytes";
-    timestamp = None;
+    timestamp = Some (record { time = 5; id = 171 });
     express = false;
     priority = Data;
     congestion_control = Drop;
@@ -167,9 +268,9 @@ a_hand : turn_text 2 (record {
   })) ∷ End Subscriber 2 ∷ [];
 })
     ≡ codes "2" ++ 9 ∷ codes "ok" ++ 10 ∷ codes "2" ++ 9 ∷ codes "hand" ++ 9 ∷ codes "sub" ++ 9 ∷ codes "2" ++ 9 ∷ codes "put"
-    ++ 9 ∷ codes "test/k" ++ 9 ∷ codes "x7a656e6f68" ++ 9 ∷ codes "enc=zenoh/bytes" ++ 9 ∷ codes "prio=5" ++ 9 ∷ codes "cc=drop"
+    ++ 9 ∷ codes "test/k" ++ 9 ∷ codes "x7a656e6f68" ++ 9 ∷ codes "enc=zenoh/bytes" ++ 9 ∷ codes "ts=5:ab" ++ 9 ∷ codes "prio=5" ++ 9 ∷ codes "cc=drop"
     ++ 9 ∷ codes "express=0" ++ 9 ∷ codes "rel=1" ++ 10 ∷ codes "2" ++ 9 ∷ codes "end" ++ 9 ∷ codes "sub" ++ 9 ∷ codes "2" ++ 10 ∷ []
-unfolding hex_on_literals lib.Utf8.encode digits
+unfolding hand_pieces written hex_digits lib.Utf8.encode digits
 a_hand = refl
 
 a_refusal : turn_text 12 (record { answer = Refused NotFound; effects = [] })

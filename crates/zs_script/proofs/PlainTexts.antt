@@ -1,11 +1,12 @@
 -- Which printed texts are plain, and how lines and fields of plain texts are found.
-use Rattle.std.proofs.Common.{ℕ, zero, suc, ◌≡◌, ◌+◌, ◌/◌, ◌%◌, ◌<◌, ◌==◌, Bool, true, false, not, ◌&&◌, nat_lt, List, [], ◌∷◌, ◌++◌, get_or, refl, sym, ap, ◌∙◌, arith, cond, decimal, append_assoc}
+use Rattle.std.proofs.Common.{ℕ, zero, suc, ◌≡◌, ◌+◌, ◌/◌, ◌%◌, ◌<◌, ◌==◌, Bool, true, false, not, ◌&&◌, nat_lt, List, [], ◌∷◌, ◌++◌, flat_map, refl, sym, ap, ◌∙◌, arith, cond, decimal, append_assoc}
 use Rattle.std.specs.Fmt.{digits, digits_onto, digit_glyph}
 use Rattle.std.specs.List.{list_all, onto_first}
 use Rattle.std.proofs.lemmas.Bool.{and_parts, and_from, ne_eqb, not_from_false, not-true}
 use Rattle.std.proofs.lemmas.List.Folds.{list_all-append}
-use Rattle.hex.specs.Hex.{encode_with, encode_lower, lower_digits}
+use Rattle.zs_bytes.specs.Payload.{bytes_of}
 use Rattle.zs_script.specs.Lines.{lines, onto_line, fields}
+use Rattle.zs_script.specs.Words.{hex_digit, hex_digits, hex_text, byte_digits, bytes_text}
 use Rattle.zs_script.specs.Printing.{tabbed}
 use Rattle.zs_script.specs.Plain.{has_no_line_feed, is_plain}
 use Rattle.zs_script.specs.Laws.{row, LinesHaveNoLineFeed, FieldsArePlain, LinesAreFound, FieldsAreFound}
@@ -39,16 +40,30 @@ unfolding digits
 decimal-plain n = digits-plain 64 n [] refl
 
 -- hexadecimal digits
-get-plain : (table : List ℕ) (k : ℕ) → is_plain table ≡ true → plain_byte (get_or table k 0) ≡ true
-get-plain [] k h = refl
-get-plain (b ∷ bs) zero h = (and_parts _ _ h).0
-get-plain (b ∷ bs) (suc k) h = get-plain bs k (and_parts (plain_byte b) (is_plain bs) h).1
+hex-digit-plain : (d : ℕ) → plain_byte (hex_digit d) ≡ true
+hex-digit-plain d =
+    elim (nat_lt d 10) as (λ t. plain_byte (cond t (48 + d) (87 + d)) ≡ true)
+    [ true ↦ above-plain (48 + d) (omega arith) | false ↦ above-plain (87 + d) (omega arith) ]
 
-pub hex-plain : (bytes : List ℕ) → is_plain (encode_lower bytes) ≡ true
-unfolding encode_with
-hex-plain [] = refl
-hex-plain (b ∷ bs) =
-    and_from _ _ (get-plain lower_digits (b / 16) refl) (and_from _ _ (get-plain lower_digits (b % 16) refl) (hex-plain bs))
+hex-digits-plain : (places n : ℕ) → is_plain (hex_digits places n) ≡ true
+unfolding hex_digits
+hex-digits-plain zero n = refl
+hex-digits-plain (suc places) n =
+    plain-append (cond (nat_lt n 16) [] (hex_digits places (n / 16))) (hex_digit (n % 16) ∷ [])
+    (elim (nat_lt n 16) as (λ t. is_plain (cond t [] (hex_digits places (n / 16))) ≡ true)
+    [ true ↦ refl | false ↦ hex-digits-plain places (n / 16) ])
+    (and_from _ _ (hex-digit-plain (n % 16)) refl)
+
+pub hex-plain : (n : ℕ) → is_plain (hex_text n) ≡ true
+hex-plain n = hex-digits-plain 32 n
+
+digit-bytes-plain : (bytes : List ℕ) → is_plain (flat_map byte_digits bytes) ≡ true
+digit-bytes-plain [] = refl
+digit-bytes-plain (b ∷ bs) =
+    and_from _ _ (hex-digit-plain (b / 16)) (and_from _ _ (hex-digit-plain (b % 16)) (digit-bytes-plain bs))
+
+pub bytes-plain : (payload : List (List ℕ)) → is_plain (bytes_text payload) ≡ true
+bytes-plain payload = digit-bytes-plain (bytes_of payload)
 
 -- lines
 onto-no-feed : (b : ℕ) (ls : List (List ℕ)) → not (b == 10) ≡ true → list_all has_no_line_feed ls ≡ true

@@ -1,16 +1,11 @@
 -- What the calls of std that read a field say in the words of the symbols.
-use Rattle.std.proofs.Common.{ℕ, ◌≡◌, ◌≢◌, ◌==◌, true, false, List, [], ◌∷◌, ◌++◌, Option, Some, None, drop, refl, sym, ap, ◌∙◌, arith, cond, option_map, codes, Bor}
+use Rattle.std.proofs.Common.{ℕ, ◌≡◌, ◌≢◌, ◌==◌, true, false, List, [], ◌∷◌, ◌++◌, Option, Some, None, drop, refl, sym, ap, ◌∙◌, arith, cond, option_map, Bor}
 use Rattle.std.specs.Option.{MatchOption}
-use Rattle.std.specs.Str.{chars, is_utf8, IsUtf8}
+use Rattle.std.specs.Str.{is_utf8, IsUtf8}
 use Rattle.std.specs.Str.Pattern.{FindsTextPrefix, StripsPrefix}
 use Rattle.std.proofs.lemmas.Str.{IsUtf8-from_is_utf8, is_utf8-from_IsUtf8}
 use Rattle.std.proofs.lemmas.Bool.Decides.{nat_tests}
 use Rattle.zs_script.specs.Symbols.{after_prefix}
-
--- the default encoding's own characters
-pub default_chars : chars (codes "zenoh/bytes") ≡ codes "zenoh/bytes"
-unfolding chars
-default_chars = refl
 
 after-front : (front rest : List ℕ) → after_prefix front (front ++ rest) ≡ Some rest
 after-front [] rest = refl

@@ -1,10 +1,10 @@
 -- The laws by which the lines and fields of a printed text are found again.
 use Rattle.std.specs.Prelude.{ℕ, ◌≡◌, true, List, [], ◌∷◌, ◌++◌, Some, decimal, map}
 use Rattle.std.specs.List.{list_all}
-use Rattle.zs_core.specs.declared.event.Event.{Event}
-use Rattle.zs_core.specs.declared.turn.Answer.{Answer}
-use Rattle.zs_core.specs.declared.turn.Effect.{Effect}
-use Rattle.zs_core.specs.declared.turn.Turn.{Turn}
+use Rattle.zs_events.specs.declared.event.Event.{Event}
+use Rattle.zs_events.specs.declared.turn.Answer.{Answer}
+use Rattle.zs_events.specs.declared.turn.Effect.{Effect}
+use Rattle.zs_events.specs.declared.turn.Turn.{Turn}
 use Rattle.zs_script.specs.Lines.{lines, fields}
 use Rattle.zs_script.specs.Grammar.{event_of}
 use Rattle.zs_script.specs.Printing.{line, answer_fields, effect_fields, turn_text}

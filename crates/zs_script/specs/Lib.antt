@@ -1,7 +1,12 @@
 pub mod Lines
 pub mod Fields
+pub mod Hexadecimal
 pub mod Symbols
+pub mod Options
+pub mod Parts
 pub mod Grammar
+pub mod Words
+pub mod Pieces
 pub mod Printing
 pub mod Reading
 pub mod Writing

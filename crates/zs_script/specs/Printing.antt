@@ -1,26 +1,31 @@
 -- The printed text of a turn.
-use Rattle.std.specs.Prelude.{ℕ, Bool, true, false, List, [], ◌∷◌, ◌++◌, Some, None, codes, decimal, encode_utf8_all}
+use Rattle.std.specs.Prelude.{ℕ, ◌==◌, ◌&&◌, Bool, List, [], ◌∷◌, ◌++◌, Option, Some, None, codes, decimal, if◌then◌else◌}
 use Rattle.std.specs.List.{flat_map}
-use Rattle.hex.specs.Hex.{encode_lower}
-use Rattle.zs_bytes.specs.Payload.{bytes_of}
-use Rattle.zs_sample.specs.Quality.{number_of}
-use Rattle.zs_wire.specs.declared.quality.CongestionControl.{CongestionControl}
-use Rattle.zs_wire.specs.declared.quality.CongestionControl.TheVariants.{Drop, Block}
-use Rattle.zs_sample.specs.declared.quality.Reliability.{Reliability}
-use Rattle.zs_sample.specs.declared.quality.Reliability.TheVariants.{BestEffort, Reliable}
-use Rattle.zs_sample.specs.declared.sample_fields.SampleFields.{SampleFields}
+use Rattle.zs_wire.specs.declared.body.Body.{Body}
+use Rattle.zs_wire.specs.declared.body.Value.{Value}
+use Rattle.zs_wire.specs.declared.message.Message.{Message}
+use Rattle.zs_wire.specs.declared.message.Message.TheVariants.{DeclareKeyExpr, UndeclareKeyExpr, DeclareSubscriber, UndeclareSubscriber, DeclareQueryable, UndeclareQueryable, DeclareToken, UndeclareToken, DeclareFinal, Interest, Push as push_message, Request as request_message, Response as response_message, ResponseFinal, Close}
+use Rattle.zs_wire.specs.declared.push.Push.{Push}
+use Rattle.zs_wire.specs.declared.quality.QoSType.{QoSType}
+use Rattle.zs_wire.specs.declared.request.Request.{Request}
+use Rattle.zs_wire.specs.declared.response.Answered.{Answered}
+use Rattle.zs_wire.specs.declared.response.Answered.TheVariants.{Reply, Err as error_reply}
+use Rattle.zs_wire.specs.declared.response.Response.{Response}
 use Rattle.zs_wire.specs.declared.sample_kind.SampleKind.{SampleKind}
 use Rattle.zs_wire.specs.declared.sample_kind.SampleKind.TheVariants.{Put, Delete}
-use Rattle.zs_core.specs.declared.turn.Answer.{Answer}
-use Rattle.zs_core.specs.declared.turn.Answer.TheVariants.{Ok as accepted, Refused}
-use Rattle.zs_core.specs.declared.turn.Effect.{Effect}
-use Rattle.zs_core.specs.declared.turn.Effect.TheVariants.{Hand, End}
-use Rattle.zs_core.specs.declared.turn.HandOver.TheVariants.{Sample}
-use Rattle.zs_core.specs.declared.turn.Kind.{Kind}
-use Rattle.zs_core.specs.declared.turn.Kind.TheVariants.{Subscriber, LivelinessSubscriber, Publisher, Queryable, Querier, Token, Listener, Get, LivelinessGet}
-use Rattle.zs_core.specs.declared.turn.Refusal.{Refusal}
-use Rattle.zs_core.specs.declared.turn.Refusal.TheVariants.{SessionClosedError, NotFound, UnknownScope, BadKeyExpr, QueryCancelled, ReplyDisjoint, NotDeclared, IdsExhausted, Ignored}
-use Rattle.zs_core.specs.declared.turn.Turn.{Turn}
+use Rattle.zs_wire.specs.declared.wire_expr.WireExpr.{WireExpr}
+use Rattle.zs_sample.specs.Quality.{number_of}
+use Rattle.zs_sample.specs.declared.sample_fields.SampleFields.{SampleFields}
+use Rattle.zs_events.specs.Kinds.{is_nothing}
+use Rattle.zs_events.specs.declared.turn.Answer.{Answer}
+use Rattle.zs_events.specs.declared.turn.Answer.TheVariants.{Ok as accepted, Refused}
+use Rattle.zs_events.specs.declared.turn.Effect.{Effect}
+use Rattle.zs_events.specs.declared.turn.Effect.TheVariants.{Send, Hand, End}
+use Rattle.zs_events.specs.declared.turn.HandOver.TheVariants.{Sample}
+use Rattle.zs_events.specs.declared.turn.Kind.{Kind}
+use Rattle.zs_events.specs.declared.turn.Turn.{Turn}
+use Rattle.zs_script.specs.Words.{refusal_name, kind_word, sample_word, is_reliable, complete_word, mode_word, what_word}
+use Rattle.zs_script.specs.Pieces.{Piece, word, number, wire, wire_if, payload, parameters, target, consolidation, timeout, value, encoding, timestamp, qos, reliable, source, attachment, responder, interest, pieces_fields}
 
 -- these fields, each behind a tab, and the line feed
 abbrev pub tabbed : List (List ℕ) → List ℕ
@@ -29,77 +34,112 @@ tabbed (field ∷ fields) = 9 ∷ (field ++ tabbed fields)
 
 -- an output line of the event with this number
 abbrev pub line : ℕ → List (List ℕ) → List ℕ
-line number fields = decimal number ++ tabbed fields
-
--- a refusal's name
-abbrev pub refusal_name : Refusal → List ℕ
-refusal_name SessionClosedError = codes "SessionClosedError"
-refusal_name NotFound = codes "NotFound"
-refusal_name UnknownScope = codes "UnknownScope"
-refusal_name BadKeyExpr = codes "BadKeyExpr"
-refusal_name QueryCancelled = codes "QueryCancelled"
-refusal_name ReplyDisjoint = codes "ReplyDisjoint"
-refusal_name NotDeclared = codes "NotDeclared"
-refusal_name IdsExhausted = codes "IdsExhausted"
-refusal_name Ignored = codes "Ignored"
-
--- the word for what a number is of
-abbrev pub kind_word : Kind → List ℕ
-kind_word Subscriber = codes "sub"
-kind_word LivelinessSubscriber = codes "lsub"
-kind_word Publisher = codes "pub"
-kind_word Queryable = codes "queryable"
-kind_word Querier = codes "querier"
-kind_word Token = codes "token"
-kind_word Listener = codes "listener"
-kind_word Get = codes "get"
-kind_word LivelinessGet = codes "lget"
+line count fields = decimal count ++ tabbed fields
 
 -- the answer, behind the event's number
 abbrev pub answer_fields : Answer → List (List ℕ)
 answer_fields (accepted None) = codes "ok" ∷ []
-answer_fields (accepted (Some number)) = codes "ok" ∷ decimal number ∷ []
+answer_fields (accepted (Some drawn)) = codes "ok" ∷ decimal drawn ∷ []
 answer_fields (Refused refusal) = codes "refused" ∷ refusal_name refusal ∷ []
 
--- the word for what a sample does
-abbrev pub sample_word : SampleKind → List ℕ
-sample_word Put = codes "put"
-sample_word Delete = codes "del"
+-- no scope and no suffix: it names no key
+abbrev pub names_nothing : WireExpr → Bool
+names_nothing w = w.scope == 0 && is_nothing w.suffix
 
--- the word for what happens where a queue is full
-abbrev pub congestion_word : CongestionControl → List ℕ
-congestion_word Drop = codes "drop"
-congestion_word Block = codes "block"
+-- a wire expression that names something
+abbrev pub naming : Option WireExpr → Option WireExpr
+naming None = None
+naming (Some w) = if names_nothing w then None else Some w
 
--- a flag's digit
-abbrev pub flag_digit : Bool → List ℕ
-flag_digit false = codes "0"
-flag_digit true = codes "1"
+-- the verb of a body, with the value of a put
+abbrev pub verb_pieces : SampleKind → Body → List Piece
+verb_pieces Put body = word (codes "put") ∷ payload body.payload ∷ encoding body.encoding ∷ []
+verb_pieces Delete body = word (codes "del") ∷ []
 
--- the digit for whether a message may be lost
-abbrev pub reliability_digit : Reliability → List ℕ
-reliability_digit BestEffort = codes "0"
-reliability_digit Reliable = codes "1"
+-- a publication
+abbrev pub push_options : Push → List Piece
+push_options p =
+    timestamp p.body.timestamp ∷ qos p.qos ∷ reliable p.reliable ∷ source p.body.source ∷ attachment p.body.attachment ∷ []
 
--- the options of a sample, in their order
-abbrev pub option_fields : SampleFields → List (List ℕ)
-option_fields s =
-    (codes "enc=" ++ encode_utf8_all s.encoding)
-    ∷ (codes "prio=" ++ decimal (number_of s.priority))
-    ∷ (codes "cc=" ++ congestion_word s.congestion_control)
-    ∷ (codes "express=" ++ flag_digit s.express)
-    ∷ (codes "rel=" ++ reliability_digit s.reliability) ∷ []
+abbrev pub push_pieces : Push → List Piece
+push_pieces p = word (codes "push") ∷ wire p.wire ∷ (verb_pieces p.body.kind p.body ++ push_options p)
 
--- a sample: what it does, its key, its payload in hexadecimal, and its options
-abbrev pub sample_fields : SampleFields → List (List ℕ)
-sample_fields s = sample_word s.kind ∷ s.key_expr.text ∷ (codes "x" ++ encode_lower (bytes_of s.payload)) ∷ option_fields s
+-- a query
+abbrev pub query_pieces : Request → List Piece
+query_pieces r = parameters r.parameters ∷ target r.target ∷ consolidation r.consolidation ∷ timeout r.timeout ∷ []
+
+abbrev pub query_options : Request → List Piece
+query_options r = value r.value ∷ qos r.qos ∷ source r.source ∷ attachment r.attachment ∷ []
+
+abbrev pub request_pieces : Request → List Piece
+request_pieces r = word (codes "request") ∷ number r.rid ∷ wire r.wire ∷ (query_pieces r ++ query_options r)
+
+-- what a query is answered: data, or an error
+abbrev pub reply_pieces : Body → QoSType → List Piece
+reply_pieces body quality =
+    verb_pieces body.kind body ++ timestamp body.timestamp ∷ qos quality ∷ source body.source ∷ attachment body.attachment ∷ []
+
+abbrev pub reply_error_pieces : Value → QoSType → List Piece
+reply_error_pieces v quality = word (codes "err") ∷ payload v.payload ∷ encoding v.encoding ∷ qos quality ∷ []
+
+abbrev pub answered_pieces : Answered → QoSType → List Piece
+answered_pieces (Reply body) quality = reply_pieces body quality
+answered_pieces (error_reply v) quality = reply_error_pieces v quality
+
+abbrev pub response_pieces : Response → List Piece
+response_pieces r =
+    word (codes "response") ∷ number r.rid ∷ wire r.wire ∷ (answered_pieces r.answered r.qos ++ responder r.responder ∷ [])
+
+-- a message
+abbrev pub message_pieces : Message → List Piece
+message_pieces (DeclareKeyExpr id w) = word (codes "keyexpr") ∷ number id ∷ wire w ∷ []
+message_pieces (UndeclareKeyExpr id) = word (codes "unkeyexpr") ∷ number id ∷ []
+message_pieces (DeclareSubscriber id w) = word (codes "sub") ∷ number id ∷ wire w ∷ []
+message_pieces (UndeclareSubscriber id) = word (codes "unsub") ∷ number id ∷ []
+message_pieces (DeclareQueryable id complete w) =
+    word (codes "queryable") ∷ number id ∷ word (complete_word complete) ∷ wire w ∷ []
+message_pieces (UndeclareQueryable id) = word (codes "unqueryable") ∷ number id ∷ []
+message_pieces (DeclareToken id w asked) = word (codes "token") ∷ number id ∷ wire w ∷ interest asked ∷ []
+message_pieces (UndeclareToken id w asked) = word (codes "untoken") ∷ number id ∷ wire_if (naming w) ∷ interest asked ∷ []
+message_pieces (DeclareFinal asked) = word (codes "declarefinal") ∷ interest asked ∷ []
+message_pieces (Interest id mode what w) =
+    word (codes "interest") ∷ number id ∷ word (mode_word mode) ∷ word (what_word what) ∷ wire_if w ∷ []
+message_pieces (push_message push) = push_pieces push
+message_pieces (request_message request) = request_pieces request
+message_pieces (response_message response) = response_pieces response
+message_pieces (ResponseFinal id) = word (codes "responsefinal") ∷ number id ∷ []
+message_pieces Close = word (codes "close") ∷ []
+
+-- the quality of service of a sample
+abbrev pub sample_qos : SampleFields → QoSType
+sample_qos s = record { priority = number_of s.priority; congestion = s.congestion_control; express = s.express }
+
+-- a sample: what it does, its key, its payload and its options
+abbrev pub sample_head : SampleFields → List Piece
+sample_head s = word (sample_word s.kind) ∷ word s.key_expr.text ∷ payload s.payload ∷ encoding s.encoding ∷ []
+
+abbrev pub sample_options : SampleFields → List Piece
+sample_options s =
+    timestamp s.timestamp ∷ qos (sample_qos s) ∷ reliable (is_reliable s.reliability) ∷ source s.source_info
+    ∷ attachment s.attachment ∷ []
+
+abbrev pub sample_pieces : SampleFields → List Piece
+sample_pieces s = sample_head s ++ sample_options s
+
+-- a sample that is handed to whom the number names
+unfoldable pub hand_pieces : Kind → ℕ → SampleFields → List Piece
+hand_pieces kind id sample = word (codes "hand") ∷ word (kind_word kind) ∷ number id ∷ sample_pieces sample
 
 -- an effect, behind the event's number
+abbrev pub effect_pieces : Effect → List Piece
+effect_pieces (Send message) = word (codes "send") ∷ message_pieces message
+effect_pieces (Hand (Sample kind id sample)) = hand_pieces kind id sample
+effect_pieces (End kind id) = word (codes "end") ∷ word (kind_word kind) ∷ number id ∷ []
+
 abbrev pub effect_fields : Effect → List (List ℕ)
-effect_fields (Hand (Sample kind id sample)) = codes "hand" ∷ kind_word kind ∷ decimal id ∷ sample_fields sample
-effect_fields (End kind id) = codes "end" ∷ kind_word kind ∷ decimal id ∷ []
+effect_fields effect = pieces_fields (effect_pieces effect)
 
 -- the lines of a turn: the answer, and each effect
 abbrev pub turn_text : ℕ → Turn → List ℕ
-turn_text number turn =
-    line number (answer_fields turn.answer) ++ flat_map (λ effect. line number (effect_fields effect)) turn.effects
+turn_text count turn =
+    line count (answer_fields turn.answer) ++ flat_map (λ effect. line count (effect_fields effect)) turn.effects

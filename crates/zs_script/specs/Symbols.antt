@@ -10,8 +10,8 @@ use Rattle.zs_sample.specs.declared.locality.Locality.TheVariants.{SessionLocal,
 use Rattle.zs_wire.specs.declared.wire_expr.Mapping.{Mapping}
 use Rattle.zs_wire.specs.declared.wire_expr.Mapping.TheVariants.{Sender, Receiver}
 use Rattle.zs_wire.specs.declared.wire_expr.WireExpr.{WireExpr}
-use Rattle.zs_core.specs.declared.event.KeyArg.{KeyArg}
-use Rattle.zs_core.specs.declared.event.KeyArg.TheVariants.{Text, Number}
+use Rattle.zs_events.specs.declared.event.KeyArg.{KeyArg}
+use Rattle.zs_events.specs.declared.event.KeyArg.TheVariants.{Text, Number}
 
 -- a decimal digit
 abbrev pub is_digit : ℕ → Bool
@@ -28,7 +28,10 @@ number_of max [] = None
 number_of max (b ∷ []) = number_from max 0 (b ∷ [])
 number_of max (b ∷ c ∷ bs) = if b == 48 then None else number_from max 0 (b ∷ c ∷ bs)
 
--- the greatest number of an entity, and of a declared key
+-- the greatest number of a time, of an entity, and of a declared key
+abbrev pub u64_max : ℕ
+u64_max = 18446744073709551615
+
 abbrev pub u32_max : ℕ
 u32_max = 4294967295
 

@@ -1,17 +1,19 @@
 //! The forms of lines, each read from the fields behind its word.
 
-ghost use Rattle.std.specs.Prelude.{◌≡◌, IfOk};
-ghost use Rattle.zs_script.specs.Grammar.{event_of, event_of_fields, declare_of, sub_of, undeclare_of, entity_kind_of, put_of, close_of, net_close_of, key_expr_of, unkey_expr_of, net_of, push_of, default_encoding, default_qos};
+ghost use Rattle.std.specs.Prelude.{◌≡◌, [], ◌∷◌, IfOk};
+ghost use Rattle.zs_events.specs.declared.event.Event.TheVariants.{UndeclareKey, Undeclare};
+ghost use Rattle.zs_script.specs.Grammar.{event_of, event_of_fields, declare_of, sub_of, pub_of, undeclare_of, background_of, put_of, delete_of, publisher_put_of, publisher_delete_of, close_of};
 ghost use Rattle.zs_script.specs.Lines.{fields};
 ghost use Rattle.zs_script.specs.Fields.{texts};
+ghost use Rattle.zs_script.specs.Parts.{key, number, form};
+ghost use Rattle.zs_script.specs.Symbols.{u32_max};
 
+use crate::messages::parse_net;
+use crate::parts::Fields;
 use crate::reader::Line;
-use crate::symbols::{
-    parse_key, parse_key_number, parse_locality, parse_number, parse_payload, parse_wire,
-};
 use std::alloc::{AllocError, Global};
-use zs_core::{EntityKind, Event};
-use zs_sample::{CongestionControl, QoSType, Text};
+use zs_events::{BackgroundKind, EntityKind, Event};
+use zs_wire::CongestionControl;
 
 /// The event of a line, if its form is one of the script language's.
 #[tactic(auto, using(crate::proofs::ReadingFields::utf8_tests), unfolding(crate::specs::Grammar::event_of))]
@@ -22,7 +24,7 @@ pub fn parse_event(alloc: Global, line: &Line) -> Result<Option<Event>, AllocErr
         return Ok(None);
     };
     let fields = split_fields(alloc, text)?;
-    parse_fields(alloc, &fields)
+    parse_fields(alloc, &mut Fields::of(&fields))
 }
 
 /// A line's fields, which single tabs separate.
@@ -32,203 +34,219 @@ fn split_fields(alloc: Global, line: &str) -> Result<Vec<&str>, AllocError>
     line.split('\t').collect(alloc)
 }
 
-fn parse_fields(alloc: Global, fields: &[&str]) -> Result<Option<Event>, AllocError>
-    ensures { IfOk result (λ found. found ≡ event_of_fields (texts fields.now)) }
+fn parse_fields(alloc: Global, fields: &mut Fields<'_>) -> Result<Option<Event>, AllocError>
+    ensures { IfOk result (λ found. found ≡ event_of_fields fields.old) }
 {
-    let [word, rest @ ..] = fields else {
+    let Some(word) = fields.next() else {
         return Ok(None);
     };
-    match *word {
-        "key" => parse_declare(alloc, rest),
-        "sub" => parse_sub(alloc, rest),
-        "undeclare" => parse_undeclare(alloc, rest),
-        "put" => parse_put(alloc, rest),
-        "close" => Ok(parse_close(rest)),
-        "net" => parse_net(alloc, rest),
+    match word {
+        "key" => parse_declare(alloc, fields),
+        "sub" => parse_sub(alloc, fields),
+        "pub" => parse_pub(alloc, fields),
+        "undeclare" => parse_undeclare(alloc, fields),
+        "background" => Ok(parse_background(fields)),
+        "put" => parse_put(alloc, fields),
+        "delete" => parse_delete(alloc, fields),
+        "pput" => parse_publisher_put(alloc, fields),
+        "pdel" => parse_publisher_delete(alloc, fields),
+        "close" => Ok(parse_close(fields)),
+        "net" => parse_net(alloc, fields),
         _ => Ok(None),
     }
 }
 
 /// `key KEY`
-fn parse_declare(alloc: Global, rest: &[&str]) -> Result<Option<Event>, AllocError>
-    ensures { IfOk result (λ found. found ≡ declare_of (texts rest.now)) }
+#[tactic(auto, unfolding(crate::specs::Parts::form))]
+fn parse_declare(alloc: Global, fields: &mut Fields<'_>) -> Result<Option<Event>, AllocError>
+    ensures { IfOk result (λ found. found ≡ declare_of fields.old) }
 {
-    let [key] = rest else {
+    let Some(key) = fields.key(alloc)? else {
         return Ok(None);
     };
-    let key = parse_key(alloc, key)?;
-    Ok(Some(Event::Key { key }))
+    Ok(fields.finish(Event::Key { key }))
 }
 
 /// `sub LOC KEY`
-fn parse_sub(alloc: Global, rest: &[&str]) -> Result<Option<Event>, AllocError>
-    ensures { IfOk result (λ found. found ≡ sub_of (texts rest.now)) }
+#[tactic(auto, unfolding(crate::specs::Parts::form))]
+fn parse_sub(alloc: Global, fields: &mut Fields<'_>) -> Result<Option<Event>, AllocError>
+    ensures { IfOk result (λ found. found ≡ sub_of fields.old) }
 {
-    let [origin, key] = rest else {
+    let Some(origin) = fields.locality() else {
         return Ok(None);
     };
-    let Some(origin) = parse_locality(origin) else {
+    let Some(key) = fields.key(alloc)? else {
         return Ok(None);
     };
-    let key = parse_key(alloc, key)?;
-    Ok(Some(Event::Sub { origin, key }))
+    Ok(fields.finish(Event::Sub { origin, key }))
 }
 
-/// `undeclare key KEY`, or `undeclare KIND N`
-fn parse_undeclare(alloc: Global, rest: &[&str]) -> Result<Option<Event>, AllocError>
-    ensures { IfOk result (λ found. found ≡ undeclare_of (texts rest.now)) }
+/// `pub LOC KEY` and its options
+#[tactic(auto, unfolding(crate::specs::Parts::form))]
+fn parse_pub(alloc: Global, fields: &mut Fields<'_>) -> Result<Option<Event>, AllocError>
+    ensures { IfOk result (λ found. found ≡ pub_of fields.old) }
 {
-    let [kind, what] = rest else {
+    let Some(destination) = fields.locality() else {
         return Ok(None);
     };
-    if *kind == "key" {
-        let key = parse_key(alloc, what)?;
-        return Ok(Some(Event::UndeclareKey { key }));
-    }
-    let Some(kind) = parse_entity_kind(kind) else {
+    let Some(key) = fields.key(alloc)? else {
         return Ok(None);
     };
-    let Some(id) = parse_number(u32::MAX, what.as_bytes()) else {
-        return Ok(None);
-    };
-    Ok(Some(Event::Undeclare { kind, id }))
-}
-
-fn parse_entity_kind(field: &str) -> Option<EntityKind>
-    ensures { result ≡ entity_kind_of field.now }
-{
-    match field {
-        "sub" => Some(EntityKind::Sub),
-        _ => None,
-    }
-}
-
-/// `put LOC KEY BYTES`
-fn parse_put(alloc: Global, rest: &[&str]) -> Result<Option<Event>, AllocError>
-    ensures { IfOk result (λ found. found ≡ put_of (texts rest.now)) }
-{
-    let [destination, key, payload] = rest else {
-        return Ok(None);
-    };
-    let Some(destination) = parse_locality(destination) else {
-        return Ok(None);
-    };
-    let Some(payload) = parse_payload(alloc, payload)? else {
-        return Ok(None);
-    };
-    let key = parse_key(alloc, key)?;
-    Ok(Some(Event::Put {
+    let event = Event::Pub {
         destination,
         key,
-        payload,
-        encoding: absent_encoding(alloc)?,
-        qos: absent_qos(),
-        reliable: true,
-    }))
+        encoding: fields.encoding(alloc)?,
+        qos: fields.qos(1, CongestionControl::Drop),
+        reliable: fields.reliable(),
+    };
+    Ok(fields.finish(event))
 }
 
-/// `close`
-fn parse_close(rest: &[&str]) -> Option<Event>
-    ensures { result ≡ close_of (texts rest.now) }
+/// `undeclare key KEY`, `undeclare sub N`, `undeclare pub N`
+#[tactic(auto, unfolding(crate::specs::Parts::form, crate::specs::Grammar::undeclare_of))]
+fn parse_undeclare(alloc: Global, fields: &mut Fields<'_>) -> Result<Option<Event>, AllocError>
+    ensures { IfOk result (λ found. found ≡ undeclare_of fields.old) }
 {
-    match rest {
-        [] => Some(Event::Close),
-        _ => None,
-    }
-}
-
-/// `net MESSAGE`
-fn parse_net(alloc: Global, rest: &[&str]) -> Result<Option<Event>, AllocError>
-    ensures { IfOk result (λ found. found ≡ net_of (texts rest.now)) }
-{
-    let [word, rest @ ..] = rest else {
+    let Some(word) = fields.next() else {
         return Ok(None);
     };
-    match *word {
-        "keyexpr" => parse_key_expr(alloc, rest),
-        "unkeyexpr" => Ok(parse_unkey_expr(rest)),
-        "push" => parse_push(alloc, rest),
-        "close" => Ok(parse_net_close(rest)),
+    match word {
+        "key" => parse_undeclare_key(alloc, fields),
+        "sub" => Ok(parse_undeclare_entity(EntityKind::Sub, fields)),
+        "pub" => Ok(parse_undeclare_entity(EntityKind::Pub, fields)),
         _ => Ok(None),
     }
 }
 
-/// `keyexpr N WIRE`
-fn parse_key_expr(alloc: Global, rest: &[&str]) -> Result<Option<Event>, AllocError>
-    ensures { IfOk result (λ found. found ≡ key_expr_of (texts rest.now)) }
+/// `KEY`, behind `undeclare key`
+#[tactic(auto, unfolding(crate::specs::Parts::form))]
+fn parse_undeclare_key(alloc: Global, fields: &mut Fields<'_>) -> Result<Option<Event>, AllocError>
+    ensures { IfOk result (λ found. found ≡ form (key ∷ []) UndeclareKey fields.old) }
 {
-    let [number, wire] = rest else {
+    let Some(key) = fields.key(alloc)? else {
         return Ok(None);
     };
-    let Some(number) = parse_key_number(number) else {
-        return Ok(None);
-    };
-    let Some(wire) = parse_wire(alloc, wire)? else {
-        return Ok(None);
-    };
-    Ok(Some(Event::NetKeyExpr { number, wire }))
+    Ok(fields.finish(Event::UndeclareKey { key }))
 }
 
-/// `unkeyexpr N`
-fn parse_unkey_expr(rest: &[&str]) -> Option<Event>
-    ensures { result ≡ unkey_expr_of (texts rest.now) }
+/// `N`, behind `undeclare` and a kind
+#[tactic(auto, unfolding(crate::specs::Parts::form))]
+fn parse_undeclare_entity(kind: EntityKind, fields: &mut Fields<'_>) -> Option<Event>
+    ensures { result ≡ form (number u32_max ∷ []) (Undeclare kind) fields.old }
 {
-    let [number] = rest else {
-        return None;
-    };
-    let number = parse_key_number(number)?;
-    Some(Event::NetUndeclareKeyExpr { number })
+    let id = fields.id()?;
+    fields.finish(Event::Undeclare { kind, id })
 }
 
-/// `close`, behind `net`
-fn parse_net_close(rest: &[&str]) -> Option<Event>
-    ensures { result ≡ net_close_of (texts rest.now) }
+/// `background sub N`
+#[tactic(auto, unfolding(crate::specs::Parts::form, crate::specs::Grammar::background_of))]
+fn parse_background(fields: &mut Fields<'_>) -> Option<Event>
+    ensures { result ≡ background_of fields.old }
 {
-    match rest {
-        [] => Some(Event::NetClose),
-        _ => None,
-    }
+    let kind = match fields.next()? {
+        "sub" => BackgroundKind::Sub,
+        _ => return None,
+    };
+    let id = fields.id()?;
+    fields.finish(Event::Background { kind, id })
 }
 
-/// `push WIRE put BYTES`
-fn parse_push(alloc: Global, rest: &[&str]) -> Result<Option<Event>, AllocError>
-    ensures { IfOk result (λ found. found ≡ push_of (texts rest.now)) }
+/// `put LOC KEY BYTES` and its options
+#[tactic(auto, unfolding(crate::specs::Parts::form))]
+fn parse_put(alloc: Global, fields: &mut Fields<'_>) -> Result<Option<Event>, AllocError>
+    ensures { IfOk result (λ found. found ≡ put_of fields.old) }
 {
-    let [wire, word, payload] = rest else {
+    let Some(destination) = fields.locality() else {
         return Ok(None);
     };
-    if *word != "put" {
-        return Ok(None);
-    }
-    let Some(wire) = parse_wire(alloc, wire)? else {
+    let Some(key) = fields.key(alloc)? else {
         return Ok(None);
     };
-    let Some(payload) = parse_payload(alloc, payload)? else {
+    let Some(payload) = fields.payload(alloc)? else {
         return Ok(None);
     };
-    Ok(Some(Event::NetPut {
-        wire,
+    let event = Event::Put {
+        destination,
+        key,
         payload,
-        encoding: absent_encoding(alloc)?,
-        qos: absent_qos(),
-        reliable: true,
-    }))
+        encoding: fields.encoding(alloc)?,
+        timestamp: fields.timestamp(),
+        qos: fields.qos(1, CongestionControl::Drop),
+        reliable: fields.reliable(),
+        source: fields.source(),
+        attachment: fields.attachment(alloc)?,
+    };
+    Ok(fields.finish(event))
 }
 
-/// The encoding where a line names none.
-fn absent_encoding(alloc: Global) -> Result<Text, AllocError>
-    ensures { IfOk result (λ encoding. encoding ≡ default_encoding) }
+/// `delete LOC KEY` and its options
+#[tactic(auto, unfolding(crate::specs::Parts::form))]
+fn parse_delete(alloc: Global, fields: &mut Fields<'_>) -> Result<Option<Event>, AllocError>
+    ensures { IfOk result (λ found. found ≡ delete_of fields.old) }
 {
-    Text::of(alloc, "zenoh/bytes")
+    let Some(destination) = fields.locality() else {
+        return Ok(None);
+    };
+    let Some(key) = fields.key(alloc)? else {
+        return Ok(None);
+    };
+    let event = Event::Delete {
+        destination,
+        key,
+        timestamp: fields.timestamp(),
+        qos: fields.qos(1, CongestionControl::Drop),
+        reliable: fields.reliable(),
+        source: fields.source(),
+        attachment: fields.attachment(alloc)?,
+    };
+    Ok(fields.finish(event))
 }
 
-/// The quality of service where a line says nothing of it.
-fn absent_qos() -> QoSType
-    ensures { result ≡ default_qos }
+/// `pput N BYTES` and its options
+#[tactic(auto, unfolding(crate::specs::Parts::form))]
+fn parse_publisher_put(alloc: Global, fields: &mut Fields<'_>) -> Result<Option<Event>, AllocError>
+    ensures { IfOk result (λ found. found ≡ publisher_put_of fields.old) }
 {
-    QoSType {
-        priority: 5,
-        congestion: CongestionControl::Drop,
-        express: false,
-    }
+    let Some(id) = fields.id() else {
+        return Ok(None);
+    };
+    let Some(payload) = fields.payload(alloc)? else {
+        return Ok(None);
+    };
+    let event = Event::PublisherPut {
+        id,
+        payload,
+        encoding: fields.own_encoding(alloc)?,
+        timestamp: fields.timestamp(),
+        source: fields.source(),
+        attachment: fields.attachment(alloc)?,
+    };
+    Ok(fields.finish(event))
+}
+
+/// `pdel N` and its options
+#[tactic(auto, unfolding(crate::specs::Parts::form))]
+fn parse_publisher_delete(
+    alloc: Global,
+    fields: &mut Fields<'_>,
+) -> Result<Option<Event>, AllocError>
+    ensures { IfOk result (λ found. found ≡ publisher_delete_of fields.old) }
+{
+    let Some(id) = fields.id() else {
+        return Ok(None);
+    };
+    let event = Event::PublisherDelete {
+        id,
+        timestamp: fields.timestamp(),
+        source: fields.source(),
+        attachment: fields.attachment(alloc)?,
+    };
+    Ok(fields.finish(event))
+}
+
+/// `close`
+fn parse_close(fields: &mut Fields<'_>) -> Option<Event>
+    ensures { result ≡ close_of fields.old }
+{
+    fields.finish(Event::Close)
 }

@@ -2,14 +2,23 @@
 #![tactic(auto)]
 
 pub use grammar::parse_event;
+pub use numbers::{parse_hex, parse_number};
 pub use printing::{append_turn, print_turn};
 pub use reader::{Line, LineError, LineReader};
+pub use symbols::after_prefix;
 pub use writing::{WriteFault, write_whole};
 
 mod bytes;
+mod digits;
 mod grammar;
 mod held;
 pub mod laws;
+mod message_printing;
+mod messages;
+mod numbers;
+mod options;
+mod parts;
+mod piece_printing;
 mod printing;
 mod reader;
 mod symbols;

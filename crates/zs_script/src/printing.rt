@@ -1,38 +1,39 @@
 //! The printed text of a turn.
 
-ghost use Rattle.std.specs.Prelude.{◌≡◌, ◌++◌, IfOk, OnOk, flat_map};
+ghost use Rattle.std.specs.Prelude.{◌≡◌, [], ◌∷◌, ◌++◌, IfOk, OnOk, flat_map, encode_utf8_all};
 ghost use Rattle.std.specs.String.{string_bytes};
-ghost use Rattle.zs_script.specs.Printing.{tabbed, line, turn_text, answer_fields, effect_fields, option_fields, sample_fields};
+ghost use Rattle.zs_script.specs.Pieces.{word, number, pieces_text};
+ghost use Rattle.zs_events.specs.declared.turn.Effect.TheVariants.{Send, Hand};
+ghost use Rattle.zs_script.specs.Printing.{line, turn_text, answer_fields, effect_fields, effect_pieces, sample_qos, sample_head, sample_options, sample_pieces, hand_pieces};
+ghost use Rattle.zs_script.specs.Words.{kind_word};
 
-use crate::words::{
-    congestion_word, flag_digit, kind_word, refusal_name, reliability_digit, sample_word,
+use crate::message_printing::append_message;
+use crate::piece_printing::{
+    append_attachment, append_number, append_payload, append_qos, append_reliable,
+    append_sample_encoding, append_source, append_timestamp, append_word,
 };
+use crate::words::{is_reliable, kind_word, refusal_name, sample_word};
 use std::alloc::{AllocError, Global};
-use zs_core::{Answer, Effect, HandOver, Kind, Turn};
-use zs_sample::Sample;
+use zs_events::{Answer, Effect, HandOver, Kind, Turn};
+use zs_sample::{QoSType, Sample, Text};
+use zs_wire::Message;
 
 /// The output lines of a turn: the answer, and each effect. `number` is the event's, from 1.
-pub fn print_turn(alloc: Global, number: u64, turn: &Turn) -> Result<String, AllocError>
-    ensures { IfOk result (λ text. string_bytes text ≡ turn_text number turn.now) }
+pub fn print_turn(alloc: Global, number: u64, turn: &Turn) -> Result<Text, AllocError>
+    ensures { IfOk result (λ text. encode_utf8_all text ≡ turn_text number turn.now) }
 {
     let mut text = String::new(alloc);
-    append_turn(alloc, &mut text, number, turn)?;
-    Ok(text)
+    append_turn(&mut text, number, turn)?;
+    Text::of(alloc, text.as_str())
 }
 
 /// Puts the output lines of a turn behind a text, so that one text's memory serves many turns. After an error some
 /// of them may stand there.
-pub fn append_turn(
-    alloc: Global,
-    out: &mut String,
-    number: u64,
-    turn: &Turn,
-) -> Result<(), AllocError>
+pub fn append_turn(out: &mut String, number: u64, turn: &Turn) -> Result<(), AllocError>
     ensures { OnOk result (string_bytes out.new ≡ string_bytes out.old ++ turn_text number turn.now) }
 {
     append_answer(out, number, &turn.answer)?;
-    append_effects(alloc, out, number, turn.effects.as_slice())?;
-    Ok(())
+    append_effects(out, number, turn.effects.as_slice())
 }
 
 fn append_answer(out: &mut String, number: u64, answer: &Answer) -> Result<(), AllocError>
@@ -48,79 +49,109 @@ fn append_answer(out: &mut String, number: u64, answer: &Answer) -> Result<(), A
     }
 }
 
-fn append_effects(
-    alloc: Global,
-    out: &mut String,
-    number: u64,
-    effects: &[Effect],
-) -> Result<(), AllocError>
+fn append_effects(out: &mut String, number: u64, effects: &[Effect]) -> Result<(), AllocError>
     ensures { OnOk result (string_bytes out.new
         ≡ string_bytes out.old ++ flat_map (λ effect. line number (effect_fields effect)) effects.now) }
 {
     for effect in effects {
-        append_effect(alloc, out, number, effect)?;
+        append_effect(out, number, effect)?;
     }
     Ok(())
 }
 
-fn append_effect(
-    alloc: Global,
-    out: &mut String,
-    number: u64,
-    effect: &Effect,
-) -> Result<(), AllocError>
+/// The line of an effect.
+#[tactic(auto, using(crate::proofs::Joining::line_joining))]
+fn append_effect(out: &mut String, number: u64, effect: &Effect) -> Result<(), AllocError>
     ensures { OnOk result (string_bytes out.new ≡ string_bytes out.old ++ line number (effect_fields effect.now)) }
 {
+    write!(out, "{number}")?;
+    append_effect_pieces(out, effect)?;
+    out.push('\n')
+}
+
+#[tactic(auto, using(crate::proofs::Joining::joining))]
+fn append_effect_pieces(out: &mut String, effect: &Effect) -> Result<(), AllocError>
+    ensures { OnOk result (string_bytes out.new ≡ string_bytes out.old ++ pieces_text (effect_pieces effect.now)) }
+{
     match effect {
-        Effect::Hand(HandOver::Sample { kind, id, sample }) => append_hand(
-            alloc, out, number, *kind, *id, sample,
-        ),
-        Effect::End { kind, id } => {
-            let kind = kind_word(*kind);
-            writeln!(out, "{number}\tend\t{kind}\t{id}")
-        }
+        Effect::Send(message) => append_sent(out, message),
+        Effect::Hand(hand) => append_hand_over(out, hand),
+        Effect::End { kind, id } => append_of(out, "end", *kind, *id),
     }
 }
 
-fn append_hand(
-    alloc: Global,
-    out: &mut String,
-    number: u64,
-    kind: Kind,
-    id: u32,
-    sample: &Sample,
-) -> Result<(), AllocError>
+fn append_hand_over(out: &mut String, hand: &HandOver) -> Result<(), AllocError>
+    ensures { OnOk result (string_bytes out.new ≡ string_bytes out.old ++ pieces_text (effect_pieces (Hand hand.now))) }
+{
+    match hand {
+        HandOver::Sample { kind, id, sample } => append_hand(out, *kind, *id, sample),
+    }
+}
+
+#[tactic(auto, using(crate::proofs::Joining::joining))]
+fn append_sent(out: &mut String, message: &Message) -> Result<(), AllocError>
+    ensures { OnOk result (string_bytes out.new ≡ string_bytes out.old ++ pieces_text (effect_pieces (Send message.now))) }
+{
+    append_word(out, "send")?;
+    append_message(out, message)
+}
+
+/// A word, and whom it is said of.
+#[tactic(auto, using(crate::proofs::Joining::joining))]
+fn append_of(out: &mut String, text: &str, kind: Kind, id: u32) -> Result<(), AllocError>
     ensures { OnOk result (string_bytes out.new
-        ≡ string_bytes out.old ++ line number (effect_fields (Effect.Hand (HandOver.Sample kind id sample.now)))) }
+        ≡ string_bytes out.old ++ pieces_text (word text.now ∷ word (kind_word kind) ∷ number id ∷ [])) }
 {
-    let kind = kind_word(kind);
-    write!(out, "{number}\thand\t{kind}\t{id}")?;
-    append_sample(alloc, out, sample)
+    append_word(out, text)?;
+    append_word(out, kind_word(kind))?;
+    append_number(out, id)
 }
 
-/// Puts a sample and the end of its line behind a text.
-fn append_sample(alloc: Global, out: &mut String, sample: &Sample) -> Result<(), AllocError>
-    ensures { OnOk result (string_bytes out.new ≡ string_bytes out.old ++ tabbed (sample_fields sample.now)) }
+#[tactic(auto, using(crate::proofs::Joining::joining), unfolding(crate::specs::Printing::hand_pieces))]
+fn append_hand(out: &mut String, kind: Kind, id: u32, sample: &Sample) -> Result<(), AllocError>
+    ensures { OnOk result (string_bytes out.new
+        ≡ string_bytes out.old ++ pieces_text (hand_pieces kind id sample.now)) }
 {
-    let word = sample_word(sample.kind());
-    let key = sample.key_expr().as_str();
-    let bytes = sample.payload().to_bytes(alloc)?;
-    let payload = hex::encode(alloc, bytes.as_slice())?;
-    write!(out, "\t{word}\t{key}\tx{payload}")?;
-    append_options(out, sample)
+    append_of(out, "hand", kind, id)?;
+    append_sample(out, sample)
 }
 
-/// Puts the options of a sample and the end of its line behind a text.
-fn append_options(out: &mut String, sample: &Sample) -> Result<(), AllocError>
-    ensures { OnOk result (string_bytes out.new ≡ string_bytes out.old ++ tabbed (option_fields sample.now)) }
+#[tactic(auto, using(crate::proofs::Joining::joining))]
+fn append_sample(out: &mut String, sample: &Sample) -> Result<(), AllocError>
+    ensures { OnOk result (string_bytes out.new ≡ string_bytes out.old ++ pieces_text (sample_pieces sample.now)) }
 {
-    let encoding = sample.encoding().as_str();
-    let priority = sample.priority().number();
-    let congestion = congestion_word(sample.congestion_control());
-    let express = flag_digit(sample.express());
-    let reliable = reliability_digit(sample.reliability());
-    writeln!(
-        out,
-        "\tenc={encoding}\tprio={priority}\tcc={congestion}\texpress={express}\trel={reliable}"
-    )
+    append_sample_head(out, sample)?;
+    append_sample_options(out, sample)
+}
+
+#[tactic(auto, using(crate::proofs::Joining::joining))]
+fn append_sample_head(out: &mut String, sample: &Sample) -> Result<(), AllocError>
+    ensures { OnOk result (string_bytes out.new ≡ string_bytes out.old ++ pieces_text (sample_head sample.now)) }
+{
+    append_word(out, sample_word(sample.kind()))?;
+    append_word(out, sample.key_expr().as_str())?;
+    append_payload(out, sample.payload())?;
+    append_sample_encoding(out, sample.encoding())
+}
+
+#[tactic(auto, using(crate::proofs::Joining::joining))]
+fn append_sample_options(out: &mut String, sample: &Sample) -> Result<(), AllocError>
+    ensures { OnOk result (string_bytes out.new ≡ string_bytes out.old ++ pieces_text (sample_options sample.now)) }
+{
+    append_timestamp(out, sample.timestamp().copied())?;
+    append_qos(out, sample_qos(sample))?;
+    append_reliable(out, is_reliable(sample.reliability()))?;
+    append_source(out, sample.source_info().copied())?;
+    append_attachment(out, sample.attachment())
+}
+
+/// The quality of service of a sample.
+fn sample_qos(sample: &Sample) -> QoSType
+    ensures { result ≡ sample_qos sample.now }
+{
+    QoSType {
+        priority: sample.priority().number(),
+        congestion: sample.congestion_control(),
+        express: sample.express(),
+    }
 }

@@ -2,39 +2,41 @@
 
 ghost use Rattle.std.specs.Prelude.{◌≡◌, IfOk, option_map};
 ghost use Rattle.std.specs.List.{before_first, after_first};
-ghost use Rattle.zs_script.specs.Symbols.{number_from, number_of, u16_max, locality_of, is_colon, numbered_of, key_of, payload_of, after_prefix, scoped_of, wire_of};
+ghost use Rattle.zs_script.specs.Symbols.{number_of, u16_max, u32_max, locality_of, is_colon, numbered_of, key_of, payload_of, after_prefix, scoped_of, wire_of};
 
+use crate::numbers::parse_number;
 use hex::FromHexError;
 use std::alloc::{AllocError, Global};
-use zs_core::KeyArg;
+use zs_events::KeyArg;
 use zs_sample::{Locality, Text, ZBytes};
 use zs_wire::{Mapping, WireExpr};
 
-/// A number in decimal digits, at most `max`. It has no sign and does not begin with a zero that could go.
-pub(crate) fn parse_number(max: u32, field: &[u8]) -> Option<u32>
-    ensures { result ≡ number_of max field.now }
+/// The greatest number of an entity, and of a declared key.
+const U32_MAX: u64 = u32::MAX as u64;
+
+const U16_MAX: u64 = u16::MAX as u64;
+
+/// What stands behind a prefix.
+pub fn after_prefix<'a>(field: &'a str, prefix: &str) -> Option<&'a str>
+    ensures { option_map (λ rest. rest.now) result ≡ after_prefix prefix.now field.now }
 {
-    match field {
-        [] | [b'0', _, ..] => None,
-        _ => parse_digits(max, field),
-    }
+    field.strip_prefix(prefix)
 }
 
-fn parse_digits(max: u32, digits: &[u8]) -> Option<u32>
-    ensures { result ≡ number_from max 0 digits.now }
+/// The number of an entity.
+pub(crate) fn parse_id(digits: &str) -> Option<u32>
+    ensures { result ≡ number_of u32_max digits.now }
 {
-    let most = u64::from(max);
-    let mut number = 0;
-    for digit in digits {
-        if !digit.is_ascii_digit() || number > most {
-            return None;
-        }
-        number = 10 * number + u64::from(*digit - b'0');
-    }
-    if number > most {
-        return None;
-    }
+    let number = parse_number(U32_MAX, digits.as_bytes())?;
     Some(number as u32)
+}
+
+/// The number of a declared key.
+pub(crate) fn parse_key_number(digits: &str) -> Option<u16>
+    ensures { result ≡ number_of u16_max digits.now }
+{
+    let number = parse_number(U16_MAX, digits.as_bytes())?;
+    Some(number as u16)
 }
 
 /// A word for the origin of a subscriber, or the destination of a publication.
@@ -74,16 +76,6 @@ fn parse_numbered(alloc: Global, field: &str) -> Result<Option<KeyArg>, AllocErr
         number,
         suffix: Text::of(alloc, suffix)?,
     }))
-}
-
-/// The number of a declared key.
-pub(crate) fn parse_key_number(digits: &str) -> Option<u16>
-    ensures { result ≡ number_of u16_max digits.now }
-{
-    match parse_number(u16::MAX.into(), digits.as_bytes()) {
-        Some(number) => Some(number as u16),
-        None => None,
-    }
 }
 
 /// What stands before the first colon, and what behind it; all and nothing where there is none.
@@ -142,11 +134,4 @@ fn parse_scoped(alloc: Global, mapping: Mapping, rest: &str) -> Result<Option<Wi
         suffix: Text::of(alloc, suffix)?,
         mapping,
     }))
-}
-
-/// What stands behind a prefix.
-fn after_prefix<'a>(field: &'a str, prefix: &str) -> Option<&'a str>
-    ensures { option_map (λ rest. rest.now) result ≡ after_prefix prefix.now field.now }
-{
-    field.strip_prefix(prefix)
 }

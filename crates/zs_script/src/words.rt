@@ -1,10 +1,11 @@
 //! The words that stand for values in printed lines.
 
 ghost use Rattle.std.specs.Prelude.{◌≡◌};
-ghost use Rattle.zs_script.specs.Printing.{refusal_name, kind_word, sample_word, congestion_word, flag_digit, reliability_digit};
+ghost use Rattle.zs_script.specs.Words.{refusal_name, kind_word, sample_word, congestion_word, flag_digit, is_reliable, complete_word, target_word, consolidation_word, mode_word, what_word};
 
-use zs_core::{Kind, Refusal};
-use zs_sample::{CongestionControl, Reliability, SampleKind};
+use zs_events::{Kind, Refusal};
+use zs_sample::{CongestionControl, ConsolidationMode, QueryTarget, Reliability, SampleKind};
+use zs_wire::{InterestMode, InterestWhat};
 
 /// A refusal's name.
 pub(crate) fn refusal_name(refusal: Refusal) -> &'static str
@@ -67,12 +68,66 @@ pub(crate) fn flag_digit(flag: bool) -> &'static str
     if flag { "1" } else { "0" }
 }
 
-/// The digit for whether a message may be lost.
-pub(crate) fn reliability_digit(reliability: Reliability) -> &'static str
-    ensures { result.now ≡ reliability_digit reliability }
+/// Whether a message may not be lost.
+pub(crate) fn is_reliable(reliability: Reliability) -> bool
+    ensures { result ≡ is_reliable reliability }
 {
     match reliability {
-        Reliability::BestEffort => "0",
-        Reliability::Reliable => "1",
+        Reliability::BestEffort => false,
+        Reliability::Reliable => true,
+    }
+}
+
+/// The word for whether a queryable has all that is there.
+pub(crate) fn complete_word(complete: bool) -> &'static str
+    ensures { result.now ≡ complete_word complete }
+{
+    if complete { "complete" } else { "partial" }
+}
+
+/// The word for whom a query reaches.
+pub(crate) fn target_word(target: QueryTarget) -> &'static str
+    ensures { result.now ≡ target_word target }
+{
+    match target {
+        QueryTarget::BestMatching => "best",
+        QueryTarget::All => "all",
+        QueryTarget::AllComplete => "allcomplete",
+    }
+}
+
+/// The word for which replies of a query are kept.
+pub(crate) fn consolidation_word(mode: ConsolidationMode) -> &'static str
+    ensures { result.now ≡ consolidation_word mode }
+{
+    match mode {
+        ConsolidationMode::Auto => "auto",
+        ConsolidationMode::None => "none",
+        ConsolidationMode::Monotonic => "monotonic",
+        ConsolidationMode::Latest => "latest",
+    }
+}
+
+/// The word for when an interest is in declarations.
+pub(crate) fn mode_word(mode: InterestMode) -> &'static str
+    ensures { result.now ≡ mode_word mode }
+{
+    match mode {
+        InterestMode::Current => "current",
+        InterestMode::Future => "future",
+        InterestMode::CurrentFuture => "currentfuture",
+        InterestMode::Final => "final",
+    }
+}
+
+/// The word for what an interest is in.
+pub(crate) fn what_word(what: InterestWhat) -> &'static str
+    ensures { result.now ≡ what_word what }
+{
+    match what {
+        InterestWhat::Subscribers => "subscribers",
+        InterestWhat::Queryables => "queryables",
+        InterestWhat::Tokens => "tokens",
+        InterestWhat::Nothing => "none",
     }
 }

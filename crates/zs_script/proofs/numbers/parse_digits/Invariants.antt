@@ -1,6 +1,6 @@
 use Rattle.std.proofs.Common.{◌≡◌, ◌+◌, ◌*◌, ◌≤◌, drop}
 use Rattle.zs_script.specs.Symbols.{number_from}
-use Rattle.zs_script.proofs.symbols.parse_digits.Given as goal
+use Rattle.zs_script.proofs.numbers.parse_digits.Given as goal
 
 abbrev pub invariant-loop-digit : goal.invariant-loop-digit
 invariant-loop-digit l = record {

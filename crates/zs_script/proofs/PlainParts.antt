@@ -1,0 +1,171 @@
+-- What the parts of forms read off texts is plain, and so is what a form makes of it.
+use Rattle.std.proofs.Common.{ℕ, ◌≡◌, true, nat_lt, List, [], ◌∷◌, Option, Some, None, IfSome, refl, lit<, codes, option_map, option_and_then}
+use Rattle.std.specs.List.{list_all, AllByRecursion}
+use Rattle.std.specs.Str.{chars}
+use Rattle.std.proofs.lemmas.Bool.{and_from}
+use Rattle.zs_sample.specs.Encoding.{encoding_of}
+use Rattle.zs_wire.specs.declared.quality.CongestionControl.{CongestionControl}
+use Rattle.zs_events.specs.declared.event.Event.{Event}
+use Rattle.zs_events.specs.Kinds.{default_encoding, text_if, value_texts}
+use Rattle.zs_script.specs.Symbols.{number_of, u32_max, u64_max, locality_of, key_of, payload_of, wire_of}
+use Rattle.zs_script.specs.Options.{timestamp_of, entity_of, source_of, encoding_text_of, priority_of, congestion_of, flag_of, target_of, consolidation_of, any_key_of, value_of}
+use Rattle.zs_script.specs.Parts.{Part, number, locality, key, selector, wire, payload, parameters, target, consolidation, timeout, value, encoding, own_encoding, timestamp, qos, own_priority, own_congestion, own_express, reliable, source, attachment, responder, any_key, token, interest, Value, behind, first_in, named_in, taken, option_in, maybe_in, qos_in, value_in, selector_of, read, Maker, form}
+use Rattle.zs_script.specs.Plain.{is_field_text, is_plain_event}
+use Rattle.zs_script.proofs.PlainSymbols.{IsText, PlainKey, PlainChars, PlainWire, on-map, on-then, on-any, prefix-text, chars-plain, key-plain, wire-plain, before-sign, behind-sign}
+
+abbrev pub AreTexts : List (List ℕ) → Type 0
+AreTexts fields = AllByRecursion IsText fields
+
+abbrev AllPlain : List (List ℕ) → Type 0
+AllPlain texts = list_all is_field_text texts ≡ true
+
+abbrev pub PlainEvent : Event → Type 0
+PlainEvent event = is_plain_event event ≡ true
+
+pub default-plain : PlainChars default_encoding
+unfolding lib.Utf8.encode
+default-plain = refl
+
+-- what a part reads, and the fields behind it
+abbrev Reads : {A : Type 0} → (A → Type 0) → A × List (List ℕ) → Type 0
+Reads P found = P found.0 × AreTexts found.1
+
+behind-texts : (fields : List (List ℕ)) → AreTexts fields → AreTexts (behind fields)
+behind-texts [] h = tt
+behind-texts (field ∷ rest) h = h.1
+
+first-plain : {A : Type 0} (symbol : List ℕ → Option A) (P : A → Type 0)
+    → ((field : List ℕ) → IsText field → IfSome (symbol field) P) → (fields : List (List ℕ)) → AreTexts fields
+    → IfSome (first_in symbol fields) (Reads P)
+first-plain symbol P each [] h = tt
+first-plain {A = A} symbol P each (field ∷ rest) h =
+    on-map {A = A} {B = A × List (List ℕ)} (λ found. (found, rest)) P (Reads P) (λ found k. (k, h.1)) (symbol field) (each field h.0)
+
+first-any : {A : Type 0} (symbol : List ℕ → Option A) (fields : List (List ℕ)) → AreTexts fields
+    → IfSome (first_in symbol fields) (Reads (λ _. Unit {0}))
+first-any symbol fields h = first-plain symbol (λ _. Unit {0}) (λ field _. on-any (symbol field)) fields h
+
+named-text : (name : List ℕ) → list_all (λ b. nat_lt b 128) name ≡ true → (fields : List (List ℕ)) → AreTexts fields
+    → IfSome (named_in name fields) IsText
+named-text name small [] h = tt
+named-text name small (field ∷ rest) h = prefix-text name field small h.0
+
+taken-plain : {A : Type 0} (absent : A) (P : A → Type 0) → P absent → (fields : List (List ℕ)) → AreTexts fields
+    → (o : Option A) → IfSome o P → Reads P (taken absent fields o)
+taken-plain absent P none fields h None k = (none, h)
+taken-plain absent P none fields h (Some found) k = (k, behind-texts fields h)
+
+option-plain : {A : Type 0} (name : List ℕ) (symbol : List ℕ → Option A) (absent : A) (P : A → Type 0)
+    → list_all (λ b. nat_lt b 128) name ≡ true → P absent → ((text : List ℕ) → IsText text → IfSome (symbol text) P)
+    → (fields : List (List ℕ)) → AreTexts fields → Reads P (option_in name symbol absent fields)
+option-plain {A = A} name symbol absent P small none each fields h =
+    taken-plain absent P none fields h (option_and_then symbol (named_in name fields))
+    (on-then {A = List ℕ} {B = A} symbol IsText P each (named_in name fields) (named-text name small fields h))
+
+option-any : {A : Type 0} (name : List ℕ) (symbol : List ℕ → Option A) (absent : A) (fields : List (List ℕ)) → AreTexts fields
+    → Reads (λ _. Unit {0}) (option_in name symbol absent fields)
+option-any name symbol absent fields h =
+    taken-plain absent (λ _. Unit {0}) tt fields h (option_and_then symbol (named_in name fields)) (on-any _)
+
+maybe-any : {A : Type 0} (name : List ℕ) (symbol : List ℕ → Option A) (fields : List (List ℕ)) → AreTexts fields
+    → Reads (λ _. Unit {0}) (maybe_in name symbol fields)
+maybe-any name symbol fields h = option-any name (λ text. option_map Some (symbol text)) None fields h
+
+-- encodings
+encoding-text : (text : List ℕ) → PlainChars text → PlainChars (encoding_of text)
+encoding-text [] h = default-plain
+encoding-text (c ∷ cs) h = h
+
+encoding-plain : (field : List ℕ) → IsText field → PlainChars (encoding_of (chars field))
+encoding-plain field h = encoding-text (chars field) (chars-plain field h)
+
+own-encoding-plain : (fields : List (List ℕ)) → AreTexts fields
+    → Reads (λ text. AllPlain (text_if text)) (maybe_in (codes "enc=") encoding_text_of fields)
+own-encoding-plain fields h =
+    option-plain (codes "enc=") (λ text. option_map Some (encoding_text_of text)) None (λ text. AllPlain (text_if text))
+    refl refl (λ text k. and_from _ _ (encoding-plain text k) refl) fields h
+
+-- compound parts
+qos-texts : (least : ℕ) (absent : CongestionControl) (fields : List (List ℕ)) → AreTexts fields
+    → Reads (λ _. Unit {0}) (qos_in least absent fields)
+qos-texts least absent fields h =
+    let priority = option_in (codes "prio=") (priority_of least) 5 fields in
+    let congestion = option_in (codes "cc=") congestion_of absent priority.1 in (
+      tt,
+      (option-any (codes "express=") flag_of _ congestion.1
+          (option-any (codes "cc=") congestion_of absent priority.1
+          (option-any (codes "prio=") (priority_of least) 5 fields h).1).1).1,
+    )
+
+value-made : (bytes : Option (List (List ℕ))) (text : Option (List ℕ)) → AllPlain (text_if text) → AllPlain (value_texts (value_of bytes text))
+value-made None None h = refl
+value-made None (Some text) h = h
+value-made (Some bytes) None h = and_from _ _ default-plain refl
+value-made (Some bytes) (Some text) h = h
+
+value-plain : (fields : List (List ℕ)) → AreTexts fields → Reads (λ v. AllPlain (value_texts v)) (value_in fields)
+value-plain fields h =
+    let bytes = maybe_in (codes "payload=") payload_of fields in
+    let text = own-encoding-plain bytes.1 (maybe-any (codes "payload=") payload_of fields h).1 in
+    (value-made bytes.0 (maybe_in (codes "enc=") encoding_text_of bytes.1).0 text.0, text.1)
+
+-- the texts of what a part is read as
+abbrev pub IsPlainValue : (part : Part) → Value part → Type 0
+IsPlainValue key k = PlainKey k
+IsPlainValue selector s = PlainKey s.0 × PlainChars s.1
+IsPlainValue wire w = PlainWire w
+IsPlainValue parameters text = PlainChars text
+IsPlainValue value v = AllPlain (value_texts v)
+IsPlainValue encoding text = PlainChars text
+IsPlainValue own_encoding text = AllPlain (text_if text)
+IsPlainValue part v = Unit {0}
+
+read-plain : (part : Part) (fields : List (List ℕ)) → AreTexts fields
+    → IfSome {T = Value part × List (List ℕ)} (read part fields) (λ found. IsPlainValue part found.0 × AreTexts found.1)
+unfolding read
+read-plain (number most) fields h = first-any (number_of most) fields h
+read-plain locality fields h = first-any locality_of fields h
+read-plain key fields h = first-plain (λ field. Some (key_of field)) PlainKey key-plain fields h
+read-plain selector fields h =
+    first-plain (λ field. Some (selector_of field)) (λ s. PlainKey s.0 × PlainChars s.1)
+    (λ field k. (key-plain _ (before-sign 63 (lit< tt) field k), chars-plain _ (behind-sign 63 (lit< tt) field k))) fields h
+read-plain wire fields h = first-plain wire_of PlainWire wire-plain fields h
+read-plain payload fields h = first-any payload_of fields h
+read-plain parameters fields h = option-plain (codes "params=") (λ text. Some (chars text)) [] PlainChars refl refl chars-plain fields h
+read-plain target fields h = option-any (codes "target=") target_of _ fields h
+read-plain consolidation fields h = option-any (codes "cons=") consolidation_of _ fields h
+read-plain timeout fields h = maybe-any (codes "timeout=") (number_of u64_max) fields h
+read-plain value fields h = value-plain fields h
+read-plain encoding fields h = option-plain (codes "enc=") encoding_text_of default_encoding PlainChars refl default-plain encoding-plain fields h
+read-plain own_encoding fields h = own-encoding-plain fields h
+read-plain timestamp fields h = maybe-any (codes "ts=") timestamp_of fields h
+read-plain (qos least absent) fields h = qos-texts least absent fields h
+read-plain own_priority fields h = maybe-any (codes "prio=") (priority_of 1) fields h
+read-plain own_congestion fields h = maybe-any (codes "cc=") congestion_of fields h
+read-plain own_express fields h = maybe-any (codes "express=") flag_of fields h
+read-plain reliable fields h = option-any (codes "rel=") flag_of _ fields h
+read-plain source fields h = maybe-any (codes "src=") source_of fields h
+read-plain attachment fields h = maybe-any (codes "att=") payload_of fields h
+read-plain responder fields h = maybe-any (codes "by=") entity_of fields h
+read-plain any_key fields h = option-any (codes "accept=") any_key_of _ fields h
+read-plain token fields h = maybe-any (codes "token=") (number_of u32_max) fields h
+read-plain interest fields h = maybe-any (codes "interest=") (number_of u32_max) fields h
+
+pub wire-read : (fields : List (List ℕ)) → AreTexts fields
+    → IfSome (read wire fields) (λ found. PlainWire found.0 × AreTexts found.1)
+wire-read fields h = read-plain wire fields h
+
+-- a maker that makes plain events of plain values
+abbrev pub MakesPlain : (parts : List Part) → Maker parts Event → Type 0
+MakesPlain [] made = PlainEvent made
+MakesPlain (part ∷ parts) make = (v : Value part) → IsPlainValue part v → MakesPlain parts (make v)
+
+pub form-plain : (parts : List Part) (make : Maker parts Event) → MakesPlain parts make → (fields : List (List ℕ)) → AreTexts fields
+    → IfSome (form parts make fields) PlainEvent
+unfolding form
+form-plain [] made plain [] h = plain
+form-plain [] made plain (field ∷ rest) h = tt
+form-plain (part ∷ parts) make plain fields h =
+    on-then {A = Value part × List (List ℕ)} {B = Event} (λ found. form parts (make found.0) found.1)
+    (λ found. IsPlainValue part found.0 × AreTexts found.1) PlainEvent
+    (λ found k. form-plain parts (make found.0) (plain found.0 k.0) found.1 k.1) (read part fields) (read-plain part fields h)

@@ -1,0 +1,10 @@
+use Rattle.std.proofs.Common.{◌≡◌, Some, codes, sym, ap, ◌∙◌}
+use Rattle.zs_script.specs.Parts.{first_of}
+use Rattle.zs_script.specs.Grammar.{event_by}
+use Rattle.zs_script.proofs.Choosing.{by-first}
+use Rattle.zs_script.proofs.grammar.parse_fields.Goals as goal
+
+pub returns-in-undeclare : goal.returns-in-undeclare
+returns-in-undeclare c =
+    let first : first_of c.args.fields.now ≡ Some (codes "undeclare") = sym c.in-Some.ensures.first ∙ ap Some c.in-undeclare.is in
+    rw (by-first event_by c.args.fields.now (codes "undeclare") first) (rw c.next.ensures.rest at c.parse_undeclare.ensures)

@@ -1,0 +1,11 @@
+use Rattle.std.proofs.Common.{◌≡◌, Some, codes, sym, ap, ◌∙◌}
+use Rattle.zs_script.specs.Parts.{first_of}
+use Rattle.zs_script.specs.Grammar.{net_of, net_by}
+use Rattle.zs_script.proofs.Choosing.{by-first}
+use Rattle.zs_script.proofs.messages.parse_net.Goals as goal
+
+pub returns-in-push : goal.returns-in-push
+unfolding net_of
+returns-in-push c =
+    let first : first_of c.args.fields.now ≡ Some (codes "push") = sym c.in-Some.ensures.first ∙ ap Some c.in-push.is in
+    rw (by-first net_by c.args.fields.now (codes "push") first) (rw c.next.ensures.rest at c.parse_push.ensures)

@@ -1,0 +1,258 @@
+//! The parts that the forms of lines are made of, each read off the front of a line's fields.
+
+ghost use Rattle.std.specs.Prelude.{◌≡◌, [], Some, IfOk, option_map, codes};
+ghost use Rattle.zs_script.specs.Options.{priority_of, congestion_of, flag_of};
+ghost use Rattle.zs_script.specs.Symbols.{u16_max, u32_max};
+ghost use Rattle.zs_script.specs.Parts.{first_of, behind, named_in, option_in, number, locality, key, wire, payload, encoding, own_encoding, timestamp, qos, reliable, source, attachment, read, form};
+
+use crate::options::{
+    default_encoding, parse_congestion, parse_encoding, parse_flag, parse_priority, parse_source,
+    parse_timestamp,
+};
+use crate::symbols::{
+    after_prefix, parse_id, parse_key, parse_key_number, parse_locality, parse_payload, parse_wire,
+};
+use std::alloc::{AllocError, Global};
+use std::marker::Model;
+use zs_events::{Event, KeyArg};
+use zs_sample::{Locality, Text, ZBytes};
+use zs_wire::{CongestionControl, QoSType, SourceInfo, Timestamp, WireExpr};
+
+/// The fields of a line that are left. Contracts see their texts.
+#[derive(Drop)]
+pub(crate) struct Fields<'a> {
+    rest: &'a [&'a str],
+}
+
+impl<'a> Model for Fields<'a> {
+    ghost use Rattle.std.specs.Prelude.{ℕ, List};
+    ghost use Rattle.zs_script.specs.Fields.{texts};
+
+    ghost Value = { List (List ℕ) };
+
+    ghost view = { λ f. texts f.rest.now };
+}
+
+impl<'a> Fields<'a> {
+    ghost use Rattle.zs_script.specs.Fields.{texts};
+
+    pub(crate) fn of(rest: &'a [&'a str]) -> Fields<'a>
+        ensures { result ≡ texts rest.now }
+    {
+        Fields { rest }
+    }
+
+    /// The first field, which is there no more.
+    pub(crate) fn next(&mut self) -> Option<&'a str>
+        ensures first { option_map (λ field. field.now) result ≡ first_of self.old }
+        ensures rest { self.new ≡ behind self.old }
+    {
+        let [first, rest @ ..] = self.rest else {
+            return None;
+        };
+        self.rest = rest;
+        Some(*first)
+    }
+
+    /// What stands behind this name in the first field, if it begins with it.
+    fn named(&self, name: &str) -> Option<&'a str>
+        ensures { option_map (λ value. value.now) result ≡ named_in name.now self.now }
+    {
+        let [first, ..] = self.rest else {
+            return None;
+        };
+        after_prefix(first, name)
+    }
+
+    /// The first field is there no more.
+    fn skip(&mut self)
+        ensures { self.new ≡ behind self.old }
+    {
+        let _skipped = self.next();
+    }
+
+    /// What was made, if no field is left over.
+    #[tactic(auto, unfolding(crate::specs::Parts::form))]
+    pub(crate) fn finish(&self, made: Event) -> Option<Event>
+        ensures { result ≡ form [] made self.now }
+    {
+        match self.rest {
+            [] => Some(made),
+            _ => None,
+        }
+    }
+}
+
+/// Fields that have to be there.
+impl<'a> Fields<'a> {
+    #[tactic(auto, unfolding(crate::specs::Parts::read))]
+    pub(crate) fn id(&mut self) -> Option<u32>
+        ensures { read (number u32_max) self.old ≡ option_map (λ value. (value, self.new)) result }
+    {
+        let field = self.next()?;
+        parse_id(field)
+    }
+
+    #[tactic(auto, unfolding(crate::specs::Parts::read))]
+    pub(crate) fn key_number(&mut self) -> Option<u16>
+        ensures { read (number u16_max) self.old ≡ option_map (λ value. (value, self.new)) result }
+    {
+        let field = self.next()?;
+        parse_key_number(field)
+    }
+
+    #[tactic(auto, unfolding(crate::specs::Parts::read))]
+    pub(crate) fn locality(&mut self) -> Option<Locality>
+        ensures { read locality self.old ≡ option_map (λ value. (value, self.new)) result }
+    {
+        let field = self.next()?;
+        parse_locality(field)
+    }
+
+    #[tactic(auto, unfolding(crate::specs::Parts::read))]
+    pub(crate) fn key(&mut self, alloc: Global) -> Result<Option<KeyArg>, AllocError>
+        ensures { IfOk result (λ found. read key self.old ≡ option_map (λ value. (value, self.new)) found) }
+    {
+        let Some(field) = self.next() else {
+            return Ok(None);
+        };
+        Ok(Some(parse_key(alloc, field)?))
+    }
+
+    #[tactic(auto, unfolding(crate::specs::Parts::read))]
+    pub(crate) fn wire(&mut self, alloc: Global) -> Result<Option<WireExpr>, AllocError>
+        ensures { IfOk result (λ found. read wire self.old ≡ option_map (λ value. (value, self.new)) found) }
+    {
+        let Some(field) = self.next() else {
+            return Ok(None);
+        };
+        parse_wire(alloc, field)
+    }
+
+    #[tactic(auto, unfolding(crate::specs::Parts::read))]
+    pub(crate) fn payload(&mut self, alloc: Global) -> Result<Option<ZBytes>, AllocError>
+        ensures { IfOk result (λ found. read payload self.old ≡ option_map (λ value. (value, self.new)) found) }
+    {
+        let Some(field) = self.next() else {
+            return Ok(None);
+        };
+        parse_payload(alloc, field)
+    }
+}
+
+/// Options: one that is absent, or whose value is out of form, is not taken.
+impl<'a> Fields<'a> {
+    #[tactic(auto, unfolding(crate::specs::Parts::read))]
+    pub(crate) fn encoding(&mut self, alloc: Global) -> Result<Text, AllocError>
+        ensures { IfOk result (λ value. read encoding self.old ≡ Some (value, self.new)) }
+    {
+        let Some(text) = self.named("enc=") else {
+            return Ok(default_encoding());
+        };
+        let found = parse_encoding(alloc, text)?;
+        self.skip();
+        Ok(found)
+    }
+
+    #[tactic(auto, unfolding(crate::specs::Parts::read))]
+    pub(crate) fn own_encoding(&mut self, alloc: Global) -> Result<Option<Text>, AllocError>
+        ensures { IfOk result (λ value. read own_encoding self.old ≡ Some (value, self.new)) }
+    {
+        let Some(text) = self.named("enc=") else {
+            return Ok(None);
+        };
+        let found = parse_encoding(alloc, text)?;
+        self.skip();
+        Ok(Some(found))
+    }
+
+    #[tactic(auto, unfolding(crate::specs::Parts::read))]
+    pub(crate) fn timestamp(&mut self) -> Option<Timestamp>
+        ensures { read timestamp self.old ≡ Some (result, self.new) }
+    {
+        let found = parse_timestamp(self.named("ts=")?)?;
+        self.skip();
+        Some(found)
+    }
+
+    /// Quality of service: three options. The priority is `least` at least.
+    #[tactic(auto, unfolding(crate::specs::Parts::read))]
+    pub(crate) fn qos(&mut self, least: u8, absent: CongestionControl) -> QoSType
+        ensures { read (qos least absent) self.old ≡ Some (result, self.new) }
+    {
+        QoSType {
+            priority: self.priority(least),
+            congestion: self.congestion(absent),
+            express: self.flag("express=", false),
+        }
+    }
+
+    fn priority(&mut self, least: u8) -> u8
+        ensures { option_in (codes "prio=") (priority_of least) 5 self.old ≡ (result, self.new) }
+    {
+        let Some(text) = self.named("prio=") else {
+            return 5;
+        };
+        let Some(found) = parse_priority(least, text) else {
+            return 5;
+        };
+        self.skip();
+        found
+    }
+
+    fn congestion(&mut self, absent: CongestionControl) -> CongestionControl
+        ensures { option_in (codes "cc=") congestion_of absent self.old ≡ (result, self.new) }
+    {
+        let Some(text) = self.named("cc=") else {
+            return absent;
+        };
+        let Some(found) = parse_congestion(text) else {
+            return absent;
+        };
+        self.skip();
+        found
+    }
+
+    fn flag(&mut self, name: &str, absent: bool) -> bool
+        ensures { option_in name.now flag_of absent self.old ≡ (result, self.new) }
+    {
+        let Some(text) = self.named(name) else {
+            return absent;
+        };
+        let Some(found) = parse_flag(text) else {
+            return absent;
+        };
+        self.skip();
+        found
+    }
+
+    #[tactic(auto, unfolding(crate::specs::Parts::read))]
+    pub(crate) fn reliable(&mut self) -> bool
+        ensures { read reliable self.old ≡ Some (result, self.new) }
+    {
+        self.flag("rel=", true)
+    }
+
+    #[tactic(auto, unfolding(crate::specs::Parts::read))]
+    pub(crate) fn source(&mut self) -> Option<SourceInfo>
+        ensures { read source self.old ≡ Some (result, self.new) }
+    {
+        let found = parse_source(self.named("src=")?)?;
+        self.skip();
+        Some(found)
+    }
+
+    #[tactic(auto, unfolding(crate::specs::Parts::read))]
+    pub(crate) fn attachment(&mut self, alloc: Global) -> Result<Option<ZBytes>, AllocError>
+        ensures { IfOk result (λ value. read attachment self.old ≡ Some (value, self.new)) }
+    {
+        let Some(text) = self.named("att=") else {
+            return Ok(None);
+        };
+        let Some(found) = parse_payload(alloc, text)? else {
+            return Ok(None);
+        };
+        self.skip();
+        Ok(Some(found))
+    }
+}
