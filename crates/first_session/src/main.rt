@@ -22,18 +22,23 @@ fn put(alloc: Global, key: &str, text: &str) -> Result<Event, AllocError> {
         key: KeyArg::Text(Text::of(alloc, key)?),
         payload: ZBytes::from_str(alloc, text)?,
         encoding: Text::of(alloc, "text/plain")?,
+        timestamp: None,
         qos: QoSType {
             priority: 5,
             congestion: CongestionControl::Drop,
             express: false,
         },
         reliable: true,
+        source: None,
+        attachment: None,
     })
 }
 
 /// Prints an effect as a program would act on it.
 fn act(rt: &impl Print, effect: &Effect) -> Result<()> {
     match effect {
+        // What it would send, the printed turn has told.
+        Effect::Send(_) => {}
         Effect::Hand(HandOver::Sample { id, sample, .. }) => {
             let key = sample.key_expr().as_str();
             let size = sample.payload().len();
@@ -54,7 +59,8 @@ fn run(rt: &impl Print, alloc: Global) -> Result<()> {
     ];
     for (index, event) in events.iter().enumerate() {
         let turn = state.step(event)?;
-        let text = print_turn(alloc, (index as u64).saturating_add(1), &turn)?;
+        let lines = print_turn(alloc, (index as u64).saturating_add(1), &turn)?;
+        let text = lines.as_str();
         print!(rt; "{text}")?;
         for effect in turn.effects.as_slice() {
             act(rt, effect)?;

@@ -19,7 +19,8 @@ usage: zenoh_drive [drive [SETTING]..]  drives a session by the script on standa
        zenoh_drive --help               prints this
        zenoh_drive --version            prints the version
 
-The settings come in any order, each at most once. In brackets: what it is without.
+The settings come in any order, each at most once but the last two, which keep
+their order among themselves. In brackets: what it is without.
   zid=HEX       the session's identifier: 1 to 32 hexadecimal digits, not 0 (1)
   tag=N         what the keys that it declares are marked with:
                 up to 18446744073709551615 (1)
@@ -27,6 +28,9 @@ The settings come in any order, each at most once. In brackets: what it is witho
   key=N         the number of the first declared key: 1 to 65535 (1)
   line=N        the most bytes of a line: 1 to 1048576 (65536)
   turns=N       the most reads of the input: 1 to 18446744073709551615 (4294967296)
+  aggsub=KEY    a key expression: subscribers on keys that it includes are told to
+                the network as one subscriber on it (none)
+  aggpub=KEY    the same for publishers (none)
 No N and no HEX begins with a 0 that could go.
 
 A script line is one event. A tab stands between its fields:
@@ -34,16 +38,31 @@ A script line is one event. A tab stands between its fields:
   undeclare key #N              gives a declared key back
   sub LOC KEY                   declares a subscriber
   undeclare sub N               ends the subscriber of that number
-  put LOC KEY BYTES             puts a value
+  background sub N              leaves it to itself: it can no longer be named
+  pub LOC KEY [OPTION]..        declares a publisher: enc prio cc express rel
+  undeclare pub N               ends the publisher of that number
+  put LOC KEY BYTES [OPTION]..  puts a value: enc ts prio cc express rel src att
+  delete LOC KEY [OPTION]..     deletes a value: ts prio cc express rel src att
+  pput N BYTES [OPTION]..       a publisher puts: enc ts src att
+  pdel N [OPTION]..             a publisher deletes: ts src att
   close                         closes the session, as the end of input does
   net keyexpr N WIRE            the network tells what its number N stands for
   net unkeyexpr N               it gives the number back, which changes nothing
-  net push WIRE put BYTES       a put comes in from the network
+  net push WIRE put BYTES [..]  a put comes in from the network, options as put's
+  net push WIRE del [OPTION]..  a deletion comes in, options as delete's
   net close                     the other side closed, which changes nothing
 LOC is any, local or remote. KEY is a key expression, or #N or #N:TEXT for the
 declared key N with a text behind it. WIRE is s0:TEXT, or sN:TEXT for a number of
 the network, or rN:TEXT for one of this session. BYTES is x and hexadecimal
 digits, two for each byte.
+
+An option is a field NAME=VALUE. Options stand behind the other fields, in the order
+given, each at most once:
+  enc=TEXT   the encoding           ts=N:HEX      a time, and who took it
+  prio=N     1 to 7 (on net 0 to 7) cc=WORD       drop or block
+  express=N  0 or 1                 rel=N         0 or 1
+  src=HEX:N:N  the session, the entity and a number in its sequence
+  att=BYTES  bytes beside the payload
 
 Status: 0 the end was reached; 2 bad words; 3 a line is no event; 4 a line is too
 long; 5 too many reads; 6 the input failed; 7 the output failed; 8 no memory.

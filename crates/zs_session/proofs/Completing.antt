@@ -1,4 +1,4 @@
-use Rattle.std.proofs.Common.{◌≡◌, ℕ, ◌≤◌, ◌<◌, List, [], ◌∷◌, ◌++◌, length, Bool, true, false, Option, Some, None, refl, sym, ◌∙◌, ap, subst, arith, length-append}
+use Rattle.std.proofs.Common.{◌≡◌, ℕ, ◌<◌, List, [], ◌∷◌, ◌++◌, length, Bool, true, false, Option, Some, None, refl, ◌∙◌, ap, subst, arith, length-append}
 use Rattle.zs_keys.specs.Stream.{TakesOff}
 use Rattle.std.specs.Prelude.{◌&&◌, is_some, nat_le, Result, Ok, Err}
 use Rattle.std.proofs.lemmas.Bool.Decides.{nat_tests}
@@ -9,7 +9,7 @@ use Rattle.zs_session.specs.declared.driving.Driven.{Driven}
 use Rattle.zs_session.specs.declared.errors.DriveError.{DriveError}
 use Rattle.zs_session.specs.declared.errors.DriveError.TheVariants.{ReadFault, WriteFault, BadLine, LineTooLong, OutOfTurns, NoMemory}
 use Rattle.zs_session.specs.Script.{is_good}
-use Rattle.zs_session.specs.Driving.{StopsAt, IsNoEvent, IsLong, AreGood, HasSpentTurns, IsValid, Completes, Drives, Supply, Outlet}
+use Rattle.zs_session.specs.Driving.{StopsAt, IsNoEvent, IsLong, AreGood, HasSpentTurns, Completes, Drives, Supply, Outlet}
 
 -- a row among good rows is good
 good_at : (max : ℕ) (before : List (List ℕ)) (row : List ℕ) (after : List (List ℕ)) → AreGood max (before ++ row ∷ after) → is_good max row ≡ true

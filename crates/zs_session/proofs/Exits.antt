@@ -1,16 +1,15 @@
 -- What a run says where it stops with an error.
-use Rattle.std.proofs.Common.{◌≡◌, ℕ, ◌+◌, ◌-◌, ◌≤◌, List, [], ◌∷◌, ◌++◌, length, Bool, true, false, Option, Some, None, refl, sym, ◌∙◌, ap, subst, append_assoc, arith, inl, inr}
+use Rattle.std.proofs.Common.{◌≡◌, ℕ, ◌+◌, ◌-◌, ◌≤◌, List, [], ◌++◌, length, Bool, true, false, Option, Some, None, refl, sym, ◌∙◌, ap, subst, append_assoc, arith, inl, inr}
 use Rattle.std.specs.Prelude.{Result, Ok, Err, IfOk, IsErrAnd}
 use Rattle.std.proofs.lemmas.List.{append-nil}
 use Rattle.std.proofs.lemmas.Bool.Decides.{nat_tests}
 use Rattle.std.proofs.lemmas.Result.{err_from_is_err_and}
 use Rattle.zs_keys.specs.Stream.{HasRisen, PutsOn, TakesOff, count_after}
 use Rattle.zs_core.specs.World.{World}
-use Rattle.zs_core.specs.declared.event.Event.{Event}
+use Rattle.zs_events.specs.declared.event.Event.{Event}
 use Rattle.zs_core.specs.declared.settings.Settings.{Settings}
 use Rattle.zs_script.specs.Reading.{Reading, Reads, Answers, IsAtEnd, IsSpent}
 use Rattle.zs_script.specs.Writing.{PutsFrontOn}
-use Rattle.zs_script.specs.declared.reader.Line.{Line}
 use Rattle.zs_script.specs.declared.reader.LineError.{LineError}
 use Rattle.zs_script.specs.declared.reader.LineError.TheVariants.{ReadFault as read_fault, LineTooLong as long_line, OutOfTurns as out_of_turns, NoMemory as no_memory}
 use Rattle.zs_script.proofs.Answering.{count-none, count-two}
@@ -20,7 +19,7 @@ use Rattle.zs_session.specs.declared.errors.DriveError.{DriveError}
 use Rattle.zs_session.specs.declared.errors.DriveError.TheVariants.{ReadFault, WriteFault, BadLine, LineTooLong, OutOfTurns, NoMemory}
 use Rattle.zs_session.specs.Driving.{Drives, HasSpentTurns, IsDone, IsFront, StopsAt, IsNoEvent, IsLong, PutsWaiting, Supply, Outlet}
 use Rattle.zs_session.specs.Errors.{drive_error}
-use Rattle.zs_session.proofs.Progress.{Progress, fresh, front_read}
+use Rattle.zs_session.proofs.Progress.{Progress, fresh, front_none, front_read}
 
 -- what each error comes from
 abbrev pub CauseOf : Settings → DriveError → Supply → Supply → Outlet → Outlet → (List ℕ → Type 0) → Type 0
@@ -296,3 +295,19 @@ counted_fresh s before =
 -- an error of an inner call, known to be that of a write
 pub handed_error : (r : Result Driven DriveError) (e : DriveError) → IsErrAnd r (λ y. y ≡ e) → e ≡ WriteFault → IsErrAnd r (λ y. y ≡ WriteFault)
 handed_error r e now same = let P : DriveError → Type 0 = λ x. IsErrAnd r (λ y. y ≡ x) in subst P same now
+
+puts_nothing : (written : Option (List ℕ)) → PutsOn written [] written
+puts_nothing None = tt
+puts_nothing (Some taken) = ap (λ (b : List ℕ). Some b) (sym (append-nil taken))
+
+-- nothing was read and nothing put out, for want of memory
+pub unstarted : (s : Settings) (before : Supply) (from : Outlet)
+    → Drives s (Err NoMemory) before before from from (λ output. PutsOn from.written output from.written)
+unstarted s before from =
+    let Puts : List ℕ → Type 0 = λ output. PutsOn from.written output from.written in
+    stops s NoMemory before before from from Puts (record {
+      front = front_none s before.left Puts (puts_nothing from.written);
+      few_reads = omega arith;
+      source_later = omega arith;
+      sink_later = omega arith;
+    }) tt

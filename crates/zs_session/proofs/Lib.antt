@@ -1,8 +1,10 @@
 pub mod Cutting
 pub mod PlainKeys
+pub mod PlainSends
 pub mod Telling
 pub mod Scripts
 pub mod Progress
 pub mod Exits
 pub mod Completing
 pub mod WordExamples
+pub mod PlainWords

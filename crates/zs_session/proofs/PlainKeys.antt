@@ -1,88 +1,183 @@
 -- The texts that stand in a past are plain, where its events are.
-use Rattle.std.proofs.Common.{◌≡◌, ◌++◌, List, [], ◌∷◌, Bool, true, false, Option, Some, None, IfSome}
-use Rattle.std.specs.Prelude.{ℕ, ◌==◌, option_map, if◌then◌else◌, encode_utf8_all}
-use Rattle.std.specs.List.{AllByRecursion}
-use Rattle.zs_core.specs.declared.event.Event.{Event}
-use Rattle.zs_core.specs.declared.event.KeyArg.{KeyArg}
-use Rattle.zs_core.specs.declared.event.KeyArg.TheVariants.{Text, Number}
+use Rattle.std.proofs.Common.{◌≡◌, ◌++◌, List, [], ◌∷◌, Bool, true, false, Option, Some, None, IfSome, refl}
+use Rattle.std.specs.Prelude.{ℕ, ◌==◌, ◌&&◌, filter, option_map, unwrap_or, if◌then◌else◌, encode_utf8_all}
+use Rattle.std.specs.List.{AllByRecursion, find, list_all}
+use Rattle.std.specs.Str.{IsUtf8, all_scalars}
+use Rattle.std.proofs.lemmas.Bool.{and_parts}
+use Rattle.std.proofs.lemmas.Str.{IsUtf8-append}
+use Rattle.zs_events.specs.declared.event.Event.{Event}
+use Rattle.zs_events.specs.declared.event.Event.TheVariants.{Pub, Put, Delete, PublisherPut, PublisherDelete, Net}
+use Rattle.zs_events.specs.declared.event.KeyArg.{KeyArg}
+use Rattle.zs_events.specs.declared.event.KeyArg.TheVariants.{Text, Number, Declared}
 use Rattle.zs_core.specs.declared.settings.Settings.{Settings}
-use Rattle.zs_core.specs.declared.turn.Refusal.{Refusal}
+use Rattle.zs_events.specs.declared.turn.Kind.TheVariants.{Publisher}
+use Rattle.zs_events.specs.declared.turn.Refusal.{Refusal}
+use Rattle.zs_sample.specs.Encoding.{encoding_of}
+use Rattle.zs_wire.specs.declared.message.Message.TheVariants.{Push}
+use Rattle.zs_wire.specs.declared.sample_kind.SampleKind.TheVariants.{Put as put_kind, Delete as delete_kind}
 use Rattle.zs_wire.specs.declared.wire_expr.Mapping.{Mapping}
 use Rattle.zs_wire.specs.declared.wire_expr.Mapping.TheVariants.{Sender, Receiver}
 use Rattle.zs_wire.specs.declared.wire_expr.WireExpr.{WireExpr}
-use Rattle.zs_core.specs.Kinds.{NamedKey, NoKey, OwnKey, WireKey, row_of}
+use Rattle.zs_events.specs.Kinds.{NamedKey, NoKey, OwnKey, PublisherKey, WireKey, PublisherContent, Publishes, NoContent, OwnContent, ByPublisher, default_encoding, text_if, row_of}
 use Rattle.zs_core.specs.Entry.{Entry, is_closed}
 use Rattle.std.specs.Option.{option_or}
 use Rattle.zs_core.specs.Held.{declares_number, tells_number, is_held, drawn_text, held_text, key_text, told_text, mapped_text, wire_text, text_named, named_text}
 use Rattle.zs_core.specs.Causes.{refusal_of}
+use Rattle.zs_core.specs.declared.publisher.PubRow.{PubRow}
+use Rattle.zs_core.specs.Live.{appended, declared, is_live, live_pubs}
+use Rattle.zs_core.specs.Publishers.{pub_row, pub_at, content_of, resolved}
+use Rattle.zs_session.proofs.Cutting.{all_append}
 use Rattle.zs_core.specs.Past.{entry_of, with_entry, past_of}
-use Rattle.zs_script.specs.Plain.{is_plain, is_plain_key, is_plain_named, is_plain_content, is_plain_event}
+use Rattle.zs_script.specs.Plain.{is_plain, is_plain_text, is_field_text, is_plain_key, is_plain_named, is_plain_event}
 use Rattle.zs_script.proofs.PlainTexts.{plain-append}
-use Rattle.zs_session.proofs.Cutting.{both}
 
-abbrev pub IsPlain : List ℕ → Type 0
-IsPlain text = is_plain text ≡ true
+-- bytes of characters, without a tab and a line feed
+abbrev pub IsText : List ℕ → Type 0
+IsText text = (is_plain text ≡ true) × IsUtf8 text
 
 abbrev pub PlainEvents : List Event → Type 0
 PlainEvents es = AllByRecursion (λ e. is_plain_event e ≡ true) es
 
--- the texts that were resolved in a past are plain
-abbrev pub PlainPast : List Entry → Type 0
-PlainPast past = AllByRecursion (λ x. IfSome x.text IsPlain) past
+-- the bytes of a field's text
+pub field_text : (text : List ℕ) → is_field_text text ≡ true → IsText (encode_utf8_all text)
+field_text text plain = let parts = and_parts (all_scalars text) (is_plain_text text) plain in (parts.1, (text, (parts.0, refl)))
 
-drawn_plain : (n : ℕ) (past : List Entry) → PlainPast past → IfSome (drawn_text n past) IsPlain
+pub field_plain : (text : List ℕ) → is_field_text text ≡ true → is_plain_text text ≡ true
+field_plain text plain = (and_parts (all_scalars text) (is_plain_text text) plain).1
+
+-- the one text of an event beside that of its key
+pub last_plain : (key : Bool) (text : List ℕ) → (key && (is_field_text text && true)) ≡ true → is_plain_text text ≡ true
+last_plain key text plain = field_plain text (and_parts (is_field_text text) true (and_parts key (is_field_text text && true) plain).1).0
+
+pub joined_text : (text more : List ℕ) → IsText text → IsText more → IsText (text ++ more)
+joined_text text more a b = (plain-append text more a.0 b.0, IsUtf8-append text more a.1 b.1)
+
+abbrev AllPlain : List (List ℕ) → Type 0
+AllPlain texts = AllByRecursion (λ text. is_plain_text text ≡ true) texts
+
+-- the encoding that an event names, if it names one
+named_encoding : (encoding : Option (List ℕ)) → list_all is_field_text (text_if encoding) ≡ true → AllPlain (text_if encoding)
+named_encoding None plain = tt
+named_encoding (Some text) plain = (field_plain text (and_parts (is_field_text text) true plain).0, tt)
+
+-- the encoding where none is named is plain
+pub default_plain : is_plain_text default_encoding ≡ true
+unfolding lib.Utf8.encode
+default_plain = refl
+
+-- the empty encoding stands for that one
+pub plain_encoding : (encoding : List ℕ) → is_plain_text encoding ≡ true → is_plain_text (encoding_of encoding) ≡ true
+unfolding lib.Utf8.encode
+plain_encoding [] plain = refl
+plain_encoding (c ∷ cs) plain = plain
+
+-- the text that was resolved for an event is plain, and so are its own
+abbrev pub PlainEntry : Entry → Type 0
+PlainEntry x = IfSome x.text IsText × (is_plain_event x.event ≡ true)
+
+-- the texts in a past are plain
+abbrev pub PlainPast : List Entry → Type 0
+PlainPast past = AllByRecursion PlainEntry past
+
+-- what holds of all elements holds of those that pass a test, and of the first one that does
+filter_all : {X : Type 0} (P : X → Type 0) (f : X → Bool) (xs : List X) → AllByRecursion P xs → AllByRecursion P (filter f xs)
+filter_all P f [] all = tt
+filter_all P f (x ∷ xs) all = go (f x) (filter_all P f xs all.1)
+  where
+    go : (b : Bool) → AllByRecursion P (filter f xs) → AllByRecursion P (if b then x ∷ filter f xs else filter f xs)
+    go true rest = (all.0, rest)
+    go false rest = rest
+
+pub found_all : {X : Type 0} (P : X → Type 0) (f : X → Bool) (xs : List X) → AllByRecursion P xs → IfSome (find f xs) P
+found_all P f [] all = tt
+found_all P f (x ∷ xs) all = go (f x) (found_all P f xs all.1)
+  where
+    go : (b : Bool) → IfSome (find f xs) P → IfSome (if b then Some x else find f xs) P
+    go true rest = all.0
+    go false rest = rest
+
+-- the texts of a publisher are plain
+abbrev pub PlainPub : PubRow → Type 0
+PlainPub row = IsText row.key.text × (is_plain_text row.encoding ≡ true)
+
+abbrev pub PlainPubs : List PubRow → Type 0
+PlainPubs rows = AllByRecursion PlainPub rows
+
+pub_plain : (e : Event) (number : Option ℕ) (text : Option (List ℕ)) → IfSome text IsText → is_plain_event e ≡ true → PlainPubs (pub_row e number text)
+pub_plain (Pub destination key encoding qos reliable) (Some number) (Some text) named plain = ((named, last_plain (is_plain_key key) encoding plain), tt)
+pub_plain e number text named plain = tt
+
+declared_plain : (past : List Entry) → PlainPast past → PlainPubs (declared pub_row past)
+declared_plain [] all = tt
+declared_plain (x ∷ past) all = go (pub_row x.event x.number x.text) (declared_plain past all.1) (pub_plain x.event x.number x.text all.0.0 all.0.1)
+  where
+    go : (rows : List PubRow) → PlainPubs (declared pub_row past) → PlainPubs rows → PlainPubs (appended (declared pub_row past) rows)
+    go [] before here = before
+    go (row ∷ rows) before here = all_append PlainPub (declared pub_row past) (row ∷ rows) before here
+
+-- the live publishers of a plain past are plain
+pub pubs_plain : (past : List Entry) → PlainPast past → PlainPubs (live_pubs past)
+pubs_plain past all = filter_all PlainPub (λ row. is_live Publisher row.id past) (declared pub_row past) (declared_plain past all)
+
+drawn_plain : (n : ℕ) (past : List Entry) → PlainPast past → IfSome (drawn_text n past) IsText
 drawn_plain n [] all = tt
 drawn_plain n (x ∷ past) all = go (drawn_text n past) (declares_number n x.event x.number) (drawn_plain n past all.1)
   where
-    go : (was : Option (List ℕ)) (b : Bool) → IfSome was IsPlain → IfSome (option_or was (if b then x.text else None)) IsPlain
+    go : (was : Option (List ℕ)) (b : Bool) → IfSome was IsText → IfSome (option_or was (if b then x.text else None)) IsText
     go (Some text) b plain = plain
-    go None true plain = all.0
+    go None true plain = all.0.0
     go None false plain = tt
 
-held_plain : (n : ℕ) (past : List Entry) → PlainPast past → IfSome (held_text n past) IsPlain
+pub held_plain : (n : ℕ) (past : List Entry) → PlainPast past → IfSome (held_text n past) IsText
 held_plain n past all = go (is_held n past)
   where
-    go : (b : Bool) → IfSome (if b then drawn_text n past else None) IsPlain
+    go : (b : Bool) → IfSome (if b then drawn_text n past else None) IsText
     go true = drawn_plain n past all
     go false = tt
 
-told_plain : (n : ℕ) (past : List Entry) → PlainPast past → IfSome (told_text n past) IsPlain
+told_plain : (n : ℕ) (past : List Entry) → PlainPast past → IfSome (told_text n past) IsText
 told_plain n [] all = tt
 told_plain n (x ∷ past) all = go (tells_number n x.event) (told_plain n past all.1)
   where
-    go : (b : Bool) → IfSome (told_text n past) IsPlain → IfSome (if b then x.text else told_text n past) IsPlain
-    go true plain = all.0
+    go : (b : Bool) → IfSome (told_text n past) IsText → IfSome (if b then x.text else told_text n past) IsText
+    go true plain = all.0.0
     go false plain = plain
 
-mapped_plain : (mapping : Mapping) (n : ℕ) (past : List Entry) → PlainPast past → IfSome (mapped_text mapping n past) IsPlain
+mapped_plain : (mapping : Mapping) (n : ℕ) (past : List Entry) → PlainPast past → IfSome (mapped_text mapping n past) IsText
 mapped_plain Sender n past all = told_plain n past all
 mapped_plain Receiver n past all = held_plain n past all
 
-suffixed_plain : (suffix : List ℕ) (text : Option (List ℕ)) → IfSome text IsPlain → is_plain (encode_utf8_all suffix) ≡ true
-    → IfSome (option_map (λ (t : List ℕ). t ++ encode_utf8_all suffix) text) IsPlain
+suffixed_plain : (suffix : List ℕ) (text : Option (List ℕ)) → IfSome text IsText → is_field_text suffix ≡ true
+    → IfSome (option_map (λ (t : List ℕ). t ++ encode_utf8_all suffix) text) IsText
 suffixed_plain suffix None at plain = tt
-suffixed_plain suffix (Some text) at plain = plain-append text (encode_utf8_all suffix) at plain
+suffixed_plain suffix (Some text) at plain = joined_text text (encode_utf8_all suffix) at (field_text suffix plain)
 
-key_plain : (past : List Entry) (key : KeyArg) → PlainPast past → is_plain_key key ≡ true → IfSome (key_text past key) IsPlain
-key_plain past (Text text) all plain = plain
+key_plain : (past : List Entry) (key : KeyArg) → PlainPast past → is_plain_key key ≡ true → IfSome (key_text past key) IsText
+key_plain past (Text text) all plain = field_text text plain
 key_plain past (Number n suffix) all plain = suffixed_plain suffix (held_text n past) (held_plain n past all) plain
+key_plain past (Declared text n prefix_len) all plain = field_text text plain
 
-wire_plain : (past : List Entry) (wire : WireExpr) → PlainPast past → is_plain (encode_utf8_all wire.suffix) ≡ true → IfSome (wire_text past wire) IsPlain
+wire_plain : (past : List Entry) (wire : WireExpr) → PlainPast past → is_field_text wire.suffix ≡ true → IfSome (wire_text past wire) IsText
 wire_plain past wire all plain = go (wire.scope == 0)
   where
-    go : (b : Bool) → IfSome (if b then Some (encode_utf8_all wire.suffix) else option_map (λ (t : List ℕ). t ++ encode_utf8_all wire.suffix) (mapped_text wire.mapping wire.scope past)) IsPlain
-    go true = plain
+    go : (b : Bool) → IfSome (if b then Some (encode_utf8_all wire.suffix) else option_map (λ (t : List ℕ). t ++ encode_utf8_all wire.suffix) (mapped_text wire.mapping wire.scope past)) IsText
+    go true = field_text wire.suffix plain
     go false = suffixed_plain wire.suffix (mapped_text wire.mapping wire.scope past) (mapped_plain wire.mapping wire.scope past all) plain
 
 -- the text that the key of a plain event stands for is plain
-named_plain : (past : List Entry) (key : NamedKey) → PlainPast past → is_plain_named key ≡ true → IfSome (text_named past key) IsPlain
+named_plain : (past : List Entry) (key : NamedKey) → PlainPast past → is_plain_named key ≡ true → IfSome (text_named past key) IsText
 named_plain past NoKey all plain = tt
 named_plain past (OwnKey key) all plain = key_plain past key all plain
+named_plain past (PublisherKey id) all plain = go (pub_at id (live_pubs past)) (found_all PlainPub (λ row. row.id == id) (live_pubs past) (pubs_plain past all))
+  where
+    go : (o : Option PubRow) → IfSome o PlainPub → IfSome (option_map (λ row. row.key.text) o) IsText
+    go None row = tt
+    go (Some row) found = found.0
 named_plain past (WireKey wire) all plain = wire_plain past wire all plain
 
-pub text_plain : (past : List Entry) (e : Event) → PlainPast past → is_plain_event e ≡ true → IfSome (named_text past e) IsPlain
+pub text_plain : (past : List Entry) (e : Event) → PlainPast past → is_plain_event e ≡ true → IfSome (named_text past e) IsText
 text_plain past e all plain =
-    named_plain past (row_of e).key all (both (is_plain_content (row_of e).publishes) (is_plain_named (row_of e).key) plain).1
+    named_plain past (row_of e).key all (and_parts (is_plain_named (row_of e).key) (list_all is_field_text (row_of e).texts) plain).0
 
 pub past_plain : (s : Settings) (h : List Event) → PlainEvents h → PlainPast (past_of s h)
 past_plain s [] plain = tt
@@ -91,4 +186,44 @@ past_plain s (e ∷ h) plain = go (refusal_of s (past_of s h) e) (is_closed (pas
     go : (o : Option Refusal) (closed : Bool) → PlainPast (past_of s h) → PlainPast (with_entry o closed (entry_of s (past_of s h) e) (past_of s h))
     go (Some refusal) closed all = all
     go None true all = all
-    go None false all = (text_plain (past_of s h) e all plain.0, all)
+    go None false all = ((text_plain (past_of s h) e all plain.0, plain.0), all)
+
+-- the encoding that a publication names is plain
+abbrev pub PlainContent : Publishes → Type 0
+PlainContent NoContent = Unit {0}
+PlainContent (OwnContent c) = is_plain_text c.body.encoding ≡ true
+PlainContent (ByPublisher id c) = Unit {0}
+
+-- what a publisher publishes names its own encoding, or another plain one
+published_plain : (c : PublisherContent) (o : Option PubRow) → AllPlain (text_if c.encoding) → IfSome o PlainPub → PlainContent (content_of c o)
+published_plain c None named row = tt
+published_plain c (Some row) named found = go c.encoding named
+  where
+    go : (o : Option (List ℕ)) → AllPlain (text_if o) → is_plain_text (encoding_of (unwrap_or o row.encoding)) ≡ true
+    go None named = plain_encoding row.encoding found.1
+    go (Some text) named = plain_encoding text named.0
+
+pub content_plain : (pubs : List PubRow) (e : Event) → PlainPubs pubs → is_plain_event e ≡ true → PlainContent (resolved pubs (row_of e).publishes)
+content_plain pubs (Put destination key payload encoding timestamp qos reliable source attachment) all plain =
+    plain_encoding encoding (last_plain (is_plain_key key) encoding plain)
+content_plain pubs (Delete destination key timestamp qos reliable source attachment) all plain = default_plain
+content_plain pubs (PublisherPut id payload encoding timestamp source attachment) all plain =
+    published_plain (record {
+      kind = put_kind;
+      payload = payload;
+      encoding = encoding;
+      timestamp = timestamp;
+      source = source;
+      attachment = attachment;
+    }) (pub_at id pubs) (named_encoding encoding plain) (found_all PlainPub (λ row. row.id == id) pubs all)
+content_plain pubs (PublisherDelete id timestamp source attachment) all plain =
+    published_plain (record {
+      kind = delete_kind;
+      payload = [];
+      encoding = Some default_encoding;
+      timestamp = timestamp;
+      source = source;
+      attachment = attachment;
+    }) (pub_at id pubs) (default_plain, tt) (found_all PlainPub (λ row. row.id == id) pubs all)
+content_plain pubs (Net (Push push)) all plain = last_plain (is_field_text push.wire.suffix) push.body.encoding plain
+content_plain pubs e all plain = tt

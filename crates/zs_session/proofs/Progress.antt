@@ -1,26 +1,26 @@
 -- How far a run has come, and what each exit of its loop says.
-use Rattle.std.proofs.Common.{◌≡◌, ℕ, suc, ◌+◌, ◌-◌, ◌≤◌, List, [], ◌∷◌, ◌++◌, length, Bool, true, false, Option, Some, None, refl, sym, ◌∙◌, ap, subst, append_assoc, length-append, arith}
-use Rattle.std.specs.Prelude.{◌&&◌, nat_le, Result, Ok, Err, IsErrAnd}
+use Rattle.std.proofs.Common.{◌≡◌, ℕ, suc, ◌+◌, ◌≤◌, List, [], ◌∷◌, ◌++◌, length, Bool, true, false, Option, Some, None, refl, sym, ◌∙◌, ap, subst, append_assoc, length-append, arith}
+use Rattle.std.specs.Prelude.{◌&&◌, nat_le}
 use Rattle.std.proofs.lemmas.List.{append-nil}
 use Rattle.std.proofs.lemmas.List.Elements.{filter_map-append}
 use Rattle.std.proofs.lemmas.Bool.Decides.{nat_tests}
-use Rattle.zs_keys.specs.Stream.{PutsOn, TakesOff, HoldsNothing, count_after}
-use Rattle.zs_core.specs.declared.event.Event.{Event}
-use Rattle.zs_core.specs.declared.event.Event.TheVariants.{Close}
+use Rattle.zs_keys.specs.Stream.{TakesOff, HoldsNothing}
+use Rattle.zs_events.specs.declared.event.Event.{Event}
+use Rattle.zs_events.specs.declared.event.Event.TheVariants.{Close}
 use Rattle.zs_core.specs.declared.settings.Settings.{Settings}
 use Rattle.zs_core.specs.World.{World}
 use Rattle.zs_core.specs.Effects.{effects}
 use Rattle.zs_core.specs.Stands.{world_after}
-use Rattle.zs_core.proofs.Filters.{all_append}
 use Rattle.zs_script.specs.Lines.{lines}
 use Rattle.zs_script.specs.Grammar.{event_of}
 use Rattle.zs_script.specs.Printing.{turn_text}
 use Rattle.zs_script.specs.Reading.{Reading, Reads, IsAtEnd, IsSpent, GivesLine, IsTooLong}
 use Rattle.zs_script.specs.Writing.{PutsFrontOn}
-use Rattle.zs_script.proofs.Answering.{takes-two, count-none, count-two}
+use Rattle.zs_script.proofs.Answering.{takes-two}
 use Rattle.zs_script.proofs.Pieces.{both-pieces}
 use Rattle.zs_session.specs.Script.{is_good, events_of, script, text_after, text}
-use Rattle.zs_session.specs.Driving.{AreGood, BeginsWith, HasRead, HasSpentTurns, IsDone, IsFront, NextIs, StopsAt, IsNoEvent, IsLong, PutsWaiting, Supply}
+use Rattle.zs_session.specs.Driving.{AreGood, HasRead, IsDone, IsFront, StopsAt, IsNoEvent, IsLong, PutsWaiting}
+use Rattle.zs_session.proofs.Cutting.{all_append}
 use Rattle.zs_session.proofs.Scripts.{script_told}
 
 -- the history that events leave behind another; a history has its newest event first

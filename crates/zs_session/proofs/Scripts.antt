@@ -1,17 +1,16 @@
 use Rattle.std.proofs.Common.{◌≡◌, ℕ, List, [], ◌∷◌, true, Option, Some, None, refl}
 use Rattle.std.specs.List.{AllByRecursion, list_all}
-use Rattle.zs_core.specs.declared.event.Event.{Event}
+use Rattle.zs_events.specs.declared.event.Event.{Event}
 use Rattle.zs_core.specs.declared.settings.Settings.{Settings}
-use Rattle.zs_core.specs.declared.event.Event.TheVariants.{Close}
-use Rattle.zs_core.proofs.Filters.{all_append}
+use Rattle.zs_events.specs.declared.event.Event.TheVariants.{Close}
 use Rattle.zs_script.specs.Lines.{lines}
 use Rattle.zs_script.specs.Grammar.{event_of}
 use Rattle.zs_script.specs.Plain.{is_plain_event, has_no_line_feed}
 use Rattle.zs_script.proofs.PlainTexts.{lines-no-feed}
 use Rattle.zs_script.proofs.PlainEvents.{events-plain}
-use Rattle.zs_session.proofs.Cutting.{both}
+use Rattle.zs_session.proofs.Cutting.{both, all_append}
 use Rattle.zs_session.specs.Script.{events_of, script, text}
-use Rattle.zs_session.specs.Telling.{Told, told}
+use Rattle.zs_session.specs.Telling.{has_plain_aggregates, Told, told}
 use Rattle.zs_session.proofs.Telling.{text_told}
 
 -- the events of lines without line feeds are plain
@@ -32,5 +31,5 @@ plain_script input =
     all_append (λ e. is_plain_event e ≡ true) (events_of (lines input)) (Close ∷ []) (plain_events (lines input) (lines-no-feed input)) (refl, tt)
 
 -- the text of every script tells it
-pub script_told : (s : Settings) (input : List ℕ) → Told s (script input) (told (text s (script input)))
-script_told s input = text_told s [] (script input) tt (plain_script input)
+pub script_told : (s : Settings) (input : List ℕ) → has_plain_aggregates s ≡ true → Told s (script input) (told (text s (script input)))
+script_told s input plain = text_told s plain [] (script input) tt (plain_script input)

@@ -1,43 +1,50 @@
 -- The text of a script tells it: each turn's lines of refusals and hand-overs are those that tell its event.
 use Rattle.std.proofs.Common.{◌≡◌, ◌+◌, List, [], ◌∷◌, ◌++◌, length, Bool, true, false, Option, Some, None, IfSome, refl, sym, ◌∙◌, ap}
-use Rattle.std.specs.Prelude.{ℕ, if◌then◌else◌, encode_utf8_all, map, filter}
+use Rattle.std.specs.Prelude.{ℕ, if◌then◌else◌, map, filter}
 use Rattle.std.specs.List.{AllByRecursion, flat_map}
+use Rattle.std.proofs.lemmas.Bool.{and_parts, and_from}
+use Rattle.std.proofs.lemmas.List.{append-nil, map-append}
 use Rattle.std.proofs.lemmas.List.Elements.{filter-append}
-use Rattle.zs_core.specs.declared.event.Event.{Event}
-use Rattle.zs_core.specs.declared.event.Event.TheVariants.{Undeclare, Put, NetPut, Close}
+use Rattle.zs_events.specs.declared.event.Event.{Event}
+use Rattle.zs_events.specs.declared.event.Event.TheVariants.{Undeclare, Put, Delete, PublisherPut, PublisherDelete, Close, Net}
+use Rattle.zs_events.specs.declared.event.EntityKind.TheVariants.{Sub as sub_kind, Pub as pub_kind}
+use Rattle.zs_tables.specs.declared.group_kind.GroupKind.TheVariants.{Subscribers, Publishers, Queriers}
+use Rattle.zs_wire.specs.declared.message.Message.TheVariants.{Push}
+use Rattle.zs_wire.specs.declared.sample_kind.SampleKind.{SampleKind}
+use Rattle.zs_wire.specs.declared.sample_kind.SampleKind.TheVariants.{Put as put_kind, Delete as delete_kind}
 use Rattle.zs_core.specs.declared.settings.Settings.{Settings}
-use Rattle.zs_core.specs.declared.turn.Answer.TheVariants.{Ok as accepted, Refused}
-use Rattle.zs_core.specs.declared.turn.Answer.{Answer}
-use Rattle.zs_core.specs.declared.turn.Effect.{Effect}
-use Rattle.zs_core.specs.declared.turn.Effect.TheVariants.{Hand, End}
-use Rattle.zs_core.specs.declared.turn.HandOver.TheVariants.{Sample}
-use Rattle.zs_core.specs.declared.turn.Kind.{Kind}
-use Rattle.zs_core.specs.declared.turn.Kind.TheVariants.{Subscriber}
-use Rattle.zs_core.specs.declared.turn.Refusal.{Refusal}
-use Rattle.zs_core.specs.declared.turn.Turn.{Turn}
-use Rattle.zs_sample.specs.declared.sample_fields.SampleFields.{SampleFields}
-use Rattle.zs_sample.specs.Encoding.{encoding_of}
+use Rattle.zs_events.specs.declared.turn.Answer.TheVariants.{Ok as accepted, Refused}
+use Rattle.zs_events.specs.declared.turn.Effect.{Effect}
+use Rattle.zs_events.specs.declared.turn.Effect.TheVariants.{Hand}
+use Rattle.zs_events.specs.declared.turn.HandOver.TheVariants.{Sample}
+use Rattle.zs_events.specs.declared.turn.Kind.TheVariants.{Subscriber}
+use Rattle.zs_events.specs.declared.turn.Refusal.{Refusal}
+use Rattle.zs_events.specs.declared.turn.Turn.{Turn}
 use Rattle.zs_tables.specs.declared.subscriber.SubRow.{SubRow}
-use Rattle.zs_core.specs.Turn.{answered}
-use Rattle.zs_core.specs.Kinds.{Content, row_of, kind_of}
+use Rattle.zs_events.specs.Turn.{answered}
+use Rattle.zs_events.specs.Kinds.{Content, Publishes, NoContent, OwnContent, ByPublisher, row_of}
 use Rattle.zs_core.specs.Entry.{Entry, is_closed}
 use Rattle.zs_core.specs.Held.{named_text}
-use Rattle.zs_core.specs.Live.{live_subs}
+use Rattle.zs_core.specs.Live.{live_subs, live_pubs}
 use Rattle.zs_core.specs.Subscribers.{sub_ends}
-use Rattle.zs_core.specs.Publications.{Publication, allows, sample_on}
+use Rattle.zs_core.specs.Publications.{Publication, allows, handed_encoding, sample_on}
 use Rattle.zs_core.specs.Seen.{Sight}
 use Rattle.zs_core.specs.Causes.{past_sight, holds, in_order, first_that, refusal_of}
 use Rattle.zs_core.specs.Past.{entry_of, past_of}
-use Rattle.zs_core.specs.Effects.{publication_on, publication_of, hands_for, effects_on, turn_of, effects}
+use Rattle.zs_core.specs.Groups.{company_of}
+use Rattle.zs_core.specs.Publishers.{resolved}
+use Rattle.zs_core.specs.Effects.{publication_on, hands_for, hands_of, ends_of, known_of, effects_on, turn_of, effects}
 use Rattle.zs_script.specs.Lines.{lines}
-use Rattle.zs_script.specs.Printing.{line, turn_text, answer_fields, effect_fields}
-use Rattle.zs_script.specs.Plain.{is_plain, is_plain_named, is_plain_content, is_plain_event}
+use Rattle.zs_script.specs.Pieces.{written}
+use Rattle.zs_script.specs.Printing.{hand_pieces, line, turn_text, answer_fields, effect_fields}
+use Rattle.zs_script.specs.Plain.{is_plain, is_plain_text, is_plain_event, is_plain_effect}
 use Rattle.zs_script.proofs.PlainTexts.{fields-found}
 use Rattle.zs_script.proofs.PlainEffects.{answers-plain, effects-plain}
 use Rattle.zs_session.specs.Script.{text_after}
-use Rattle.zs_session.specs.Telling.{plain_line, tells, tells_behind, is_telling, told, published, hand_lines, refusal_or, event_lines, lines_after}
-use Rattle.zs_session.proofs.PlainKeys.{IsPlain, PlainPast, PlainEvents, text_plain, past_plain}
-use Rattle.zs_session.proofs.Cutting.{ArePlain, both, lines_all}
+use Rattle.zs_session.specs.Telling.{are_plain_keys, has_plain_aggregates, plain_line, tells, tells_behind, is_telling, told, published, hand_lines, refusal_or, event_lines, lines_after}
+use Rattle.zs_session.proofs.PlainKeys.{IsText, PlainPast, PlainEvents, PlainContent, default_plain, plain_encoding, content_plain, pubs_plain, held_plain, text_plain, past_plain}
+use Rattle.zs_session.proofs.PlainSends.{PlainSends, ArePlainGroups, sent_by, sends_quiet, sends_plain, all_sent}
+use Rattle.zs_session.proofs.Cutting.{ArePlain, all_append, lines_all}
 
 -- the fields of each line of a turn
 abbrev pub turn_rows : Turn → List (List (List ℕ))
@@ -62,15 +69,24 @@ telling_rows n (rows ∷ blocks) all =
     go true = refl
     go false = refl
 
+-- what tells among effects
+abbrev telling : List Effect → List (List (List ℕ))
+telling fx = filter tells (map effect_fields fx)
+
+telling-append : (fx gx : List Effect) → telling (fx ++ gx) ≡ telling fx ++ telling gx
+telling-append fx gx = ap (filter tells) (map-append effect_fields fx gx) ∙ filter-append tells (map effect_fields fx) (map effect_fields gx)
+
 -- all hand-overs to subscribers tell
 hands_tell : (n : ℕ) (p : Publication) (rows : List SubRow)
     → map (plain_line n) (filter tells (map effect_fields (map (λ row. Hand (Sample Subscriber row.id p.sample)) rows)))
     ≡ map (λ row. plain_line n (effect_fields (Hand (Sample Subscriber row.id p.sample)))) rows
+unfolding written hand_pieces
 hands_tell n p [] = refl
 hands_tell n p (row ∷ rows) = ap (λ more. plain_line n (effect_fields (Hand (Sample Subscriber row.id p.sample))) ∷ more) (hands_tell n p rows)
 
 -- no end tells
 ends_tell : (rows : List SubRow) → filter tells (map effect_fields (sub_ends rows)) ≡ []
+unfolding written
 ends_tell [] = refl
 ends_tell (row ∷ rows) = ends_tell rows
 
@@ -79,17 +95,43 @@ publication_told : (past : List Entry) (n : ℕ) (o : Option Publication)
 publication_told past n None = refl
 publication_told past n (Some p) = hands_tell n p (filter (allows p) (live_subs past))
 
+ends_quiet : (rows : List SubRow) (e : Event) → telling (ends_of rows e) ≡ []
+unfolding written
+ends_quiet rows (Undeclare sub_kind id) = refl
+ends_quiet rows (Undeclare pub_kind id) = refl
+ends_quiet rows Close = ends_tell rows
+ends_quiet rows e = refl
+
+-- what an event sends behind a past, given the number that it is answered
+abbrev sent : Settings → List Entry → Option ℕ → Event → List Effect
+sent s past number e = sent_by (known_of s past) number (named_text past e) e
+
+-- what an accepted event brings about
+abbrev brought : Settings → List Entry → Option ℕ → Event → List Effect
+brought s past number e = effects_on (known_of s past) number (named_text past e) e
+
 -- the effects of an accepted event tell its hand-overs
-effects_told : (past : List Entry) (n : ℕ) (e : Event)
-    → map (plain_line n) (filter tells (map effect_fields (effects_on (live_subs past) (named_text past e) e))) ≡ hand_lines past n (published past e)
-effects_told past n (Undeclare kind id) = refl
-effects_told past n Close = ap (map (plain_line n)) (ends_tell (live_subs past))
-effects_told past n e = publication_told past n (published past e)
+effects_told : (s : Settings) (past : List Entry) (n : ℕ) (number : Option ℕ) (e : Event) → PlainSends (sent s past number e)
+    → map (plain_line n) (telling (brought s past number e)) ≡ hand_lines past n (published past e)
+effects_told s past n number e plain =
+    let sends = sent s past number e in
+    let hands = hands_of (live_subs past) (live_pubs past) (named_text past e) e in
+    let ends = ends_of (live_subs past) e in
+    ap (map (plain_line n))
+    (telling-append (sends ++ hands) ends
+    ∙ ap (λ (more : List (List (List ℕ))). telling (sends ++ hands) ++ more) (ends_quiet (live_subs past) e)
+    ∙ append-nil (telling (sends ++ hands))
+    ∙ telling-append sends hands
+    ∙ ap (λ (front : List (List (List ℕ))). front ++ telling hands) (sends_quiet sends plain))
+    ∙ publication_told past n (published past e)
 
 -- a closed session that accepts an event publishes nothing
 shut_quiet : (past : List Entry) (n : ℕ) (seen : Sight) (e : Event) → first_that (holds true (row_of e) seen) in_order ≡ None → hand_lines past n (published past e) ≡ []
-shut_quiet past n seen (Put destination key payload encoding qos reliable) c = cc
-shut_quiet past n seen (NetPut wire payload encoding qos reliable) c = cc
+shut_quiet past n seen (Put destination key payload encoding timestamp qos reliable source attachment) c = cc
+shut_quiet past n seen (Delete destination key timestamp qos reliable source attachment) c = cc
+shut_quiet past n seen (PublisherPut id payload encoding timestamp source attachment) c = cc
+shut_quiet past n seen (PublisherDelete id timestamp source attachment) c = cc
+shut_quiet past n seen (Net (Push push)) c = cc
 shut_quiet past n seen e c = refl
 
 -- an accepted turn tells what its effects tell
@@ -98,9 +140,9 @@ answer_quiet : (n : ℕ) (number : Option ℕ) (fx : List Effect)
 answer_quiet n None fx = refl
 answer_quiet n (Some number) fx = refl
 
-event_told : (s : Settings) (past : List Entry) (n : ℕ) (e : Event)
+event_told : (s : Settings) (past : List Entry) (n : ℕ) (e : Event) → ((number : Option ℕ) → PlainSends (sent s past number e))
     → map (plain_line n) (filter tells (turn_rows (turn_of s past e))) ≡ event_lines s past n e
-event_told s past n e = go (is_closed past)
+event_told s past n e plain = go (is_closed past)
   where
     by_shut : (o : Option Refusal) → first_that (holds true (row_of e) (past_sight s past e)) in_order ≡ o
         → map (plain_line n) (filter tells (turn_rows (answered o None []))) ≡ refusal_or n o (hand_lines past n (published past e))
@@ -108,41 +150,39 @@ event_told s past n e = go (is_closed past)
     by_shut None c = sym (shut_quiet past n (past_sight s past e) e c)
 
     by_open : (o : Option Refusal) (number : Option ℕ)
-        → map (plain_line n) (filter tells (turn_rows (answered o number (effects_on (live_subs past) (named_text past e) e))))
+        → map (plain_line n) (filter tells (turn_rows (answered o number (brought s past number e))))
         ≡ refusal_or n o (hand_lines past n (published past e))
     by_open (Some refusal) number = refl
-    by_open None number = ap (map (plain_line n)) (answer_quiet n number (effects_on (live_subs past) (named_text past e) e)) ∙ effects_told past n e
+    by_open None number = ap (map (plain_line n)) (answer_quiet n number (brought s past number e)) ∙ effects_told s past n number e (plain number)
 
     go : (closed : Bool) → map (plain_line n) (filter tells (turn_rows
         (if closed then answered (first_that (holds closed (row_of e) (past_sight s past e)) in_order) None []
-        else answered (first_that (holds closed (row_of e) (past_sight s past e)) in_order) (entry_of s past e).number (effects_on (live_subs past) (named_text past e) e))))
+        else answered (first_that (holds closed (row_of e) (past_sight s past e)) in_order) (entry_of s past e).number (brought s past (entry_of s past e).number e))))
         ≡ refusal_or n (first_that (holds closed (row_of e) (past_sight s past e)) in_order) (hand_lines past n (published past e))
     go true = by_shut (first_that (holds true (row_of e) (past_sight s past e)) in_order) refl
     go false = by_open (first_that (holds false (row_of e) (past_sight s past e)) in_order) (entry_of s past e).number
 
-plain_sample : (id : ℕ) (sample : SampleFields) → is_plain sample.key_expr.text ≡ true → is_plain (encode_utf8_all sample.encoding) ≡ true
-    → ArePlain (effect_fields (Hand (Sample Subscriber id sample)))
-plain_sample id sample key encoding = effects-plain (Hand (Sample Subscriber id sample)) (rw (key, encoding) refl)
+-- all texts of effects are plain
+abbrev PlainEffects : List Effect → Type 0
+PlainEffects fx = AllByRecursion (λ f. is_plain_effect f ≡ true) fx
 
-plain_end : (kind : Kind) (id : ℕ) → ArePlain (effect_fields (End kind id))
-plain_end kind id = effects-plain (End kind id) refl
+rows_plain : (fx : List Effect) → PlainEffects fx → AllByRecursion ArePlain (map effect_fields fx)
+rows_plain [] all = tt
+rows_plain (f ∷ fx) all = (effects-plain f all.0, rows_plain fx all.1)
 
-plain_answer : (answer : Answer) → ArePlain (answer_fields answer)
-plain_answer answer = answers-plain answer
-
-plain_hands : (p : Publication) (rows : List SubRow) → is_plain p.sample.key_expr.text ≡ true → is_plain (encode_utf8_all p.sample.encoding) ≡ true
-    → AllByRecursion ArePlain (map effect_fields (map (λ row. Hand (Sample Subscriber row.id p.sample)) rows))
+plain_hands : (p : Publication) (rows : List SubRow) → is_plain p.sample.key_expr.text ≡ true → is_plain_text p.sample.encoding ≡ true
+    → PlainEffects (map (λ row. Hand (Sample Subscriber row.id p.sample)) rows)
 plain_hands p [] key encoding = tt
-plain_hands p (row ∷ rows) key encoding = (plain_sample row.id p.sample key encoding, plain_hands p rows key encoding)
+plain_hands p (row ∷ rows) key encoding =
+    (and_from (is_plain p.sample.key_expr.text) (is_plain_text p.sample.encoding) key encoding, plain_hands p rows key encoding)
 
-plain_ends : (rows : List SubRow) → AllByRecursion ArePlain (map effect_fields (sub_ends rows))
+plain_ends : (rows : List SubRow) → PlainEffects (sub_ends rows)
 plain_ends [] = tt
-plain_ends (row ∷ rows) = (plain_end Subscriber row.id, plain_ends rows)
+plain_ends (row ∷ rows) = (refl, plain_ends rows)
 
-plain_encoding : (encoding : List ℕ) → is_plain (encode_utf8_all encoding) ≡ true → is_plain (encode_utf8_all (encoding_of encoding)) ≡ true
-unfolding lib.Utf8.encode
-plain_encoding [] plain = refl
-plain_encoding (c ∷ cs) plain = plain
+plain_handed : (kind : SampleKind) (encoding : List ℕ) → is_plain_text encoding ≡ true → is_plain_text (handed_encoding kind encoding) ≡ true
+plain_handed put_kind encoding plain = plain_encoding encoding plain
+plain_handed delete_kind encoding plain = default_plain
 
 -- a publication on a text
 abbrev on_text : List ℕ → Content → Publication
@@ -153,35 +193,59 @@ on_text text c = record {
 }
 
 -- the hand-overs of a publication with plain texts are plain
-plain_publication : (rows : List SubRow) (text : Option (List ℕ)) (content : Option Content) → IfSome text IsPlain → is_plain_content content ≡ true
-    → AllByRecursion ArePlain (map effect_fields (hands_for rows (publication_on text content)))
-plain_publication rows text None key plain = tt
-plain_publication rows None (Some c) key plain = tt
-plain_publication rows (Some text) (Some c) key plain =
-    plain_hands (on_text text c) (filter (allows (on_text text c)) rows) key (plain_encoding c.encoding plain)
+plain_publication : (rows : List SubRow) (text : Option (List ℕ)) (content : Publishes) → IfSome text IsText → PlainContent content
+    → PlainEffects (hands_for rows (publication_on text content))
+plain_publication rows text NoContent key plain = tt
+plain_publication rows None (OwnContent c) key plain = tt
+plain_publication rows text (ByPublisher id c) key plain = tt
+plain_publication rows (Some text) (OwnContent c) key plain =
+    plain_hands (on_text text c) (filter (allows (on_text text c)) rows) key.0 (plain_handed c.body.kind c.body.encoding plain)
 
-plain_effects : (past : List Entry) (e : Event) → PlainPast past → is_plain_event e ≡ true
-    → AllByRecursion ArePlain (map effect_fields (effects_on (live_subs past) (named_text past e) e))
-plain_effects past (Undeclare kind id) all plain = (plain_end (kind_of kind) id, tt)
-plain_effects past Close all plain = plain_ends (live_subs past)
-plain_effects past e all plain =
-    plain_publication (live_subs past) (named_text past e) (row_of e).publishes (text_plain past e all plain)
-    (both (is_plain_content (row_of e).publishes) (is_plain_named (row_of e).key) plain).0
+plain_ends_of : (rows : List SubRow) (e : Event) → PlainEffects (ends_of rows e)
+plain_ends_of rows (Undeclare sub_kind id) = (refl, tt)
+plain_ends_of rows (Undeclare pub_kind id) = tt
+plain_ends_of rows Close = plain_ends rows
+plain_ends_of rows e = tt
+
+-- the aggregates that groups see are those of the settings
+shared_plain : (s : Settings) (past : List Entry) → has_plain_aggregates s ≡ true → ArePlainGroups (λ kind. company_of s kind past)
+shared_plain s past shared Subscribers = (and_parts (are_plain_keys s.aggregated_subscribers) (are_plain_keys s.aggregated_publishers) shared).0
+shared_plain s past shared Publishers = (and_parts (are_plain_keys s.aggregated_subscribers) (are_plain_keys s.aggregated_publishers) shared).1
+shared_plain s past shared Queriers = refl
+
+-- what a plain event sends is plain
+plain_sent : (s : Settings) → has_plain_aggregates s ≡ true → (past : List Entry) (e : Event) → PlainPast past → is_plain_event e ≡ true → (number : Option ℕ)
+    → PlainSends (sent s past number e)
+plain_sent s shared past e all plain number =
+    all_sent (known_of s past) number (named_text past e) e (λ n. held_plain n past all) (shared_plain s past shared) (text_plain past e all plain)
+    (content_plain (live_pubs past) e (pubs_plain past all) plain)
+
+plain_effects : (s : Settings) → has_plain_aggregates s ≡ true → (past : List Entry) (number : Option ℕ) (e : Event) → PlainPast past → is_plain_event e ≡ true
+    → PlainEffects (brought s past number e)
+plain_effects s shared past number e all plain =
+    let P : Effect → Type 0 = λ f. is_plain_effect f ≡ true in
+    let sends = sent s past number e in
+    let hands = hands_of (live_subs past) (live_pubs past) (named_text past e) e in
+    let ends = ends_of (live_subs past) e in
+    all_append P (sends ++ hands) ends
+    (all_append P sends hands (sends_plain sends (plain_sent s shared past e all plain number))
+    (plain_publication (live_subs past) (named_text past e) (resolved (live_pubs past) (row_of e).publishes) (text_plain past e all plain)
+    (content_plain (live_pubs past) e (pubs_plain past all) plain)))
+    (plain_ends_of (live_subs past) e)
 
 -- the texts of the turn of a plain event are plain
-plain_turn : (s : Settings) (past : List Entry) (e : Event) → PlainPast past → is_plain_event e ≡ true → AllByRecursion ArePlain (turn_rows (turn_of s past e))
-plain_turn s past e all plain = go (is_closed past)
+plain_turn : (s : Settings) → has_plain_aggregates s ≡ true → (past : List Entry) (e : Event) → PlainPast past → is_plain_event e ≡ true → AllByRecursion ArePlain (turn_rows (turn_of s past e))
+plain_turn s shared past e all plain = go (is_closed past)
   where
-    answer : (o : Option Refusal) (number : Option ℕ) (fx : List Effect) → AllByRecursion ArePlain (map effect_fields fx)
-        → AllByRecursion ArePlain (turn_rows (answered o number fx))
-    answer (Some refusal) number fx all = (plain_answer (Refused refusal), tt)
-    answer None number fx all = (plain_answer (accepted number), all)
+    answer : (o : Option Refusal) (number : Option ℕ) (fx : List Effect) → PlainEffects fx → AllByRecursion ArePlain (turn_rows (answered o number fx))
+    answer (Some refusal) number fx all = (answers-plain (Refused refusal), tt)
+    answer None number fx all = (answers-plain (accepted number), rows_plain fx all)
 
     go : (closed : Bool) → AllByRecursion ArePlain (turn_rows
         (if closed then answered (refusal_of s past e) None []
-        else answered (refusal_of s past e) (entry_of s past e).number (effects_on (live_subs past) (named_text past e) e)))
+        else answered (refusal_of s past e) (entry_of s past e).number (brought s past (entry_of s past e).number e)))
     go true = answer (refusal_of s past e) None [] tt
-    go false = answer (refusal_of s past e) (entry_of s past e).number (effects_on (live_subs past) (named_text past e) e) (plain_effects past e all plain)
+    go false = answer (refusal_of s past e) (entry_of s past e).number (brought s past (entry_of s past e).number e) (plain_effects s shared past (entry_of s past e).number e all plain)
 
 -- the first lines of an output that begins with a turn
 told_turn : (n : ℕ) (turn : Turn) (rest : List ℕ) → AllByRecursion ArePlain (turn_rows turn)
@@ -193,10 +257,12 @@ told_turn n turn rest all =
     ∙ ap (λ (rows : List (List ℕ)). rows ++ told rest) (telling_rows n (turn_rows turn) all)
 
 -- the whole text of plain events tells them
-pub text_told : (s : Settings) (h : List Event) (es : List Event) → PlainEvents h → PlainEvents es → told (text_after s h es) ≡ lines_after s h es
-text_told s h [] past all = refl
-text_told s h (e ∷ es) past all =
+pub text_told : (s : Settings) → has_plain_aggregates s ≡ true → (h : List Event) (es : List Event) → PlainEvents h → PlainEvents es
+    → told (text_after s h es) ≡ lines_after s h es
+text_told s shared h [] past all = refl
+text_told s shared h (e ∷ es) past all =
     let n = length h + 1 in
-    told_turn n (effects s h e) (text_after s (e ∷ h) es) (plain_turn s (past_of s h) e (past_plain s h past) all.0)
-    ∙ ap (λ (here : List (List ℕ)). here ++ told (text_after s (e ∷ h) es)) (event_told s (past_of s h) n e)
-    ∙ ap (λ (later : List (List ℕ)). event_lines s (past_of s h) n e ++ later) (text_told s (e ∷ h) es (all.0, past) all.1)
+    told_turn n (effects s h e) (text_after s (e ∷ h) es) (plain_turn s shared (past_of s h) e (past_plain s h past) all.0)
+    ∙ ap (λ (here : List (List ℕ)). here ++ told (text_after s (e ∷ h) es))
+    (event_told s (past_of s h) n e (plain_sent s shared (past_of s h) e (past_plain s h past) all.0))
+    ∙ ap (λ (later : List (List ℕ)). event_lines s (past_of s h) n e ++ later) (text_told s shared (e ∷ h) es (all.0, past) all.1)

@@ -1,7 +1,8 @@
 -- The settings that words give, at worked examples.
 use Rattle.std.proofs.Common.{◌≡◌, [], ◌∷◌, Some, None, refl, codes}
+use Rattle.std.specs.Str.{chars}
+use Rattle.zs_keys.specs.Key.{undeclared}
 use Rattle.zs_core.specs.Settings.{default_settings}
-use Rattle.zs_session.specs.Hexadecimal.{hex_of}
 use Rattle.zs_session.specs.Words.{settings_of}
 
 -- no words, and the mode alone
@@ -13,7 +14,16 @@ mode_alone = refl
 
 -- all settings, in another order than their fields
 all_settings : settings_of (codes "drive" ∷ codes "turns=9" ∷ codes "line=100" ∷ codes "key=7" ∷ codes "entity=0" ∷ codes "tag=0" ∷ codes "zid=fF" ∷ [])
-    ≡ Some (record { zid = 255; tag = 0; entity_start = 0; key_start = 7; line_max = 100; turns = 9 })
+    ≡ Some (record {
+      zid = 255;
+      tag = 0;
+      entity_start = 0;
+      key_start = 7;
+      aggregated_subscribers = [];
+      aggregated_publishers = [];
+      line_max = 100;
+      turns = 9;
+    })
 all_settings = refl
 
 -- a word that is none, a mode that is none, a setting before the mode, and the mode twice
@@ -43,9 +53,24 @@ too_great = refl
 not_valid : settings_of (codes "drive" ∷ codes "zid=0" ∷ []) ≡ None
 not_valid = refl
 
--- the greatest identifier, and a digit more
-most_digits : hex_of (codes "ffffffffffffffffffffffffffffffff") ≡ Some 340282366920938463463374607431768211455
-most_digits = refl
+-- aggregates of both kinds, each in the order of its words, one of them twice
+aggregates : settings_of (codes "drive" ∷ codes "aggsub=b" ∷ codes "aggpub=c" ∷ codes "tag=1" ∷ codes "aggsub=a/**" ∷ codes "aggsub=b" ∷ [])
+    ≡ Some (record default_settings {
+      aggregated_subscribers = undeclared (codes "b") ∷ undeclared (codes "a/**") ∷ undeclared (codes "b") ∷ [];
+      aggregated_publishers = undeclared (codes "c") ∷ [];
+    })
+unfolding chars lib.Utf8.encode
+aggregates = refl
 
-digit_more : hex_of (codes "100000000000000000000000000000000") ≡ None
-digit_more = refl
+-- an aggregate that is no key expression, the empty one, and one with a tab
+bad_aggregate : settings_of (codes "drive" ∷ codes "aggsub=b" ∷ codes "aggsub=a//b" ∷ []) ≡ None
+unfolding chars lib.Utf8.encode
+bad_aggregate = refl
+
+empty_aggregate : settings_of (codes "drive" ∷ codes "aggpub=" ∷ []) ≡ None
+unfolding chars lib.Utf8.encode
+empty_aggregate = refl
+
+broken_aggregate : settings_of (codes "drive" ∷ codes "aggpub=a\tb" ∷ []) ≡ None
+unfolding chars lib.Utf8.encode
+broken_aggregate = refl

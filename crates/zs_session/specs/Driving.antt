@@ -3,8 +3,8 @@ use Rattle.std.specs.Prelude.{◌≡◌, ℕ, ◌+◌, ◌<◌, ◌≤◌, Bool,
 use Rattle.std.specs.List.{AllByRecursion}
 use Rattle.std.specs.Result.{IsOkUnless}
 use Rattle.zs_keys.specs.Stream.{HasRisen, TakesOff, PutsOn, count_after}
-use Rattle.zs_core.specs.declared.event.Event.{Event}
-use Rattle.zs_core.specs.declared.event.Event.TheVariants.{Close}
+use Rattle.zs_events.specs.declared.event.Event.{Event}
+use Rattle.zs_events.specs.declared.event.Event.TheVariants.{Close}
 use Rattle.zs_core.specs.declared.settings.Settings.{Settings}
 use Rattle.zs_script.specs.Lines.{lines}
 use Rattle.zs_script.specs.Grammar.{event_of}
@@ -13,7 +13,7 @@ use Rattle.zs_session.specs.declared.driving.Driven.{Driven}
 use Rattle.zs_session.specs.declared.errors.DriveError.{DriveError}
 use Rattle.zs_session.specs.declared.errors.DriveError.TheVariants.{ReadFault, WriteFault, BadLine, LineTooLong, OutOfTurns, NoMemory}
 use Rattle.zs_session.specs.Script.{is_good, events_of, script, text}
-use Rattle.zs_session.specs.Telling.{Told, told}
+use Rattle.zs_session.specs.Telling.{has_plain_aggregates, Told, told}
 
 -- a source as a run finds or leaves it: the bytes that it holds, where it tells them, and its counts
 pub record Supply : Type 0 where
@@ -32,7 +32,7 @@ abbrev pub AreGood : ℕ → List (List ℕ) → Type 0
 AreGood line_max rows = AllByRecursion (λ row. is_good line_max row ≡ true) rows
 
 -- The run came to its end: `input` is what the source gave, which holds nothing now. Each line was an event, and what
--- was put out is the text of the script, which tells the script.
+-- was put out is the text of the script, which tells the script where no aggregate of the settings could break a line.
 pub record IsDone (s : Settings) (left left' : Option (List ℕ)) (Puts : List ℕ → Type 0) (count : ℕ) : Type 0 where
   pub input : List ℕ
   pub output : List ℕ
@@ -41,7 +41,7 @@ pub record IsDone (s : Settings) (left left' : Option (List ℕ)) (Puts : List �
   pub good : AreGood s.line_max (lines input)
   pub sink : Puts output
   pub whole : output ≡ text s (script input)
-  pub tells : Told s (script input) (told output)
+  pub tells : has_plain_aggregates s ≡ true → Told s (script input) (told output)
   pub events : count ≡ length (lines input) + 1
 
 -- an input that begins with these bytes, and is whole if its end was seen, has these lines first and goes on with that part

@@ -1,5 +1,5 @@
 -- What a run of the program says: its status stands for an answer of the drive, and its complaint is the one for it.
-use Rattle.std.specs.Prelude.{◌≡◌, ℕ, List, Option, Result, Ok, Err, codes}
+use Rattle.std.specs.Prelude.{◌≡◌, ℕ, List, Result, Ok, Err, codes}
 use Rattle.zs_keys.specs.Stream.{HasRisen, PutsOn}
 use Rattle.zs_core.specs.declared.settings.Settings.{Settings}
 use Rattle.zs_script.specs.Writing.{PutsFrontOn}

@@ -1,8 +1,8 @@
 -- What a script is, and its whole text.
 use Rattle.std.specs.Prelude.{ℕ, ◌+◌, Bool, nat_le, ◌&&◌, is_some, List, [], ◌∷◌, ◌++◌, length}
 use Rattle.std.specs.List.{filter_map}
-use Rattle.zs_core.specs.declared.event.Event.{Event}
-use Rattle.zs_core.specs.declared.event.Event.TheVariants.{Close}
+use Rattle.zs_events.specs.declared.event.Event.{Event}
+use Rattle.zs_events.specs.declared.event.Event.TheVariants.{Close}
 use Rattle.zs_core.specs.declared.settings.Settings.{Settings}
 use Rattle.zs_core.specs.Effects.{effects}
 use Rattle.zs_script.specs.Lines.{lines}

@@ -1,22 +1,33 @@
 -- What an output tells of refusals and of hand-overs to subscribers, and what it has to tell of a script.
-use Rattle.std.specs.Prelude.{◌≡◌, ℕ, ◌+◌, Bool, false, ◌&&◌, ◌||◌, List, [], ◌∷◌, ◌++◌, length, map, filter, Option, Some, None, bytes_eq, codes, decimal}
-use Rattle.zs_core.specs.declared.event.Event.{Event}
+use Rattle.std.specs.Prelude.{◌≡◌, ℕ, ◌+◌, Bool, false, ◌&&◌, ◌||◌, List, [], ◌∷◌, ◌++◌, length, map, filter, Option, Some, None, bytes_eq, chars, codes, decimal}
+use Rattle.std.specs.List.{list_all}
+use Rattle.zs_keys.specs.Key.{Key}
+use Rattle.zs_events.specs.declared.event.Event.{Event}
 use Rattle.zs_core.specs.declared.settings.Settings.{Settings}
-use Rattle.zs_core.specs.declared.turn.Answer.TheVariants.{Refused}
-use Rattle.zs_core.specs.declared.turn.Effect.TheVariants.{Hand}
-use Rattle.zs_core.specs.declared.turn.HandOver.TheVariants.{Sample}
-use Rattle.zs_core.specs.declared.turn.Kind.TheVariants.{Subscriber}
-use Rattle.zs_core.specs.declared.turn.Refusal.{Refusal}
+use Rattle.zs_events.specs.declared.turn.Answer.TheVariants.{Refused}
+use Rattle.zs_events.specs.declared.turn.Effect.TheVariants.{Hand}
+use Rattle.zs_events.specs.declared.turn.HandOver.TheVariants.{Sample}
+use Rattle.zs_events.specs.declared.turn.Kind.TheVariants.{Subscriber}
+use Rattle.zs_events.specs.declared.turn.Refusal.{Refusal}
 use Rattle.zs_core.specs.Publications.{Publication, allows}
 use Rattle.zs_core.specs.Entry.{Entry}
 use Rattle.zs_core.specs.Held.{named_text}
-use Rattle.zs_core.specs.Live.{live_subs}
+use Rattle.zs_core.specs.Live.{live_subs, live_pubs}
 use Rattle.zs_core.specs.Causes.{refusal_of}
 use Rattle.zs_core.specs.Past.{past_of}
 use Rattle.zs_core.specs.Effects.{publication_of}
 use Rattle.zs_script.specs.Lines.{lines, fields}
 use Rattle.zs_script.specs.Printing.{answer_fields, effect_fields}
 use Rattle.zs_script.specs.Laws.{row}
+use Rattle.zs_script.specs.Plain.{is_plain_text}
+
+-- no text of a key has a tab or a line feed, as it is printed
+abbrev pub are_plain_keys : List Key → Bool
+are_plain_keys keys = list_all (λ key. is_plain_text (chars key.text)) keys
+
+-- no aggregate has one, so that each printed field is one field; those that words give never have one
+abbrev pub has_plain_aggregates : Settings → Bool
+has_plain_aggregates s = are_plain_keys s.aggregated_subscribers && are_plain_keys s.aggregated_publishers
 
 -- a printed line without its line feed
 abbrev pub plain_line : ℕ → List (List ℕ) → List ℕ
@@ -46,7 +57,7 @@ told output = filter is_telling (lines output)
 
 -- the publication that an event is at its moment, if it is one
 abbrev pub published : List Entry → Event → Option Publication
-published past e = publication_of (named_text past e) e
+published past e = publication_of (live_pubs past) (named_text past e) e
 
 -- one line for each live subscriber whose locality and key allow the publication, in ascending number
 abbrev pub hand_lines : List Entry → ℕ → Option Publication → List (List ℕ)

@@ -1,15 +1,14 @@
 -- The words that a run is started with, and the settings that they give.
-use Rattle.std.specs.Prelude.{ℕ, Bool, ◌&&◌, ◌||◌, is_some, List, [], ◌∷◌, Option, Some, None, codes, if◌then◌else◌}
+use Rattle.std.specs.Prelude.{ℕ, Bool, ◌&&◌, ◌||◌, is_some, List, [], ◌∷◌, map, Option, Some, None, chars, codes, if◌then◌else◌}
 use Rattle.std.specs.List.{filter_map, list_all}
 use Rattle.std.specs.Str.{bytes_eq}
+use Rattle.zs_keys.specs.Key.{undeclared}
+use Rattle.zs_keys.specs.Text.{is_canonical}
 use Rattle.zs_core.specs.declared.settings.Settings.{Settings}
 use Rattle.zs_core.specs.Settings.{default_settings, is_valid}
-use Rattle.zs_script.specs.Symbols.{number_of, u16_max, u32_max, after_prefix}
-use Rattle.zs_session.specs.Hexadecimal.{hex_of}
-
--- the greatest tag, and the greatest number of reads
-abbrev pub u64_max : ℕ
-u64_max = 18446744073709551615
+use Rattle.zs_script.specs.Hexadecimal.{hex_of}
+use Rattle.zs_script.specs.Plain.{is_plain_text}
+use Rattle.zs_script.specs.Symbols.{number_of, u16_max, u32_max, u64_max, after_prefix}
 
 -- the second step, where the first one gave something
 infixl 10 ◌>>=◌
@@ -18,11 +17,17 @@ None >>= f = None
 Some x >>= f = f x
 
 -- A setting is a word of a name, `=` and a value. No name has an `=`, so a word is cut at its first one.
-abbrev pub is_setting : List ℕ → Bool
-is_setting word =
+abbrev pub gives_number : List ℕ → Bool
+gives_number word =
     is_some (after_prefix (codes "zid=") word) || is_some (after_prefix (codes "tag=") word)
     || is_some (after_prefix (codes "entity=") word) || is_some (after_prefix (codes "key=") word)
     || is_some (after_prefix (codes "line=") word) || is_some (after_prefix (codes "turns=") word)
+
+abbrev pub gives_aggregate : List ℕ → Bool
+gives_aggregate word = is_some (after_prefix (codes "aggsub=") word) || is_some (after_prefix (codes "aggpub=") word)
+
+abbrev pub is_setting : List ℕ → Bool
+is_setting word = gives_number word || gives_aggregate word
 
 -- the values of the words that begin so
 abbrev pub values : List ℕ → List (List ℕ) → List (List ℕ)
@@ -40,7 +45,15 @@ setting form default [] = Some default
 setting form default (value ∷ []) = form value
 setting form default (value ∷ other ∷ more) = None
 
--- the settings that words give, valid or not
+-- an aggregate: the text of a key expression that can stand in a field of a line
+abbrev pub is_aggregate : List ℕ → Bool
+is_aggregate text = is_plain_text (chars text) && is_canonical text
+
+-- all values of that name are aggregates
+abbrev pub are_aggregates : List ℕ → List (List ℕ) → Bool
+are_aggregates name words = list_all is_aggregate (values name words)
+
+-- the settings that words give but for their aggregates, valid or not
 abbrev pub given : List (List ℕ) → Option Settings
 given words = do
   zid ← setting hex_of default_settings.zid (values (codes "zid=") words)
@@ -49,15 +62,36 @@ given words = do
   key ← setting (number_of u16_max) default_settings.key_start (values (codes "key=") words)
   line ← setting (number_of u32_max) default_settings.line_max (values (codes "line=") words)
   turns ← setting (number_of u64_max) default_settings.turns (values (codes "turns=") words)
-  Some (record { zid = zid; tag = tag; entity_start = entity; key_start = key; line_max = line; turns = turns })
+  Some (record {
+    zid = zid;
+    tag = tag;
+    entity_start = entity;
+    key_start = key;
+    aggregated_subscribers = [];
+    aggregated_publishers = [];
+    line_max = line;
+    turns = turns;
+  })
 
 -- these settings, where a session can be opened with them
 abbrev pub if_valid : Settings → Option Settings
 if_valid s = if is_valid s then Some s else None
+
+-- the settings with the aggregates that words give, as many of each kind as there are, in the order of the words
+abbrev pub with_aggregates : List (List ℕ) → Settings → Settings
+with_aggregates words s = record s {
+  aggregated_subscribers = map undeclared (values (codes "aggsub=") words);
+  aggregated_publishers = map undeclared (values (codes "aggpub=") words);
+}
+
+-- each word is a setting, and each aggregate is one
+abbrev pub are_settings : List (List ℕ) → Bool
+are_settings words = list_all is_setting words && are_aggregates (codes "aggsub=") words && are_aggregates (codes "aggpub=") words
 
 -- The settings of a run by its words: there are none, or the first is `drive` and the others are settings. All other
 -- words are bad, and so are those that give settings that are not valid.
 abbrev pub settings_of : List (List ℕ) → Option Settings
 settings_of [] = Some default_settings
 settings_of (mode ∷ words) =
-    if bytes_eq mode (codes "drive") && list_all is_setting words then given words >>= if_valid else None
+    if bytes_eq mode (codes "drive") && are_settings words
+    then given words >>= if_valid >>= (λ s. Some (with_aggregates words s)) else None

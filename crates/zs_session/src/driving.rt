@@ -1,6 +1,6 @@
 ghost use Rattle.std.specs.Prelude.{◌≡◌, ◌⊎◌, ◌≤◌, ◌++◌, ℕ, List, [], ◌∷◌, Option, IsTrue, IfErr, OnOk, OnErr};
 ghost use Rattle.zs_keys.specs.Stream.{HasRisen, PutsOn};
-ghost use Rattle.zs_core.specs.declared.event.Event.{Event};
+ghost use Rattle.zs_events.specs.declared.event.Event.{Event};
 ghost use Rattle.zs_core.specs.declared.settings.Settings.{Settings};
 ghost use Rattle.zs_core.specs.Settings.{is_valid};
 ghost use Rattle.zs_core.specs.Effects.{effects};
@@ -35,7 +35,22 @@ fn take_event(
     ensures stands { OnOk result ((s : Settings) (h : List Event) → Stands state.old s h → Stands state.new s (event ∷ h)) }
     ensures err { OnErr result (transcript.new ≡ transcript.old) }
 {
-    let turn = state.step(&event)?;
+    take_turn(state, &event, number, transcript)
+}
+
+/// It is `take_event` of an event that is lent, so that no function lets go of an event and of a turn.
+fn take_turn(
+    state: &mut SessionState,
+    event: &Event,
+    number: u64,
+    transcript: &mut Transcript,
+) -> Result<(), AllocError>
+    ensures text { OnOk result ((s : Settings) (h : List Event) → Stands state.old s h
+        → transcript.new ≡ transcript.old ++ turn_text number (effects s h event.now)) }
+    ensures stands { OnOk result ((s : Settings) (h : List Event) → Stands state.old s h → Stands state.new s (event.now ∷ h)) }
+    ensures err { OnErr result (transcript.new ≡ transcript.old) }
+{
+    let turn = state.step(event)?;
     transcript.add_turn(number, &turn)
 }
 

@@ -3,15 +3,14 @@
 
 pub use driving::{Driven, drive};
 pub use errors::DriveError;
-pub use laws::text_tells;
+pub use laws::{aggregates_are_plain, text_tells};
 pub use running::run;
 pub use system::{StdSink, StdSource};
-pub use zs_core::Settings;
+pub use zs_core::{KeyList, Settings};
 
 mod complaining;
 mod driving;
 mod errors;
-mod hexadecimal;
 mod laws;
 mod running;
 mod system;

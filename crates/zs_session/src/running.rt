@@ -17,8 +17,8 @@ use zs_keys::{Sink, Source};
 /// The program: drives a session by the source's script, with the settings that the words give, and returns the exit
 /// status.
 ///
-/// The words are none, or `drive` and then settings in any order, each at most once: `zid=HEX`, `tag=N`, `entity=N`,
-/// `key=N`, `line=N` and `turns=N`.
+/// The words are none, or `drive` and then settings in any order: `zid=HEX`, `tag=N`, `entity=N`, `key=N`, `line=N` and
+/// `turns=N`, each at most once, and any number of `aggsub=KEY` and `aggpub=KEY`, which keep their order.
 ///
 /// The status is 0 at the end of a script. 2 says that the words are others, or give settings that are not valid; then
 /// nothing is read or written. 3 says that a line is no event, 4 that a line is too long, 5 that there were too many
@@ -44,11 +44,17 @@ pub fn run<S: Source, K: Sink, C: Sink>(
         (record { written = C.written complaints.new; faults = C.faults complaints.new }) }
     ensures quiet { result ≡ 0 → complaints.new ≡ complaints.old }
 {
-    let Some(settings) = settings_of(words) else {
-        complain(complaints, b"bad words\n");
-        return 2;
-    };
-    run_with(alloc, &settings, source, sink, complaints)
+    match settings_of(alloc, words) {
+        Ok(Some(settings)) => run_with(alloc, &settings, source, sink, complaints),
+        Ok(None) => {
+            complain(complaints, b"bad words\n");
+            2
+        }
+        Err(_) => {
+            complain_of(complaints, DriveError::NoMemory);
+            status_of(DriveError::NoMemory)
+        }
+    }
 }
 
 /// Drives a session with these settings, complains where it stopped before the end of the script, and returns the exit

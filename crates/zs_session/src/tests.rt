@@ -1,9 +1,9 @@
 use crate::words::settings_of;
-use crate::{DriveError, Settings, StdSink, StdSource};
+use crate::{DriveError, KeyList, Settings, StdSink, StdSource};
 use std::alloc::{AllocError, Global};
 use std::io::{self, Read, Write};
 use std::test::Fail;
-use zs_keys::{Sink, Source};
+use zs_keys::{KeyExpr, Sink, Source};
 
 /// A reader and writer that passes one byte, and then fails.
 #[derive(Drop)]
@@ -73,47 +73,23 @@ fn cut(alloc: Global, line: &str) -> Result<Vec<String>, AllocError> {
     Ok(words)
 }
 
+/// The keys of these texts.
+fn keys(alloc: Global, texts: &[&str]) -> Result<KeyList, Fail> {
+    let mut keys = Vec::new(alloc);
+    for text in texts {
+        let Ok(key) = KeyExpr::from_string(String::from_str(alloc, text)?) else {
+            return Err(Fail::from("no key"));
+        };
+        keys.push(key)?;
+    }
+    Ok(KeyList::from_vec(keys))
+}
+
 #[test]
 fn settings_are_those_of_the_words(rt: HostRuntime) -> Result<(), Fail> {
-    let default = Settings::default();
+    let alloc = rt.alloc();
     let cases = [
-        ("drive", default),
-        (
-            "drive zid=aB",
-            Settings {
-                zid: 171,
-                ..default
-            },
-        ),
-        ("drive tag=0", Settings { tag: 0, ..default }),
-        (
-            "drive entity=0",
-            Settings {
-                entity_start: 0,
-                ..default
-            },
-        ),
-        (
-            "drive key=2",
-            Settings {
-                key_start: 2,
-                ..default
-            },
-        ),
-        (
-            "drive line=1",
-            Settings {
-                line_max: 1,
-                ..default
-            },
-        ),
-        (
-            "drive turns=1",
-            Settings {
-                turns: 1,
-                ..default
-            },
-        ),
+        ("drive", Settings::default()),
         (
             "drive turns=18446744073709551615 key=65535 zid=ffffffffffffffffffffffffffffffff \
              line=1048576 tag=18446744073709551615 entity=4294967294",
@@ -124,17 +100,27 @@ fn settings_are_those_of_the_words(rt: HostRuntime) -> Result<(), Fail> {
                 key_start: 65535,
                 line_max: 1048576,
                 turns: u64::MAX,
+                ..Settings::default()
+            },
+        ),
+        (
+            "drive aggsub=a/** zid=aB aggpub=** aggsub=a aggsub=a/**",
+            Settings {
+                zid: 171,
+                aggregated_subscribers: keys(alloc, &["a/**", "a", "a/**"])?,
+                aggregated_publishers: keys(alloc, &["**"])?,
+                ..Settings::default()
             },
         ),
     ];
     for (line, settings) in cases {
-        let words = cut(rt.alloc(), line)?;
+        let words = cut(alloc, line)?;
         assert_eq!(rt;
-            settings_of(words.as_slice()),
+            settings_of(alloc, words.as_slice())?,
             Some(settings),
             "of {line:?}"
         );
     }
-    assert_eq!(rt; settings_of(&[]), Some(default));
+    assert_eq!(rt; settings_of(alloc, &[])?, Some(Settings::default()));
     Ok(())
 }

@@ -19,7 +19,6 @@ const FULL: usize = 65536;
 /// The memory of both texts outlives the turns.
 #[derive(Drop)]
 pub(crate) struct Transcript {
-    alloc: Global,
     waiting: String,
     turn: String,
 }
@@ -38,7 +37,6 @@ impl Transcript {
         ensures { result ≡ [] }
     {
         Transcript {
-            alloc,
             waiting: String::new(alloc),
             turn: String::new(alloc),
         }
@@ -50,7 +48,7 @@ impl Transcript {
         ensures err { OnErr result (self.new ≡ self.old) }
     {
         self.turn.clear();
-        append_turn(self.alloc, &mut self.turn, number, turn)?;
+        append_turn(&mut self.turn, number, turn)?;
         self.waiting.push_str(self.turn.as_str())
     }
 

@@ -1,14 +1,19 @@
 //! The words that a run is started with: none, or `drive` and then settings.
 
-ghost use Rattle.std.specs.Prelude.{◌≡◌, ◌≤◌, map, IfSome, option_map};
+ghost use Rattle.std.specs.Prelude.{◌≡◌, ◌≤◌, map, IfOk, IfSome, IsSome, IsTrue, OnErr, option_map, true, chars};
 ghost use Rattle.std.specs.List.{list_all};
 ghost use Rattle.std.specs.String.{string_bytes};
-ghost use Rattle.zs_script.specs.Symbols.{number_from, number_of, after_prefix};
-ghost use Rattle.zs_session.specs.Hexadecimal.{hex_of};
-ghost use Rattle.zs_session.specs.Words.{is_setting, values, setting, given, settings_of, found};
+ghost use Rattle.zs_keys.specs.Key.{undeclared};
+ghost use Rattle.zs_core.specs.Settings.{default_settings, is_valid};
+ghost use Rattle.zs_script.specs.Hexadecimal.{hex_of};
+ghost use Rattle.zs_script.specs.Plain.{is_plain, is_plain_text};
+ghost use Rattle.zs_script.specs.Symbols.{number_of, after_prefix};
+ghost use Rattle.zs_session.specs.Words.{gives_number, gives_aggregate, is_setting, is_aggregate, are_aggregates, are_settings, values, setting, given, settings_of, found};
 
-use crate::hexadecimal::parse_hex;
-use zs_core::Settings;
+use std::alloc::{AllocError, Global};
+use zs_core::{KeyList, Settings};
+use zs_keys::KeyExpr;
+use zs_script::{after_prefix, parse_hex, parse_number};
 
 /// The greatest number that an entity, or a line's length, is told as.
 const U32_MAX: u64 = u32::MAX as u64;
@@ -17,35 +22,103 @@ const U32_MAX: u64 = u32::MAX as u64;
 const U16_MAX: u64 = u16::MAX as u64;
 
 /// The settings that the words give. There are none where a word has no place among them, and none where the settings
-/// are not valid.
-pub(crate) fn settings_of(words: &[String]) -> Option<Settings>
-    ensures { result ≡ settings_of (map string_bytes words.now) }
+/// are not valid. Only settings that there are can want memory.
+pub(crate) fn settings_of(alloc: Global, words: &[String]) -> Result<Option<Settings>, AllocError>
+    ensures ok { IfOk result (λ found. found ≡ settings_of (map string_bytes words.now)) }
+    ensures valid { IfOk result (λ found. IfSome found (λ s. IsTrue (is_valid s))) }
+    ensures err { OnErr result (IsSome (settings_of (map string_bytes words.now))) }
 {
     let [mode, rest @ ..] = words else {
-        return Some(Settings::default());
+        return Ok(Some(Settings::default()));
     };
-    if mode.as_str() != "drive" {
-        return None;
+    if mode.as_str() != "drive" || !are_settings(rest) {
+        return Ok(None);
     }
-    if !are_settings(rest) {
-        return None;
-    }
-    let settings = given(rest)?;
+    let Some(mut settings) = given(rest) else {
+        return Ok(None);
+    };
     if !settings.is_valid() {
-        return None;
+        return Ok(None);
     }
-    Some(settings)
+    settings.aggregated_subscribers = aggregates(alloc, rest, "aggsub=")?;
+    settings.aggregated_publishers = aggregates(alloc, rest, "aggpub=")?;
+    Ok(Some(settings))
+}
+
+/// Whether each word begins with the name of a setting and `=`, and each aggregate is one.
+fn are_settings(words: &[String]) -> bool
+    ensures { result ≡ are_settings (map string_bytes words.now) }
+{
+    are_named(words) && are_aggregates(words, "aggsub=") && are_aggregates(words, "aggpub=")
 }
 
 /// Whether each word begins with the name of a setting and `=`.
-fn are_settings(words: &[String]) -> bool
+fn are_named(words: &[String]) -> bool
     ensures { result ≡ list_all is_setting (map string_bytes words.now) }
 {
     words.iter().all(|word| is_setting(word.as_str()))
 }
 
+/// Whether each word that begins with this name goes on with an aggregate.
+fn are_aggregates(words: &[String], name: &str) -> bool
+    ensures { result ≡ are_aggregates name.now (map string_bytes words.now) }
+{
+    let mut words = words;
+    'words: while let Some((text, rest)) = value_in(words, name) {
+        if !is_aggregate(text) {
+            return false;
+        }
+        words = rest;
+    }
+    true
+}
+
+/// Whether a text is a key expression that can stand in a field of a line.
+fn is_aggregate(text: &str) -> bool
+    ensures { result ≡ is_aggregate text.now }
+{
+    is_printable(text) && KeyExpr::new(text).is_ok()
+}
+
+/// Whether a text has no tab and no line feed, as it is printed.
+fn is_printable(text: &str) -> bool
+    ensures { result ≡ is_plain_text (chars text.now) }
+{
+    is_plain(text)
+}
+
+/// Whether a text's bytes have no tab and no line feed.
+fn is_plain(text: &str) -> bool
+    ensures { result ≡ is_plain text.now }
+{
+    text.as_bytes()
+        .iter()
+        .all(|byte| *byte != b'\t' && *byte != b'\n')
+}
+
+/// The keys of the words that begin with this name, in order.
+fn aggregates(alloc: Global, words: &[String], name: &str) -> Result<KeyList, AllocError>
+    requires { are_aggregates name.now (map string_bytes words.now) ≡ true }
+    ensures { IfOk result (λ keys. keys ≡ map undeclared (values name.now (map string_bytes words.now))) }
+{
+    let mut keys = Vec::new(alloc);
+    let mut words = words;
+    'words: while let Some((text, rest)) = value_in(words, name) {
+        keys.push(key_of(alloc, text)?)?;
+        words = rest;
+    }
+    Ok(KeyList::from_vec(keys))
+}
+
+/// Whether a word begins with the name of a setting and `=`.
 fn is_setting(word: &str) -> bool
     ensures { result ≡ is_setting word.now }
+{
+    gives_number(word) || gives_aggregate(word)
+}
+
+fn gives_number(word: &str) -> bool
+    ensures { result ≡ gives_number word.now }
 {
     after_prefix(word, "zid=").is_some()
         || after_prefix(word, "tag=").is_some()
@@ -55,18 +128,58 @@ fn is_setting(word: &str) -> bool
         || after_prefix(word, "turns=").is_some()
 }
 
-/// What stands behind a prefix.
-fn after_prefix<'a>(field: &'a str, prefix: &str) -> Option<&'a str>
-    ensures { option_map (λ rest. rest.now) result ≡ after_prefix prefix.now field.now }
+fn gives_aggregate(word: &str) -> bool
+    ensures { result ≡ gives_aggregate word.now }
 {
-    field.strip_prefix(prefix)
+    after_prefix(word, "aggsub=").is_some() || after_prefix(word, "aggpub=").is_some()
 }
 
-/// The settings that the words give, valid or not.
+/// The settings that are numbers.
+#[derive(Clone, Copy)]
+struct Numbers {
+    zid: u128,
+    tag: u64,
+    entity_start: u32,
+    key_start: u16,
+    line_max: u32,
+    turns: u64,
+}
+
+/// Those that hold where no word gives others.
+fn default_numbers() -> Numbers
+    ensures { result ≡ record {
+      zid = default_settings.zid;
+      tag = default_settings.tag;
+      entity_start = default_settings.entity_start;
+      key_start = default_settings.key_start;
+      line_max = default_settings.line_max;
+      turns = default_settings.turns;
+    } }
+{
+    let Settings {
+        zid,
+        tag,
+        entity_start,
+        key_start,
+        line_max,
+        turns,
+        ..
+    } = Settings::default();
+    Numbers {
+        zid,
+        tag,
+        entity_start,
+        key_start,
+        line_max,
+        turns,
+    }
+}
+
+/// The settings that the words give but for their aggregates, valid or not.
 fn given(words: &[String]) -> Option<Settings>
     ensures { result ≡ given (map string_bytes words.now) }
 {
-    let default = Settings::default();
+    let default = default_numbers();
     let zid = identifier(words, "zid=", default.zid)?;
     let tag = number(words, "tag=", u64::MAX, default.tag)?;
     let entity_start = number(words, "entity=", U32_MAX, u64::from(default.entity_start))?;
@@ -78,6 +191,8 @@ fn given(words: &[String]) -> Option<Settings>
         tag,
         entity_start: entity_start as u32,
         key_start: key_start as u16,
+        aggregated_subscribers: KeyList::new(),
+        aggregated_publishers: KeyList::new(),
         line_max: line_max as u32,
         turns,
     })
@@ -125,31 +240,16 @@ fn value_in<'a>(words: &'a [String], name: &str) -> Option<(&'a str, &'a [String
     None
 }
 
-/// A number in decimal digits, at most `max`. It has no sign and does not begin with a zero that could go.
-fn parse_number(max: u64, field: &[u8]) -> Option<u64>
-    ensures number { result ≡ number_of max field.now }
-    ensures small { IfSome result (λ n. n ≤ max) }
+/// A key of its own with this text.
+fn key_of(alloc: Global, text: &str) -> Result<KeyExpr<'static>, AllocError>
+    requires { is_aggregate text.now ≡ true }
+    ensures { IfOk result (λ key. key ≡ undeclared text.now) }
 {
-    match field {
-        [] | [b'0', _, ..] => None,
-        _ => parse_digits(max, field),
+    let Ok(key) = KeyExpr::new(text) else {
+        unreachable!()
+    };
+    match key.into_owned(alloc) {
+        Ok(key) => Ok(key),
+        Err(_) => Err(AllocError),
     }
-}
-
-fn parse_digits(max: u64, digits: &[u8]) -> Option<u64>
-    ensures number { result ≡ number_from max 0 digits.now }
-    ensures small { IfSome result (λ n. n ≤ max) }
-{
-    let most = u128::from(max);
-    let mut number = 0;
-    for digit in digits {
-        if !digit.is_ascii_digit() || number > most {
-            return None;
-        }
-        number = 10 * number + u128::from(*digit - b'0');
-    }
-    if number > most {
-        return None;
-    }
-    Some(number as u64)
 }

@@ -2,10 +2,11 @@
 
 use std::alloc::{AllocError, Global};
 use std::test::Fail;
-use zs_core::{EntityKind, Event, KeyArg};
+use zs_events::{Event, KeyArg};
 use zs_keys::{MemorySink, MemorySource, Source, SteadySource};
+use zs_sample::{Locality, Text, Timestamp, ZBytes};
 use zs_script::{Line, LineReader, WriteFault, parse_event, write_whole};
-use zs_wire::WireExpr;
+use zs_wire::{Message, Push, QoSType, WireExpr};
 
 /// What a line is, in a few words.
 fn told(alloc: Global, text: &str) -> Result<String, AllocError> {
@@ -13,70 +14,128 @@ fn told(alloc: Global, text: &str) -> Result<String, AllocError> {
         number: 1,
         bytes: Vec::from_slice(alloc, text.as_bytes())?,
     };
-    let found = parse_event(alloc, &line)?;
-    match &found {
-        Some(Event::Key { key }) => {
-            let key = key_told(alloc, &key)?;
-            format!(in alloc; "key {key}")
+    let Some(event) = parse_event(alloc, &line)? else {
+        return String::from_str(alloc, "nothing");
+    };
+    event_told(alloc, &event)
+}
+
+fn event_told(alloc: Global, event: &Event) -> Result<String, AllocError> {
+    match event {
+        Event::Key { key } => keyed(alloc, "key", key),
+        Event::UndeclareKey { key } => keyed(alloc, "undeclare key", key),
+        Event::Sub { origin, key } => placed(alloc, "sub", *origin, key),
+        Event::Pub {
+            destination,
+            key,
+            encoding,
+            qos,
+            reliable,
+        } => {
+            let front = placed(alloc, "pub", *destination, key)?;
+            with_quality(alloc, &front, encoding, qos, *reliable)
         }
-        Some(Event::UndeclareKey { key }) => {
-            let key = key_told(alloc, &key)?;
-            format!(in alloc; "undeclare key {key}")
+        Event::Put {
+            destination,
+            key,
+            payload,
+            encoding,
+            qos,
+            reliable,
+            ..
+        } => {
+            let front = placed(alloc, "put", *destination, key)?;
+            let front = with_bytes(alloc, &front, payload)?;
+            with_quality(alloc, &front, encoding, qos, *reliable)
         }
-        Some(Event::Sub { origin, key }) => {
-            let key = key_told(alloc, &key)?;
-            format!(in alloc; "sub {origin:?} {key}")
+        Event::Delete {
+            destination,
+            key,
+            timestamp,
+            ..
+        } => {
+            let front = placed(alloc, "delete", *destination, key)?;
+            with_moment(alloc, &front, timestamp)
         }
-        Some(
-            Event::Undeclare {
-                kind: EntityKind::Sub,
-                id,
-            },
-        ) => format!(in alloc; "undeclare {id}"),
-        Some(
-            Event::Put {
-                destination,
-                key,
-                payload,
-                encoding,
-                qos,
-                reliable,
-            },
-        ) => {
-            let key = key_told(alloc, &key)?;
-            let bytes = payload.to_bytes(alloc)?;
-            let payload = bytes.as_slice();
-            let encoding = encoding.as_str();
-            let priority = qos.priority;
-            format!(in alloc;
-                "put {destination:?} {key} {payload:?} {encoding} {priority} {reliable}"
-            )
+        Event::Undeclare { kind, id } => format!(in alloc; "undeclare {kind:?} {id}"),
+        Event::Background { kind, id } => format!(in alloc; "background {kind:?} {id}"),
+        Event::PublisherPut { id, payload, .. } => {
+            let front = format!(in alloc; "pput {id}")?;
+            with_bytes(alloc, &front, payload)
         }
-        Some(Event::NetKeyExpr { number, wire }) => {
-            let wire = wire_told(alloc, &wire)?;
+        Event::PublisherDelete { id, timestamp, .. } => {
+            let front = format!(in alloc; "pdel {id}")?;
+            with_moment(alloc, &front, timestamp)
+        }
+        Event::Close => String::from_str(alloc, "close"),
+        Event::Net(message) => message_told(alloc, message),
+    }
+}
+
+fn message_told(alloc: Global, message: &Message) -> Result<String, AllocError> {
+    match message {
+        Message::DeclareKeyExpr { number, wire } => {
+            let wire = wire_told(alloc, wire)?;
             format!(in alloc; "keyexpr {number} {wire}")
         }
-        Some(Event::NetUndeclareKeyExpr { number }) => format!(in alloc; "unkeyexpr {number}"),
-        Some(
-            Event::NetPut {
-                wire,
-                payload,
-                encoding,
-                qos,
-                reliable,
-            },
-        ) => {
-            let wire = wire_told(alloc, &wire)?;
-            let bytes = payload.to_bytes(alloc)?;
-            let payload = bytes.as_slice();
-            let encoding = encoding.as_str();
-            let priority = qos.priority;
-            format!(in alloc; "push {wire} {payload:?} {encoding} {priority} {reliable}")
-        }
-        Some(Event::NetClose) => format!(in alloc; "net close"),
-        Some(Event::Close) => format!(in alloc; "close"),
-        None => format!(in alloc; "nothing"),
+        Message::UndeclareKeyExpr { number } => format!(in alloc; "unkeyexpr {number}"),
+        Message::Push(push) => push_told(alloc, push),
+        Message::Close => String::from_str(alloc, "net close"),
+        _ => String::from_str(alloc, "another message"),
     }
+}
+
+fn push_told(alloc: Global, push: &Push) -> Result<String, AllocError> {
+    let wire = wire_told(alloc, &push.wire)?;
+    let kind = push.body.kind;
+    let front = format!(in alloc; "push {wire} {kind:?}")?;
+    let front = with_bytes(alloc, &front, &push.body.payload)?;
+    with_quality(alloc, &front, &push.body.encoding, &push.qos, push.reliable)
+}
+
+fn keyed(alloc: Global, word: &str, key: &KeyArg) -> Result<String, AllocError> {
+    let key = key_told(alloc, key)?;
+    format!(in alloc; "{word} {key}")
+}
+
+fn placed(alloc: Global, word: &str, place: Locality, key: &KeyArg) -> Result<String, AllocError> {
+    let key = key_told(alloc, key)?;
+    format!(in alloc; "{word} {place:?} {key}")
+}
+
+fn with_bytes(alloc: Global, front: &String, payload: &ZBytes) -> Result<String, AllocError> {
+    let bytes = payload.to_bytes(alloc)?;
+    let payload = bytes.as_slice();
+    let front = front.as_str();
+    format!(in alloc; "{front} {payload:?}")
+}
+
+fn with_moment(
+    alloc: Global,
+    front: &String,
+    timestamp: &Option<Timestamp>,
+) -> Result<String, AllocError> {
+    let front = front.as_str();
+    match timestamp {
+        Some(moment) => {
+            let Timestamp { time, id } = *moment;
+            format!(in alloc; "{front} {time} {id}")
+        }
+        None => String::from_str(alloc, front),
+    }
+}
+
+fn with_quality(
+    alloc: Global,
+    front: &String,
+    encoding: &Text,
+    qos: &QoSType,
+    reliable: bool,
+) -> Result<String, AllocError> {
+    let front = front.as_str();
+    let encoding = encoding.as_str();
+    let priority = qos.priority;
+    format!(in alloc; "{front} {encoding} {priority} {reliable}")
 }
 
 fn key_told(alloc: Global, key: &KeyArg) -> Result<String, AllocError> {
@@ -85,6 +144,10 @@ fn key_told(alloc: Global, key: &KeyArg) -> Result<String, AllocError> {
         KeyArg::Number { number, suffix } => {
             let suffix = suffix.as_str();
             format!(in alloc; "number {number} and {suffix}")
+        }
+        KeyArg::Declared { text, number, .. } => {
+            let text = text.as_str();
+            format!(in alloc; "declared {number} {text}")
         }
     }
 }
@@ -115,12 +178,33 @@ fn reads_lines_as_events(rt: HostRuntime) -> Result<(), Fail> {
         ("undeclare\tkey\t#0", "undeclare key number 0 and "),
         ("sub\tany\tk\t", "nothing"),
         ("sub any k", "nothing"),
-        ("undeclare\tsub\t0", "undeclare 0"),
-        ("undeclare\tsub\t4294967295", "undeclare 4294967295"),
+        ("undeclare\tsub\t0", "undeclare Sub 0"),
+        ("undeclare\tsub\t4294967295", "undeclare Sub 4294967295"),
         ("undeclare\tsub\t4294967296", "nothing"),
         ("undeclare\tsub\t02", "nothing"),
         ("undeclare\tsub\t+2", "nothing"),
-        ("undeclare\tpub\t2", "nothing"),
+        ("undeclare\tpub\t2", "undeclare Pub 2"),
+        ("undeclare\tkind\t2", "nothing"),
+        ("background\tsub\t2", "background Sub 2"),
+        ("background\tpub\t2", "nothing"),
+        ("background\tsub", "nothing"),
+        (
+            "pub\tlocal\t#7",
+            "pub SessionLocal number 7 and  zenoh/bytes 5 true",
+        ),
+        (
+            "pub\tany\tk\tenc=a\tprio=7\tcc=drop\texpress=0\trel=0",
+            "pub Any k a 7 false",
+        ),
+        ("pub\tany\tk\tts=1:1", "nothing"),
+        ("pput\t2\tx01\tenc=", "pput 2 [1]"),
+        ("pput\t2\tx01\tprio=1", "nothing"),
+        ("pput\t2", "nothing"),
+        ("pdel\t2\tts=3:fF", "pdel 2 3 255"),
+        ("pdel\t2\tx01", "nothing"),
+        ("delete\tany\tk", "delete Any k"),
+        ("delete\tany\tk\tts=3:fF", "delete Any k 3 255"),
+        ("delete\tany\tk\tenc=a", "nothing"),
         (
             "put\tany\ttest/k\tx7a656e6f68",
             "put Any test/k [122, 101, 110, 111, 104] zenoh/bytes 5 true",
@@ -130,20 +214,42 @@ fn reads_lines_as_events(rt: HostRuntime) -> Result<(), Fail> {
             "put SessionLocal é [255] zenoh/bytes 5 true",
         ),
         ("put\tany\tk\tx", "put Any k [] zenoh/bytes 5 true"),
+        (
+            "put\tany\tk\tx\tprio=7\trel=0",
+            "put Any k [] zenoh/bytes 7 false",
+        ),
+        ("put\tany\tk\tx\trel=0\tprio=7", "nothing"),
+        ("put\tany\tk\tx\tprio=7\tprio=7", "nothing"),
+        ("put\tany\tk\tx\tprio=0", "nothing"),
+        ("put\tany\tk\tx\tprio=8", "nothing"),
+        ("put\tany\tk\tx\tts=1:", "nothing"),
+        ("put\tany\tk\tx\tts=1:00", "nothing"),
+        ("put\tany\tk\tx\tcc=", "nothing"),
+        ("put\tany\tk\tx\texpress=2", "nothing"),
+        ("put\tany\tk\tx\tsrc=1:2", "nothing"),
+        ("put\tany\tk\tx\tsrc=1:2:3:4", "nothing"),
+        ("put\tany\tk\tx\tatt=01", "nothing"),
+        ("put\tany\tk\tx\tlevel=1", "nothing"),
+        ("put\tany\tk\tx\t", "nothing"),
         ("put\tany\tk\tx1", "nothing"),
         ("put\tany\tk\t01", "nothing"),
         (
             "net\tpush\ts0:k\tput\tx01",
-            "push Sender 0 and k [1] zenoh/bytes 5 true",
+            "push Sender 0 and k Put [1] zenoh/bytes 5 true",
         ),
         (
             "net\tpush\tr65535:\tput\tx",
-            "push Receiver 65535 and  [] zenoh/bytes 5 true",
+            "push Receiver 65535 and  Put [] zenoh/bytes 5 true",
         ),
         ("net\tpush\ts0k\tput\tx01", "nothing"),
         ("net\tpush\ts65536:k\tput\tx01", "nothing"),
         ("net\tpush\tt0:k\tput\tx01", "nothing"),
         ("net\tpush\ts0:k\tdel\tx01", "nothing"),
+        (
+            "net\tpush\ts0:k\tdel\tprio=0",
+            "push Sender 0 and k Delete [] zenoh/bytes 0 true",
+        ),
+        ("net\tpush\ts0:k\tdel\tenc=a", "nothing"),
         ("net\tkeyexpr\t7\ts0:a:b", "keyexpr 7 Sender 0 and a:b"),
         ("net\tkeyexpr\t65536\ts0:a", "nothing"),
         ("net\tunkeyexpr\t7", "unkeyexpr 7"),

@@ -12,8 +12,16 @@ const QUALITY: &str = "enc=zenoh/bytes prio=5 cc=drop express=0 rel=1";
 pub const FIRST: &str = "sub any test/k\nput any test/k x7a656e6f68\n";
 
 /// What that script prints.
-pub const FIRST_TEXT: &str =
-    "1 ok 2\n2 ok\n2 hand sub 2 put test/k x7a656e6f68 Q\n3 ok\n3 end sub 2\n";
+pub const FIRST_TEXT: &str = "\
+1 ok 2
+1 send sub 2 s0:test/k
+2 ok
+2 send push s0:test/k put x7a656e6f68 Q
+2 hand sub 2 put test/k x7a656e6f68 Q
+3 ok
+3 send close
+3 end sub 2
+";
 
 /// Puts a text behind the bytes, with tabs for spaces.
 pub fn spell(bytes: &mut Vec<u8>, text: &str) -> Result<(), AllocError> {
@@ -36,6 +44,15 @@ pub fn spelled(alloc: Global, text: &str) -> Result<Vec<u8>, AllocError> {
     let mut bytes = Vec::new(alloc);
     spell(&mut bytes, text)?;
     Ok(bytes)
+}
+
+/// The words of a line, with a space between two.
+pub fn cut_words(alloc: Global, line: &str) -> Result<Vec<String>, AllocError> {
+    let mut words = Vec::new(alloc);
+    for word in line.split(' ') {
+        words.push(String::from_str(alloc, word)?)?;
+    }
+    Ok(words)
 }
 
 /// A source of these bytes that gives at most `cut` of them per read, and fails at this read.

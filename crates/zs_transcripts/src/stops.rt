@@ -23,14 +23,14 @@ const STOPS: [Stop; 8] = [
         line_max: 100,
         turns: 9,
         error: DriveError::BadLine(3),
-        output: "1 ok 2\n2 ok\n2 hand sub 2 put k x01 Q\n",
+        output: "1 ok 2\n1 send sub 2 s0:k\n2 ok\n2 send push s0:k put x01 Q\n2 hand sub 2 put k x01 Q\n",
     },
     Stop {
         script: "sub any k\n\nsub any k\n",
         line_max: 100,
         turns: 9,
         error: DriveError::BadLine(2),
-        output: "1 ok 2\n",
+        output: "1 ok 2\n1 send sub 2 s0:k\n",
     },
     Stop {
         script: "close now\n",
@@ -58,14 +58,14 @@ const STOPS: [Stop; 8] = [
         line_max: 9,
         turns: 9,
         error: DriveError::LineTooLong(2),
-        output: "1 ok 2\n",
+        output: "1 ok 2\n1 send sub 2 s0:k\n",
     },
     Stop {
         script: "sub any k\nsub any k\n",
         line_max: 100,
         turns: 1,
         error: DriveError::OutOfTurns,
-        output: "1 ok 2\n2 ok 3\n",
+        output: "1 ok 2\n1 send sub 2 s0:k\n2 ok 3\n",
     },
     // A bad line among those that were read comes before the reads run out.
     Stop {
@@ -73,7 +73,7 @@ const STOPS: [Stop; 8] = [
         line_max: 100,
         turns: 1,
         error: DriveError::BadLine(2),
-        output: "1 ok 2\n",
+        output: "1 ok 2\n1 send sub 2 s0:k\n",
     },
 ];
 

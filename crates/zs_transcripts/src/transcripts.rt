@@ -1,15 +1,18 @@
 //! Transcripts: each script line, and under it, behind `<`, what is printed for it. They were worked out by hand from
 //! the rules of the script language.
 
-use crate::spelling::{sink, source, spell};
+use crate::spelling::{cut_words, sink, source, spell};
 use std::alloc::{AllocError, Global};
 use std::process::Abort;
 use std::test::Fail;
-use zs_session::{Driven, Settings, drive};
+use zs_session::run;
 
 mod closing;
 mod declared_keys;
 mod network;
+mod publishers;
+mod samples;
+mod sharing;
 mod subscribers;
 
 /// A script with its output.
@@ -25,16 +28,14 @@ struct Transcript {
 struct Parts {
     script: Vec<u8>,
     output: Vec<u8>,
-    lines: u64,
 }
 
 impl Transcript {
-    /// The script, its output, and how many lines the script has.
+    /// The script and its output.
     fn parts(&self, alloc: Global) -> Result<Parts, AllocError> {
         let mut parts = Parts {
             script: Vec::new(alloc),
             output: Vec::new(alloc),
-            lines: 0,
         };
         for line in self.text.lines() {
             match line.strip_prefix("< ") {
@@ -45,7 +46,6 @@ impl Transcript {
                 None => {
                     spell(&mut parts.script, line)?;
                     parts.script.push(b'\n')?;
-                    parts.lines = parts.lines.saturating_add(1);
                 }
             }
         }
@@ -53,24 +53,30 @@ impl Transcript {
     }
 }
 
-/// Drives each script with these settings, in reads and writes of several lengths, and compares what it prints.
+/// Runs each script with these words, in reads and writes of several lengths, and compares what it prints.
 fn assert_printed(
     rt: &(impl Abort + AllocGlobal),
+    words: &str,
     transcripts: &[Transcript],
-    settings: &Settings,
 ) -> Result<(), Fail> {
-    assert!(*rt; settings.is_valid());
+    let words = cut_words(rt.alloc(), words)?;
     for transcript in transcripts {
         for cut in [1, 7, 4096] {
             let alloc = rt.alloc();
             let parts = transcript.parts(alloc)?;
             let mut source = source(alloc, parts.script, cut, 0)?;
-            let mut sink = sink(alloc, cut, 0)?;
-            let driven = drive(alloc, &mut source, &mut sink, settings);
+            let mut output = sink(alloc, cut, 0)?;
+            let mut complaints = sink(alloc, cut, 0)?;
+            let status = run(
+                alloc,
+                words.as_slice(),
+                &mut source,
+                &mut output,
+                &mut complaints,
+            );
             let name = transcript.name;
-            assert_eq!(*rt; sink.bytes(), parts.output.as_slice(), "of {name}");
-            let events = parts.lines.saturating_add(1);
-            assert_eq!(*rt; driven, Ok(Driven { events }), "of {name}");
+            assert_eq!(*rt; output.bytes(), parts.output.as_slice(), "of {name}");
+            assert_eq!(*rt; status, 0, "of {name}");
         }
     }
     Ok(())

@@ -1,22 +1,12 @@
 //! What runs do with their words, and the statuses that they return.
 
-use crate::spelling::{FIRST, FIRST_TEXT, sink, source, spelled};
-use std::alloc::{AllocError, Global};
+use crate::spelling::{FIRST, FIRST_TEXT, cut_words, sink, source, spelled};
 use std::test::Fail;
 use zs_keys::Source;
 use zs_session::run;
 
-/// The words of a line, with a space between two.
-fn cut(alloc: Global, line: &str) -> Result<Vec<String>, AllocError> {
-    let mut words = Vec::new(alloc);
-    for word in line.split(' ') {
-        words.push(String::from_str(alloc, word)?)?;
-    }
-    Ok(words)
-}
-
 /// Words that no run takes.
-const BAD_WORDS: [&str; 43] = [
+const BAD_WORDS: [&str; 51] = [
     "",
     "link",
     "soak 1 1",
@@ -60,6 +50,14 @@ const BAD_WORDS: [&str; 43] = [
     "drive turns=0",
     "drive turns=01",
     "drive turns=18446744073709551616",
+    "aggsub=a",
+    "drive aggsub",
+    "drive aggsub=",
+    "drive aggsub=a//b",
+    "drive aggpub=a aggpub=a#",
+    "drive aggpub=a/$* aggsub=a",
+    "drive aggsubs=a",
+    "drive aggsub=a\tb",
 ];
 
 #[test]
@@ -70,7 +68,7 @@ fn bad_words_read_and_write_nothing(rt: HostRuntime) -> Result<(), Fail> {
         let mut complaints = sink(rt.alloc(), 4096, 0)?;
         let status = run(
             rt.alloc(),
-            cut(rt.alloc(), line)?.as_slice(),
+            cut_words(rt.alloc(), line)?.as_slice(),
             &mut script,
             &mut output,
             &mut complaints,
@@ -103,7 +101,7 @@ struct Run {
     output: &'static str,
 }
 
-const RUNS: [Run; 10] = [
+const RUNS: [Run; 11] = [
     Run {
         words: "drive",
         script: FIRST,
@@ -118,7 +116,7 @@ const RUNS: [Run; 10] = [
         fails: (0, 0),
         status: 0,
         complaint: "",
-        output: "1 ok 6\n2 ok\n2 end sub 6\n",
+        output: "1 ok 6\n1 send sub 6 s0:k\n2 ok\n2 send close\n2 end sub 6\n",
     },
     Run {
         words: "drive entity=4294967293",
@@ -126,7 +124,14 @@ const RUNS: [Run; 10] = [
         fails: (0, 0),
         status: 0,
         complaint: "",
-        output: "1 ok 4294967294\n2 refused IdsExhausted\n3 ok\n3 end sub 4294967294\n",
+        output: "\
+1 ok 4294967294
+1 send sub 4294967294 s0:a
+2 refused IdsExhausted
+3 ok
+3 send close
+3 end sub 4294967294
+",
     },
     Run {
         words: "drive",
@@ -134,7 +139,7 @@ const RUNS: [Run; 10] = [
         fails: (0, 0),
         status: 3,
         complaint: "BadLine 2\n",
-        output: "1 ok 2\n",
+        output: "1 ok 2\n1 send sub 2 s0:k\n",
     },
     Run {
         words: "drive line=9",
@@ -142,7 +147,7 @@ const RUNS: [Run; 10] = [
         fails: (0, 0),
         status: 0,
         complaint: "",
-        output: "1 ok 2\n2 ok 3\n3 ok\n3 end sub 2\n3 end sub 3\n",
+        output: "1 ok 2\n1 send sub 2 s0:k\n2 ok 3\n3 ok\n3 send close\n3 end sub 2\n3 end sub 3\n",
     },
     Run {
         words: "drive line=9",
@@ -150,7 +155,7 @@ const RUNS: [Run; 10] = [
         fails: (0, 0),
         status: 4,
         complaint: "LineTooLong 2\n",
-        output: "1 ok 2\n",
+        output: "1 ok 2\n1 send sub 2 s0:k\n",
     },
     Run {
         words: "drive turns=1",
@@ -158,7 +163,7 @@ const RUNS: [Run; 10] = [
         fails: (0, 0),
         status: 5,
         complaint: "OutOfTurns\n",
-        output: "1 ok 2\n2 ok 3\n",
+        output: "1 ok 2\n1 send sub 2 s0:k\n2 ok 3\n",
     },
     Run {
         words: "drive turns=2",
@@ -166,7 +171,15 @@ const RUNS: [Run; 10] = [
         fails: (0, 0),
         status: 0,
         complaint: "",
-        output: "1 ok 2\n2 ok 3\n3 ok\n3 end sub 2\n3 end sub 3\n",
+        output: "1 ok 2\n1 send sub 2 s0:k\n2 ok 3\n3 ok\n3 send close\n3 end sub 2\n3 end sub 3\n",
+    },
+    Run {
+        words: "drive aggpub=a/** aggsub=k aggpub=a/** aggsub=k",
+        script: "sub any k\n",
+        fails: (0, 0),
+        status: 0,
+        complaint: "",
+        output: "1 ok 2\n1 send sub 2 s0:k\n2 ok\n2 send close\n2 end sub 2\n",
     },
     Run {
         words: "drive",
@@ -194,7 +207,7 @@ fn statuses_and_complaints(rt: HostRuntime) -> Result<(), Fail> {
         let mut complaints = sink(alloc, 3, 0)?;
         let status = run(
             alloc,
-            cut(alloc, case.words)?.as_slice(),
+            cut_words(alloc, case.words)?.as_slice(),
             &mut source(alloc, spelled(alloc, case.script)?, 4096, case.fails.0)?,
             &mut output,
             &mut complaints,

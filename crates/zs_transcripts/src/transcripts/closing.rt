@@ -2,7 +2,6 @@
 
 use super::{Transcript, assert_printed};
 use std::test::Fail;
-use zs_session::Settings;
 
 const CLOSING: [Transcript; 2] = [
     Transcript {
@@ -10,8 +9,10 @@ const CLOSING: [Transcript; 2] = [
         text: "\
 sub any k
 < 1 ok 2
+< 1 send sub 2 s0:k
 close
 < 2 ok
+< 2 send close
 < 2 end sub 2
 put any k x01
 < 3 refused SessionClosedError
@@ -24,25 +25,44 @@ put any a//b x01
 < 7 ok",
     },
     Transcript {
-        name: "declared keys behind a close",
+        name: "declared keys, publishers and deletions behind a close",
         text: "\
 key k
 < 1 ok 1
+< 1 send keyexpr 1 s0:k
+pub any k
+< 2 ok 2
+< 2 send interest 2 currentfuture subscribers s0:k
 close
-< 2 ok
+< 3 ok
+< 3 send close
 undeclare key #1
-< 3 refused SessionClosedError
-key k
 < 4 refused SessionClosedError
-put any #1 x
+key k
 < 5 refused SessionClosedError
+put any #1 x
+< 6 refused SessionClosedError
+delete any k
+< 7 refused SessionClosedError
+pub any k
+< 8 refused SessionClosedError
+pput 2 x
+< 9 refused SessionClosedError
+pdel 2
+< 10 refused SessionClosedError
+undeclare pub 2
+< 11 ok
+background sub 2
+< 12 ok
 close
-< 6 ok
-< 7 ok",
+< 13 ok
+net push s0:k del
+< 14 refused Ignored
+< 15 ok",
     },
 ];
 
 #[test]
 fn closed_session_refuses(rt: HostRuntime) -> Result<(), Fail> {
-    assert_printed(&rt, &CLOSING, &Settings::default())
+    assert_printed(&rt, "drive", &CLOSING)
 }

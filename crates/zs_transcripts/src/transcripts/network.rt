@@ -2,7 +2,6 @@
 
 use super::{Transcript, assert_printed};
 use std::test::Fail;
-use zs_session::Settings;
 
 const NETWORK: [Transcript; 4] = [
     Transcript {
@@ -12,12 +11,14 @@ net keyexpr 7 s0:a
 < 1 ok
 sub any a/*
 < 2 ok 2
+< 2 send sub 2 s0:a/*
 net push s7:/b put x01
 < 3 ok
 < 3 hand sub 2 put a/b x01 Q
 net push s7:// put x01
 < 4 refused BadKeyExpr
 < 5 ok
+< 5 send close
 < 5 end sub 2",
     },
     Transcript {
@@ -25,8 +26,10 @@ net push s7:// put x01
         text: "\
 key k
 < 1 ok 1
+< 1 send keyexpr 1 s0:k
 sub any k
 < 2 ok 2
+< 2 send sub 2 s0:k
 net push r1: put x01
 < 3 ok
 < 3 hand sub 2 put k x01 Q
@@ -34,9 +37,11 @@ net push s1: put x01
 < 4 refused UnknownScope
 undeclare key #1
 < 5 ok
+< 5 send unkeyexpr 1
 net push r1: put x01
 < 6 refused UnknownScope
 < 7 ok
+< 7 send close
 < 7 end sub 2",
     },
     Transcript {
@@ -44,6 +49,7 @@ net push r1: put x01
         text: "\
 sub any **
 < 1 ok 2
+< 1 send sub 2 s0:**
 net keyexpr 0 s0:a
 < 2 refused UnknownScope
 net push s7:x put x01
@@ -63,6 +69,7 @@ net push s7:/c put x01
 net push s0:a//b put x01
 < 9 refused BadKeyExpr
 < 10 ok
+< 10 send close
 < 10 end sub 2",
     },
     Transcript {
@@ -70,14 +77,17 @@ net push s0:a//b put x01
         text: "\
 key k
 < 1 ok 1
+< 1 send keyexpr 1 s0:k
 sub remote k/*/z
 < 2 ok 2
+< 2 send sub 2 s0:k/*/z
 net keyexpr 8 r1:/x
 < 3 ok
 net keyexpr 9 s8:/z
 < 4 ok
 undeclare key #1
 < 5 ok
+< 5 send unkeyexpr 1
 net push s9: put x
 < 6 ok
 < 6 hand sub 2 put k/x/z x Q
@@ -93,6 +103,7 @@ net close
 < 11 ok
 close
 < 12 ok
+< 12 send close
 < 12 end sub 2
 net keyexpr 1 s0:a
 < 13 refused Ignored
@@ -108,5 +119,5 @@ net push s9: put x
 
 #[test]
 fn numbers_of_the_network_stand_for_their_texts(rt: HostRuntime) -> Result<(), Fail> {
-    assert_printed(&rt, &NETWORK, &Settings::default())
+    assert_printed(&rt, "drive", &NETWORK)
 }

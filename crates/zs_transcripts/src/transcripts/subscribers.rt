@@ -2,23 +2,31 @@
 
 use super::{Transcript, assert_printed};
 use std::test::Fail;
-use zs_session::Settings;
 
-const SUBSCRIBERS: [Transcript; 10] = [
+const SUBSCRIBERS: [Transcript; 11] = [
     Transcript {
         name: "an empty script",
-        text: "< 1 ok",
+        text: "\
+< 1 ok
+< 1 send close",
     },
     Transcript {
-        name: "a subscriber hears a put",
+        name: "a subscriber hears a put and a delete",
         text: "\
 sub any test/k
 < 1 ok 2
+< 1 send sub 2 s0:test/k
 put any test/k x7a656e6f68
 < 2 ok
+< 2 send push s0:test/k put x7a656e6f68 Q
 < 2 hand sub 2 put test/k x7a656e6f68 Q
+delete any test/k
 < 3 ok
-< 3 end sub 2",
+< 3 send push s0:test/k del prio=5 cc=drop express=0 rel=1
+< 3 hand sub 2 del test/k x Q
+< 4 ok
+< 4 send close
+< 4 end sub 2",
     },
     Transcript {
         name: "localities of puts and of subscribers",
@@ -27,6 +35,7 @@ sub local k
 < 1 ok 2
 sub remote k
 < 2 ok 3
+< 2 send sub 3 s0:k
 sub any k
 < 3 ok 4
 put local k x01
@@ -35,11 +44,13 @@ put local k x01
 < 4 hand sub 4 put k x01 Q
 put remote k x01
 < 5 ok
+< 5 send push s0:k put x01 Q
 net push s0:k put x01
 < 6 ok
 < 6 hand sub 3 put k x01 Q
 < 6 hand sub 4 put k x01 Q
 < 7 ok
+< 7 send close
 < 7 end sub 2
 < 7 end sub 3
 < 7 end sub 4",
@@ -49,14 +60,43 @@ net push s0:k put x01
         text: "\
 sub any k
 < 1 ok 2
+< 1 send sub 2 s0:k
 undeclare sub 2
 < 2 ok
+< 2 send unsub 2
 < 2 end sub 2
 undeclare sub 2
 < 3 refused NotFound
 put any k x01
 < 4 ok
-< 5 ok",
+< 4 send push s0:k put x01 Q
+< 5 ok
+< 5 send close",
+    },
+    Transcript {
+        name: "a subscriber that is left to itself hears on, and can't be named",
+        text: "\
+sub any k
+< 1 ok 2
+< 1 send sub 2 s0:k
+background sub 2
+< 2 ok
+undeclare sub 2
+< 3 refused NotFound
+background sub 2
+< 4 refused NotFound
+put any k x01
+< 5 ok
+< 5 send push s0:k put x01 Q
+< 5 hand sub 2 put k x01 Q
+sub any k
+< 6 ok 3
+undeclare sub 3
+< 7 ok
+< 7 end sub 3
+< 8 ok
+< 8 send close
+< 8 end sub 2",
     },
     Transcript {
         name: "texts that are no key expressions",
@@ -73,7 +113,9 @@ sub any
 < 5 refused BadKeyExpr
 sub any a
 < 6 ok 2
+< 6 send sub 2 s0:a
 < 7 ok
+< 7 send close
 < 7 end sub 2",
     },
     Transcript {
@@ -81,27 +123,36 @@ sub any a
         text: "\
 sub any a/**
 < 1 ok 2
+< 1 send sub 2 s0:a/**
 sub any a/*
 < 2 ok 3
+< 2 send sub 3 s0:a/*
 sub any a/x$*
 < 3 ok 4
+< 3 send sub 4 s0:a/x$*
 sub any **
 < 4 ok 5
+< 4 send sub 5 s0:**
 put any a x
 < 5 ok
+< 5 send push s0:a put x Q
 < 5 hand sub 2 put a x Q
 < 5 hand sub 5 put a x Q
 put any a/@b x
 < 6 ok
+< 6 send push s0:a/@b put x Q
 put any a/x x
 < 7 ok
+< 7 send push s0:a/x put x Q
 < 7 hand sub 2 put a/x x Q
 < 7 hand sub 3 put a/x x Q
 < 7 hand sub 4 put a/x x Q
 < 7 hand sub 5 put a/x x Q
 put any @v/a x
 < 8 ok
+< 8 send push s0:@v/a put x Q
 < 9 ok
+< 9 send close
 < 9 end sub 2
 < 9 end sub 3
 < 9 end sub 4
@@ -112,13 +163,16 @@ put any @v/a x
         text: "\
 sub any k
 < 1 ok 2
+< 1 send sub 2 s0:k
 sub any k
 < 2 ok 3
 put any k xAb
 < 3 ok
+< 3 send push s0:k put xab Q
 < 3 hand sub 2 put k xab Q
 < 3 hand sub 3 put k xab Q
 < 4 ok
+< 4 send close
 < 4 end sub 2
 < 4 end sub 3",
     },
@@ -134,6 +188,7 @@ net push s0:a//b put x
 put any #65536 x
 < 4 refused BadKeyExpr
 < 5 ok
+< 5 send close
 < 5 end sub 2",
     },
     Transcript {
@@ -141,11 +196,14 @@ put any #65536 x
         text: "\
 sub any **
 < 1 ok 2
+< 1 send sub 2 s0:**
 put remote k x01
 < 2 ok
+< 2 send push s0:k put x01 Q
 undeclare sub 3
 < 3 refused NotFound
 < 4 ok
+< 4 send close
 < 4 end sub 2",
     },
     Transcript {
@@ -153,16 +211,21 @@ undeclare sub 3
         text: "\
 sub any a/b
 < 1 ok 2
+< 1 send sub 2 s0:a/b
 sub any c
 < 2 ok 3
+< 2 send sub 3 s0:c
 put any a/* x
 < 3 ok
+< 3 send push s0:a/* put x Q
 < 3 hand sub 2 put a/* x Q
 put any ** x
 < 4 ok
+< 4 send push s0:** put x Q
 < 4 hand sub 2 put ** x Q
 < 4 hand sub 3 put ** x Q
 < 5 ok
+< 5 send close
 < 5 end sub 2
 < 5 end sub 3",
     },
@@ -173,22 +236,22 @@ const LAST_NUMBER: [Transcript; 1] = [Transcript {
     text: "\
 sub any a
 < 1 ok 4294967294
+< 1 send sub 4294967294 s0:a
 sub any a
 < 2 refused IdsExhausted
-< 3 ok
-< 3 end sub 4294967294",
+pub any a
+< 3 refused IdsExhausted
+< 4 ok
+< 4 send close
+< 4 end sub 4294967294",
 }];
 
 #[test]
 fn subscribers_hear_puts(rt: HostRuntime) -> Result<(), Fail> {
-    assert_printed(&rt, &SUBSCRIBERS, &Settings::default())
+    assert_printed(&rt, "drive", &SUBSCRIBERS)
 }
 
 #[test]
 fn last_number_is_drawn_once(rt: HostRuntime) -> Result<(), Fail> {
-    let settings = Settings {
-        entity_start: 4294967293,
-        ..Settings::default()
-    };
-    assert_printed(&rt, &LAST_NUMBER, &settings)
+    assert_printed(&rt, "drive entity=4294967293", &LAST_NUMBER)
 }

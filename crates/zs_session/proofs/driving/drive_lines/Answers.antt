@@ -1,19 +1,17 @@
-use Rattle.std.proofs.Common.{◌≡◌, ℕ, ◌+◌, ◌++◌, List, [], Option, Some, Ok, Err, refl, sym, ◌∙◌, ap, subst, arith, append-nil}
-use Rattle.std.proofs.lemmas.Result.{err_from_is_err_and}
+use Rattle.std.proofs.Common.{◌≡◌, ℕ, ◌+◌, ◌++◌, [], Option, Ok, Err, refl, sym, ◌∙◌, ap, subst, arith}
 use Rattle.zs_core.specs.Effects.{effects}
 use Rattle.zs_core.specs.World.{World}
 use Rattle.zs_core.specs.Stands.{world_after}
-use Rattle.zs_core.specs.declared.event.Event.TheVariants.{Close}
-use Rattle.zs_script.proofs.Answering.{count-none}
+use Rattle.zs_events.specs.declared.event.Event.TheVariants.{Close}
 use Rattle.zs_script.specs.Printing.{turn_text}
 use Rattle.zs_script.specs.Reading.{Reading, Answers}
 use Rattle.zs_script.specs.declared.reader.Line.{Line}
 use Rattle.zs_script.specs.declared.reader.LineError.{LineError}
 use Rattle.zs_session.specs.Script.{events_of, text}
-use Rattle.zs_session.specs.Driving.{Drives, IsDone, PutsWaiting}
+use Rattle.zs_session.specs.Driving.{PutsWaiting}
 use Rattle.zs_session.specs.Errors.{drive_error}
 use Rattle.zs_session.specs.declared.errors.DriveError.TheVariants.{WriteFault, NoMemory, BadLine}
-use Rattle.zs_session.proofs.Exits.{Counted, stops, handed_on, next_cause, counted_same, counted_next, few_read, few_next, spent_all, risen_before, none_from, err_next, ends_well, begun_empty, counted_fresh, handed_error}
+use Rattle.zs_session.proofs.Exits.{stops, handed_on, next_cause, counted_same, counted_next, few_read, few_next, spent_all, risen_before, none_from, err_next, ends_well, begun_empty, counted_fresh, handed_error}
 use Rattle.zs_session.proofs.Progress.{Progress, history_after, fresh, begun, due, front_none, front_written, stopped, stopped_long, spent_turns, went_on, closed, front_closed, waits_on}
 use Rattle.zs_session.proofs.driving.drive_lines.Goals as goal
 

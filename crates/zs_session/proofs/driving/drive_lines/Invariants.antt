@@ -1,4 +1,4 @@
-use Rattle.std.proofs.Common.{◌≡◌, ℕ, ◌≤◌}
+use Rattle.std.proofs.Common.{◌≤◌}
 use Rattle.zs_script.specs.Reading.{work}
 use Rattle.zs_session.specs.Driving.{PutsWaiting}
 use Rattle.zs_session.proofs.Exits.{Counted}

@@ -1,4 +1,4 @@
-use Rattle.std.proofs.Common.{◌≡◌, [], ◌++◌, ◌∙◌, sym, ap, append-nil}
+use Rattle.std.proofs.Common.{◌++◌, ◌∙◌, sym, ap, append-nil}
 use Rattle.zs_session.proofs.Exits.{puts_out}
 use Rattle.zs_session.proofs.driving.write_if_due.Goals as goal
 

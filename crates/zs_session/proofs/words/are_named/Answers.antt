@@ -4,7 +4,7 @@ use Rattle.std.proofs.lemmas.Iterator.{YieldsList-from_slice}
 use Rattle.std.proofs.lemmas.Iterator.Search.{all_from_yields_List}
 use Rattle.std.proofs.lemmas.List.Folds.{list_all-map}
 use Rattle.zs_session.specs.Words.{is_setting}
-use Rattle.zs_session.proofs.words.are_settings.Goals as goal
+use Rattle.zs_session.proofs.words.are_named.Goals as goal
 
 pub returns : goal.returns
 returns c =

@@ -1,0 +1,23 @@
+use Rattle.std.proofs.Common.{refl}
+use Rattle.std.specs.Prelude.{Err}
+use Rattle.zs_session.specs.declared.errors.DriveError.TheVariants.{NoMemory}
+use Rattle.zs_session.specs.Driving.{Outlet, Supply}
+use Rattle.zs_session.proofs.Exits.{unstarted}
+use Rattle.zs_session.proofs.running.run.Goals as goal
+
+pub returns-in-Err-clause-runs : goal.returns-in-Err-clause-runs
+returns-in-Err-clause-runs g c =
+    let before : Supply = record {
+      left = g.S.Source.left c.args.source.now;
+      reads = g.S.Source.reads c.args.source.now;
+      pieces = g.S.Source.pieces c.args.source.now;
+      faults = g.S.Source.faults c.args.source.now;
+    } in
+    let from : Outlet = record { written = g.K.Sink.written c.args.sink.now; faults = g.K.Sink.faults c.args.sink.now } in
+    λ s found. record {
+      answer = Err NoMemory;
+      status_is = c.status_of.ensures;
+      drives = unstarted s before from;
+      completes = λ input holds valid read write. refl;
+      complains = c.complain_of.ensures;
+    }
