@@ -7,3 +7,6 @@ pub mod Order
 pub mod Keeping
 pub mod Standing
 pub mod Arrival
+pub mod Hearing
+pub mod Tabling
+pub mod Drawing

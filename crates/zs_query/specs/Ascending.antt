@@ -1,5 +1,5 @@
 -- Lists in ascending order, and a place in one.
-use Rattle.std.specs.Prelude.{◌≡◌, ℕ, ◌+◌, ◌<◌, ◌≤◌, nat_lt, not, List, [], ◌∷◌, ◌++◌, filter, length, Result, MatchResult}
+use Rattle.std.specs.Prelude.{◌≡◌, ℕ, ◌<◌, ◌≤◌, nat_lt, not, List, [], ◌∷◌, ◌++◌, filter, length, Result, MatchResult}
 use Rattle.std.specs.List.{AllByRecursion, AllWithin, HoldsAt}
 
 -- the numbers of the elements rise from each one to all behind it

@@ -5,5 +5,9 @@ pub mod Kept
 pub mod Gets
 pub mod ByKey
 pub mod Laws
+pub mod Asked
+pub mod GetTable
+pub mod RequestTable
+pub mod Drawn
 pub mod QueryData
 pub mod QueryLoans

@@ -6,6 +6,8 @@ use Rattle.zs_query.specs.declared.query_value.QueryValue.{QueryValue}
 use Rattle.zs_query.specs.declared.request_row.RequestRow.{RequestRow}
 use Rattle.zs_query.specs.declared.requests.Finished.{Finished}
 use Rattle.zs_query.specs.declared.requests.Finished.TheVariants.{Unknown, MoreLeft, Last}
+use Rattle.zs_query.specs.declared.requests.Finishing.{Finishing}
+use Rattle.zs_query.specs.declared.requests.Finishing.TheVariants as finishing
 use Rattle.zs_query.specs.Ascending.{Ascend, placed}
 
 -- the unfinished values, ascending, and how many requests were handed out so far
@@ -50,6 +52,12 @@ has_other v values = list_any (λ o. (o.request == v.request) && not (o.value ==
 abbrev pub finished : Option QueryValue → List QueryValue → Finished
 finished None values = Unknown
 finished (Some v) values = if has_other v values then MoreLeft else Last v.row
+
+-- what it comes to, with the request lent
+abbrev pub finished_as : Finishing → Finished
+finished_as finishing.Unknown = Unknown
+finished_as finishing.MoreLeft = MoreLeft
+finished_as (finishing.Last row) = Last row.now
 
 -- the values without one
 abbrev pub without_value : ℕ → List QueryValue → List QueryValue

@@ -1,7 +1,8 @@
-ghost use Rattle.std.specs.Prelude.{◌≡◌, ◌==◌, length, slice_get};
+ghost use Rattle.std.specs.Prelude.{◌≡◌, ◌==◌, map, IfOk, length, slice_get};
 ghost use Rattle.std.specs.Option.{option_copied};
 
 use crate::replies::Replies;
+use std::alloc::{AllocError, Global};
 use std::marker::Model;
 
 /// The ends of gets: the number of each, and the replies that it hands out at last.
@@ -48,10 +49,27 @@ impl Ends {
         self.items.get(index)
     }
 
+    /// The numbers of the gets that end.
+    pub fn numbers(&self, alloc: Global) -> Result<Vec<u32>, AllocError>
+        ensures { IfOk result (λ numbers. numbers.items ≡ map (λ end. end.0) self.now) }
+    {
+        numbers_of(alloc, &self.items)
+    }
+
     /// The ends as a list.
     pub fn into_vec(self) -> Vec<(u32, Replies)>
         ensures { result.items ≡ self }
     {
         self.items
     }
+}
+
+fn numbers_of(alloc: Global, ends: &[(u32, Replies)]) -> Result<Vec<u32>, AllocError>
+    ensures { IfOk result (λ numbers. numbers.items ≡ map (λ end. end.0) ends.now) }
+{
+    let mut numbers = Vec::with_capacity(alloc, ends.len())?;
+    for end in ends {
+        numbers.push(end.0)?;
+    }
+    Ok(numbers)
 }

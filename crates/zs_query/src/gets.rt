@@ -1,4 +1,4 @@
-ghost use Rattle.std.specs.Prelude.{◌≡◌, ◌≢◌, [], ◌∷◌, ◌||◌, true, false, not, filter, length, slice_get, IsOk, IfOk, OnOk, OnErr};
+ghost use Rattle.std.specs.Prelude.{◌≡◌, ◌≢◌, [], ◌∷◌, ◌||◌, true, false, not, filter, map, length, slice_get, IsOk, IfOk, OnOk, OnErr};
 ghost use Rattle.std.specs.Option.{is_some, option_copied};
 ghost use Rattle.zs_wire.specs.declared.request.ConsolidationMode.{ConsolidationMode};
 ghost use Rattle.zs_query.specs.Ascending.{Ascend, placed};
@@ -8,7 +8,7 @@ use crate::ends::Ends;
 use crate::get_row::GetRow;
 use crate::open_get::OpenGet;
 use crate::outcome::{Outcome, Peek};
-use crate::places::{find_get, get_place, gets_behind, insert_get, least_deadline};
+use crate::places::{find_get, get_place, gets_behind, insert_get, least_deadline, numbers_of};
 use crate::side::Side;
 use crate::timeout::{ends_of, is_due};
 use std::alloc::{AllocError, Global};
@@ -144,6 +144,38 @@ impl Gets {
         Ok(Outcome::Ended(ended.into_replies(room)))
     }
 
+    /// What the final of a side would come to. It hands out copies.
+    ///
+    /// # Errors
+    ///
+    /// Want of memory alone.
+    pub fn peek_final(&self, number: u32, side: Side) -> Result<Outcome, AllocError>
+        ensures { IfOk result (λ outcome. outcome ≡ final_outcome side (get_at number self.now)) }
+    {
+        match find_get(&self.gets, number) {
+            Some(get) => get.peek_final(self.alloc, side),
+            None => Ok(Outcome::Unknown),
+        }
+    }
+
+    /// Takes the final of a side, and hands nothing out.
+    pub fn note_final(&mut self, number: u32, side: Side)
+        ensures { self.new ≡ after_final (final_outcome side (get_at number self.old)) side number self.old }
+    {
+        let Ok(at) = get_place(&self.gets, number) else {
+            return;
+        };
+        let get = &self.gets[at];
+        if !get.row.wants(side) {
+            return;
+        }
+        if get.row.wants(side.other()) {
+            self.gets[at].row.take_final(side);
+            return;
+        }
+        let _ = self.gets.remove(at);
+    }
+
     /// Ends each get whose deadline is at that moment or before it. Each hands out what it kept, and then the error
     /// `Timeout`.
     ///
@@ -155,13 +187,45 @@ impl Gets {
         ensures ok { OnOk result (self.new ≡ filter (λ g. not (is_due now g)) self.old) }
         ensures err { OnErr result (self.new ≡ self.old) }
     {
+        let ends = self.peek_tick(now)?;
+        self.note_tick(now);
+        Ok(ends)
+    }
+
+    /// What a tick would answer.
+    ///
+    /// # Errors
+    ///
+    /// Want of memory alone.
+    pub fn peek_tick(&self, now: u64) -> Result<Ends, AllocError>
+        ensures { IfOk result (λ ends. ends ≡ ends_at now self.now) }
+    {
         if now < self.least {
             return Ok(Ends::of(Vec::new(self.alloc)));
         }
-        let ends = ends_of(self.alloc, &self.gets, now)?;
+        ends_of(self.alloc, &self.gets, now)
+    }
+
+    /// Ends each get whose deadline is at that moment or before it, and hands nothing out.
+    pub fn note_tick(&mut self, now: u64)
+        ensures { self.new ≡ filter (λ g. not (is_due now g)) self.old }
+    {
+        if now < self.least {
+            return;
+        }
         self.gets.retain(|get| !is_due(get, now));
         self.least = least_deadline(&self.gets);
-        Ok(ends)
+    }
+
+    /// The numbers of the open gets, ascending.
+    ///
+    /// # Errors
+    ///
+    /// Want of memory alone.
+    pub fn numbers(&self) -> Result<Vec<u32>, AllocError>
+        ensures { IfOk result (λ numbers. numbers.items ≡ map (λ g. g.row.number) self.now) }
+    {
+        numbers_of(self.alloc, &self.gets)
     }
 
     /// The row of the open get with the least number above that one, or with the least of all.

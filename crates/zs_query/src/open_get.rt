@@ -1,10 +1,12 @@
-ghost use Rattle.std.specs.Prelude.{◌≡◌, IfOk, OnOk, OnErr, IsOk, if◌then◌else◌};
-ghost use Rattle.zs_query.specs.Gets.{fresh, peek_by, peek_get, named, after_reply, replied};
+ghost use Rattle.std.specs.Prelude.{◌≡◌, Some, IfOk, OnOk, OnErr, IsOk, if◌then◌else◌};
+ghost use Rattle.zs_query.specs.Gets.{fresh, peek_by, peek_get, named, after_reply, replied, final_outcome};
 
 use crate::get_row::GetRow;
 use crate::kept_replies::KeptReplies;
 use crate::last_times::LastTimes;
 use crate::outcome::{Outcome, Peek};
+use crate::replies::Replies;
+use crate::side::Side;
 use std::alloc::{AllocError, Global};
 use zs_sample::{ConsolidationMode, Reply, Sample};
 
@@ -89,6 +91,19 @@ impl OpenGet {
             unreachable!()
         };
         self.passed.put(alloc, sample)
+    }
+
+    /// What the final of a side would come to.
+    pub(crate) fn peek_final(&self, alloc: Global, side: Side) -> Result<Outcome, AllocError>
+        ensures { IfOk result (λ outcome. outcome ≡ final_outcome side (Some self.now)) }
+    {
+        if !self.row.wants(side) {
+            return Ok(Outcome::Repeated);
+        }
+        if self.row.wants(side.other()) {
+            return Ok(Outcome::Counted);
+        }
+        Ok(Outcome::Ended(Replies::of(self.kept.copies(alloc)?)))
     }
 
     /// What it keeps.

@@ -1,12 +1,13 @@
 //! Open gets in ascending order.
 
-ghost use Rattle.std.specs.Prelude.{◌≡◌, ◌<◌, ◌≤◌, [], ◌∷◌, filter, vec_len, vec_capacity};
+ghost use Rattle.std.specs.Prelude.{◌≡◌, ◌<◌, ◌≤◌, [], ◌∷◌, filter, map, IfOk, vec_len, vec_capacity};
 ghost use Rattle.std.specs.List.{AllByRecursion};
 ghost use Rattle.std.specs.Option.{option_copied};
 ghost use Rattle.zs_query.specs.Ascending.{Ascend, IsPlaceOf, placed};
 ghost use Rattle.zs_query.specs.Gets.{get_at, is_behind};
 
 use crate::open_get::OpenGet;
+use std::alloc::{AllocError, Global};
 
 /// Where a get stands, or where it would go.
 pub(crate) fn get_place(gets: &[OpenGet], number: u32) -> Result<usize, usize>
@@ -59,4 +60,15 @@ pub(crate) fn least_deadline(gets: &[OpenGet]) -> u64
         least = least.min(get.row.deadline);
     }
     least
+}
+
+/// The numbers of the gets.
+pub(crate) fn numbers_of(alloc: Global, gets: &[OpenGet]) -> Result<Vec<u32>, AllocError>
+    ensures { IfOk result (λ numbers. numbers.items ≡ map (λ g. g.row.number) gets.now) }
+{
+    let mut numbers = Vec::with_capacity(alloc, gets.len())?;
+    for get in gets {
+        numbers.push(get.row.number)?;
+    }
+    Ok(numbers)
 }

@@ -64,6 +64,21 @@ impl QueryData {
         })
     }
 
+    /// The same query. It shares the memory of the payload and the attachment.
+    pub fn try_clone(&self, alloc: Global) -> Result<QueryData, AllocError>
+        ensures { IfOk result (λ copy. copy ≡ self.now) }
+    {
+        Ok(QueryData {
+            key_expr: clone_key(&self.key_expr, alloc)?,
+            parameters: self.parameters.borrowing_clone().into_owned(alloc)?,
+            qos: self.qos,
+            source: self.source,
+            payload: clone_attachment(&self.payload, alloc)?,
+            encoding: clone_encoding(&self.encoding, alloc)?,
+            attachment: clone_attachment(&self.attachment, alloc)?,
+        })
+    }
+
     /// The key and the parameters.
     pub fn selector(&self) -> Selector<'_>
         ensures { result ≡ record { key = self.now.key_expr; parameters = self.now.parameters } }
@@ -182,6 +197,15 @@ fn encoding_of(alloc: Global, value: &Option<Value>) -> Result<Option<Encoding>,
 {
     match value {
         Some(value) => Ok(Some(Encoding::of_text(value.encoding.try_clone(alloc)?))),
+        None => Ok(None),
+    }
+}
+
+fn clone_encoding(encoding: &Option<Encoding>, alloc: Global) -> Result<Option<Encoding>, AllocError>
+    ensures { IfOk result (λ copy. copy ≡ encoding.now) }
+{
+    match encoding {
+        Some(encoding) => Ok(Some(encoding.try_clone(alloc)?)),
         None => Ok(None),
     }
 }

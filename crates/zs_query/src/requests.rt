@@ -1,11 +1,11 @@
 ghost use Rattle.std.specs.Prelude.{◌≡◌, ◌≢◌, ◌+◌, ◌<◌, ◌≤◌, [], length, false, IfOk, OnOk, OnErr, if◌then◌else◌};
 ghost use Rattle.std.specs.Option.{is_some};
-ghost use Rattle.zs_query.specs.Unfinished.{value_at, are_used, with_request, shared, finished, without_value, of_same_request, IsFound, AreInOrder};
+ghost use Rattle.zs_query.specs.Unfinished.{value_at, are_used, with_request, shared, finished, finished_as, without_value, of_same_request, IsFound, AreInOrder};
 
 use crate::query_value::QueryValue;
 use crate::request_row::RequestRow;
 use crate::values::{
-    count_of, find_value, has_request, make_share, make_values, put_in, value_place,
+    count_of, find_value, has_other, has_request, make_share, make_values, put_in, value_place,
 };
 use std::alloc::{AllocError, Global};
 use std::marker::Model;
@@ -19,6 +19,17 @@ pub enum Finished {
     MoreLeft,
     /// It was the last value of this request.
     Last(RequestRow),
+}
+
+/// What giving a query value back would come to.
+#[derive(Debug, Clone, Copy)]
+pub enum Finishing<'a> {
+    /// There is no such unfinished value.
+    Unknown,
+    /// Another value of the same request is unfinished too.
+    MoreLeft,
+    /// It is the last value of this request.
+    Last(&'a RequestRow),
 }
 
 /// The query values that were handed out and not given back, each with its request and queryable. A request is told
@@ -124,6 +135,16 @@ impl Requests {
         finished_of(ended, more_left)
     }
 
+    /// What giving a value back would come to.
+    pub fn peek_finish(&self, value: u32) -> Finishing<'_>
+        ensures { finished_as result ≡ finished (value_at value self.now.values) self.now.values }
+    {
+        let Some(found) = find_value(&self.values, value) else {
+            return Finishing::Unknown;
+        };
+        finishing_of(found, has_other(&self.values, found))
+    }
+
     /// The request and the queryable of an unfinished value.
     pub fn find(&self, value: u32) -> Option<(&RequestRow, u32)>
         ensures { IsFound (value_at value self.now.values) result }
@@ -152,5 +173,15 @@ fn finished_of(ended: QueryValue, more_left: bool) -> Finished
         Finished::MoreLeft
     } else {
         Finished::Last(ended.row)
+    }
+}
+
+fn finishing_of(value: &QueryValue, more_left: bool) -> Finishing<'_>
+    ensures { finished_as result ≡ (if more_left then Finished.MoreLeft else Finished.Last value.now.row) }
+{
+    if more_left {
+        Finishing::MoreLeft
+    } else {
+        Finishing::Last(&value.row)
     }
 }

@@ -4,7 +4,7 @@ ghost use Rattle.std.specs.Prelude.{◌≡◌, ◌+◌, ◌^◌, ◌<◌, ◌≤
 ghost use Rattle.std.specs.List.{list_any, AllByRecursion};
 ghost use Rattle.std.specs.Option.{option_copied};
 ghost use Rattle.zs_query.specs.Ascending.{Ascend, IsPlaceOf, placed};
-ghost use Rattle.zs_query.specs.Unfinished.{values_from, value_at};
+ghost use Rattle.zs_query.specs.Unfinished.{values_from, value_at, has_other};
 
 use crate::query_value::QueryValue;
 use crate::request_row::RequestRow;
@@ -90,6 +90,13 @@ pub(crate) fn has_request(values: &[QueryValue], request: u64) -> bool
     ensures { result ≡ list_any (λ v. v.request == request) values.now }
 {
     values.iter().any(|value| value.request == request)
+}
+
+/// Whether another value of its request is there.
+pub(crate) fn has_other(values: &[QueryValue], value: &QueryValue) -> bool
+    ensures { result ≡ has_other value.now values.now }
+{
+    values.iter().any(|other| other.request == value.request && other.value != value.value)
 }
 
 /// How many values a request has. They have as many numbers, all of one type.
