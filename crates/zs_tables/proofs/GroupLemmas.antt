@@ -16,7 +16,7 @@ use Rattle.std.proofs.lemmas.Slice.Eq.{bytes_eq-Decides}
 use Rattle.zs_tables.specs.declared.group_row.GroupRow.{GroupRow}
 use Rattle.zs_tables.specs.Groups.{Group, has_text, number_of_group, members_of, joined, with_group, without_member, has_members, left, number_left}
 use Rattle.zs_tables.specs.Grouped.{grouped, text_cmp, with_member, less_member, AreGroups, IsTextPlace}
-use Rattle.zs_tables.proofs.Keyed.{by_test}
+use Rattle.zs_tables.proofs.ByKey.{by_test}
 
 abbrev pub text_of : GroupRow → List ℕ
 text_of row = string_bytes row.text

@@ -1,5 +1,6 @@
 pub mod Ascending
 pub mod Searching
+pub mod ByKey
 pub mod Keeping
 pub mod Walking
 pub mod Changing

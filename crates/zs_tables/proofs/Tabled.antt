@@ -13,9 +13,10 @@ use Rattle.zs_tables.specs.declared.key_ref.KeyRef.TheVariants.{Number}
 use Rattle.zs_tables.specs.Ascending.{Ascend, placed_by}
 use Rattle.zs_tables.specs.Numbers.{NumberedKey, key_at, placed}
 use Rattle.zs_tables.specs.Contents.{Contents, numbers_of, text_meant}
-use Rattle.zs_tables.specs.Recipients.{matches, recipients, is_behind, first_behind, next_recipient, GoesOn}
+use Rattle.zs_tables.specs.Recipients.{matches, takes, recipients, is_behind, first_behind, next_recipient, GoesOn}
 use Rattle.zs_tables.specs.Lists.{Listed, shown, IsAscending, held_of, held, noted, forgotten, emptied, chosen, takes_by_id, AreCurrent, AreInOrder}
 use Rattle.zs_tables.proofs.Ascending.{all_weaker, all_unmap, ascend_unmap, ascend_filter, ascend_push}
+use Rattle.zs_tables.proofs.ByKey.{kept}
 use Rattle.zs_tables.proofs.Keeping.{held_same, current_push, current_without, current_emptied, current_nil, current_placed, held_placed, key_of_row}
 use Rattle.zs_tables.proofs.Walking.{first_of_behind, first_of_numbers, matches_ascend, each_is_next}
 
@@ -104,6 +105,22 @@ unknown mapping number rows own told found some =
     let none : None ≡ key_at number (numbers_of mapping (record { rows = rows; own = held own; told = held told })) = ap (option_map (λ (row : NumberRow). row.key)) found ∙ key_found mapping number rows own told in
     let there = rw (← none) at some in
     grind (arith, there)
+
+-- nor has it a key
+pub no_key : (mapping : Mapping) (number : ℕ) (rows : List SubRow) (own told : List NumberRow) → None ≡ find (λ row. row.number == number) (chosen mapping own told) → IsSome (key_at number (numbers_of mapping (record { rows = rows; own = held own; told = held told }))) → ⊥
+no_key mapping number rows own told found some =
+    let none : None ≡ key_at number (numbers_of mapping (record { rows = rows; own = held own; told = held told })) = ap (option_map (λ (row : NumberRow). row.key)) found ∙ key_found mapping number rows own told in
+    let there = rw (← none) at some in
+    grind (arith, there)
+
+-- of its list those that take it are the recipients
+pub listed_takers : (mapping : Mapping) (number : ℕ) (local : Bool) (rows : List SubRow) (own told : List NumberRow) (row : NumberRow) (out : List ℕ) → AreInOrder rows (map shown own) (map shown told) → Some row ≡ find (λ row. row.number == number) (chosen mapping own told)
+    → out ≡ filter (takes_by_id local rows) row.matches.items
+    → ForSome (key_at number (numbers_of mapping (record { rows = rows; own = held own; told = held told }))) (λ key. out ≡ recipients local key.text rows)
+listed_takers mapping number local rows own told row out is found taken key meant =
+    let listed : Some row.matches.items ≡ Some (matches key.text rows) = matches_found mapping number rows own told row is found ∙ ap (option_map (λ (k : Key). matches k.text rows)) meant in
+    let same : row.matches.items ≡ matches key.text rows = cc in
+    kept (λ (r : SubRow). r.id) (λ r. r.key.text) (λ r. takes local r.origin) key.text rows row.matches.items out is.ascending same taken
 
 -- by text the first of the rows behind the last one is the next recipient
 pub next_by_text : (local : Bool) (own_text text : List ℕ) (after : Option ℕ) (rows : List SubRow) → Some own_text ≡ Some text → first_behind None (recipients local own_text (filter (λ row. is_behind after row.id) rows)) ≡ next_recipient local text after rows

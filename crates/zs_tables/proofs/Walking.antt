@@ -12,6 +12,7 @@ use Rattle.zs_tables.specs.Recipients.{matches, takes, receives, recipients, is_
 use Rattle.zs_tables.specs.Lists.{takes_by_id}
 use Rattle.zs_tables.specs.Laws.{NextIsLeast, EachIsNext, WalkVisitsAll, MatchesAscend, is_next, visited}
 use Rattle.zs_tables.proofs.Ascending.{all_weaker, all_both, ascend_map, ascend_filter}
+use Rattle.zs_tables.proofs.ByKey.{passes_of_row}
 use Rattle.zs_tables.proofs.Searching.{all_behind}
 
 -- of the rows behind the last one, the first that receives is the next recipient
@@ -24,36 +25,12 @@ first_of_matches : (local : Bool) (text : List ℕ) (after : Option ℕ) (all ro
 first_of_matches local text after all [] each = refl
 first_of_matches local text after all (row ∷ rows) each = grind (arith, nat_tests, each.0, first_of_matches local text after all rows each.1)
 
--- no row above an id is that of it
-not_above : (local : Bool) (id : ℕ) (rows : List SubRow) → AllByRecursion (λ later. id < later.id) rows → takes_by_id local rows id ≡ false
-not_above local id [] up = refl
-not_above local id (row ∷ rows) up = grind (arith, nat_tests, up.0, not_above local id rows up.1)
-
 -- by its id a row is found
-pub takes_of_row : (local : Bool) (rows : List SubRow) → Ascend (λ row. row.id) rows → AllByRecursion (λ row. takes_by_id local rows row.id ≡ takes local row.origin) rows
-takes_of_row local [] up = tt
-takes_of_row local (row ∷ rows) up = (
-  grind (arith, nat_tests, not_above local row.id rows up.0),
-  all_both (λ later. row.id < later.id) (λ later. takes_by_id local rows later.id ≡ takes local later.origin) (λ later. takes_by_id local (row ∷ rows) later.id ≡ takes local later.origin) (λ later above is. grind (arith, nat_tests, above, is)) rows up.0 (takes_of_row local rows up.1),
-)
+takes_of_row : (local : Bool) (rows : List SubRow) → Ascend (λ row. row.id) rows → AllByRecursion (λ row. takes_by_id local rows row.id ≡ takes local row.origin) rows
+takes_of_row local rows up = passes_of_row (λ row. row.id) (λ row. takes local row.origin) rows up
 
 pub first_of_numbers : (local : Bool) (text : List ℕ) (after : Option ℕ) (rows : List SubRow) → Ascend (λ row. row.id) rows → find (takes_by_id local rows) (filter (is_behind after) (matches text rows)) ≡ next_recipient local text after rows
 first_of_numbers local text after rows up = first_of_matches local text after rows rows (takes_of_row local rows up)
-
--- whether a subscriber that was looked up takes it
-abbrev pub taken : Bool → Option SubRow → Bool
-taken local None = false
-taken local (Some row) = takes local row.origin
-
--- by its id is by the row that is found
-pub takes_found : (local : Bool) (id : ℕ) (rows : List SubRow) → Ascend (λ row. row.id) rows → taken local (find (λ row. row.id == id) rows) ≡ takes_by_id local rows id
-takes_found local id [] up = refl
-takes_found local id (row ∷ rows) up = go (row.id == id) refl
-    (λ same. not_above local id rows (all_weaker (λ later. row.id < later.id) (λ later. id < later.id) (λ later above. grind (arith, nat_tests, same, above)) rows up.0)) (takes_found local id rows up.1)
-  where
-    go : (b : Bool) → (row.id == id) ≡ b → ((row.id == id) ≡ true → takes_by_id local rows id ≡ false) → taken local (find (λ row. row.id == id) rows) ≡ takes_by_id local rows id → taken local (find (λ row. row.id == id) (row ∷ rows)) ≡ takes_by_id local (row ∷ rows) id
-    go true same rest ih = rw same (let r = rest same in grind (arith, nat_tests, r))
-    go false same rest ih = rw same ih
 
 -- a test that each element passes keeps them all
 keeps_all : {X : Type 0} (p : X → Bool) (xs : List X) → AllByRecursion (λ x. p x ≡ true) xs → filter p xs ≡ xs

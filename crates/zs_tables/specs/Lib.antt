@@ -4,6 +4,9 @@ pub mod Texts
 pub mod Contents
 pub mod Recipients
 pub mod Lists
+pub mod Keyed
+pub mod Queryables
+pub mod Told
 pub mod Groups
 pub mod Grouped
 pub mod Laws

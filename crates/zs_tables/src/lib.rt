@@ -1,29 +1,40 @@
-//! The live subscribers of a session, its declared key numbers, and the groups of entities that share a declaration. Each
-//! number keeps the list of the subscribers that a publication on its key may reach, so that a publication by number
-//! tests no keys.
+//! The live subscribers and queryables of a session, its declared key numbers, and the groups of entities that share a
+//! declaration. Each number keeps the list of the subscribers that a publication on its key may reach, so that a
+//! publication by number tests no keys.
 #![tactic(auto)]
 
 pub use group_kind::GroupKind;
 pub use groups::Groups;
 pub use key_ref::KeyRef;
 pub use laws::{each_is_next, matches_ascend, next_is_least, walk_visits_all};
+pub use queryable::QueryableRow;
+pub use queryable_table::QueryableTable;
 pub use subscriber::SubRow;
 pub use tables::Tables;
+pub use told_row::{ToldQueryable, ToldSub};
+pub use told_table::ToldTable;
 
 mod group_kind;
 mod group_row;
 mod grouping;
 mod groups;
 mod key_ref;
+mod keyed_row;
+mod keyed_rows;
 mod laws;
 mod lists;
 mod number_row;
 mod numbers;
 mod own;
 mod places;
+mod queryable;
+mod queryable_table;
 mod recipients;
 mod subscriber;
 mod tables;
 #[cfg(test)]
 mod tests;
 mod texts;
+mod told_row;
+mod told_rows;
+mod told_table;

@@ -6,7 +6,6 @@ ghost use Rattle.zs_tables.specs.Lists.{shown, HasRoomFor, IsAscending, noted, f
 
 use crate::number_row::NumberRow;
 use crate::places::id_place;
-use crate::subscriber::SubRow;
 use std::alloc::AllocError;
 use zs_keys::KeyExpr;
 
@@ -96,7 +95,7 @@ fn empty(row: &mut NumberRow)
 }
 
 /// Puts a row behind the others, where there is room.
-pub(crate) fn put_last(rows: &mut Vec<SubRow>, row: SubRow)
+pub(crate) fn put_last<R: Drop>(rows: &mut Vec<R>, row: R)
     requires { vec_len rows.old < vec_capacity rows.old }
     ensures { rows.new.items ≡ rows.old.items ++ row ∷ [] }
 {

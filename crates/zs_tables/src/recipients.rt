@@ -1,6 +1,6 @@
 //! Who receives a publication next.
 
-ghost use Rattle.std.specs.Prelude.{◌≡◌, filter};
+ghost use Rattle.std.specs.Prelude.{◌≡◌, filter, OnOk, OnErr};
 ghost use Rattle.zs_tree.specs.Rows.{matches as tree_matches};
 ghost use Rattle.std.specs.List.{find};
 ghost use Rattle.zs_tables.specs.Ascending.{Ascend};
@@ -9,13 +9,14 @@ ghost use Rattle.zs_tables.specs.Recipients.{takes, is_behind};
 
 use crate::places::find_row;
 use crate::subscriber::SubRow;
+use std::alloc::AllocError;
 use std::sync::ledger::Ledger;
 use zs_keys::{KeyExpr, Steps};
 use zs_sample::Locality;
 use zs_tree::KeyTree;
 
-/// Whether subscribers of that origin take a publication that was made here, or one that came in.
-fn takes(local: bool, origin: Locality) -> bool
+/// Whether those of that origin take what was made here, or what came in.
+pub(crate) fn takes(local: bool, origin: Locality) -> bool
     ensures { result ≡ takes local origin }
 {
     if local {
@@ -78,4 +79,15 @@ pub(crate) fn keep_takers(local: bool, rows: &[SubRow], ids: &mut Vec<u32>)
     ensures { ids.new.items ≡ filter (takes_by_id local rows.now) ids.old.items }
 {
     ids.retain(|id| takes_by_id(local, rows, *id));
+}
+
+/// Makes a list those ids.
+pub(crate) fn copy_ids(ids: &[u32], into: &mut Vec<u32>) -> Result<(), AllocError>
+    ensures ok { OnOk result (into.new.items ≡ ids.now) }
+    ensures err { OnErr result (into.new.items ≡ into.old.items) }
+{
+    into.reserve(ids.len())?;
+    into.clear();
+    let _ = into.extend_from_slice(ids);
+    Ok(())
 }

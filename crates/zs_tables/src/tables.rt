@@ -12,7 +12,7 @@ use crate::number_row::NumberRow;
 use crate::numbers::{find_in, take_out};
 use crate::own::{set_own, unset_own};
 use crate::places::{find_row, ids_behind, place, row_place};
-use crate::recipients::{first_by_id, first_in_tree, keep_takers};
+use crate::recipients::{copy_ids, first_by_id, first_in_tree, keep_takers};
 use crate::subscriber::SubRow;
 use crate::texts::{Texts, first_number};
 use std::alloc::{AllocError, Global};
@@ -216,6 +216,31 @@ impl Tables {
         ensures err { OnErr result (into.new.items ≡ into.old.items) }
     {
         self.tree.matches_into(key, into)?;
+        keep_takers(local, &self.rows, into);
+        Ok(())
+    }
+
+    /// Makes a list the ascending ids of the subscribers that receive a publication on the key that a number stands for,
+    /// as `recipients_into` does. It reads the list that the number keeps, and tests no keys.
+    ///
+    /// # Errors
+    ///
+    /// Want of memory alone; the list is as before then.
+    pub fn recipients_of_number_into(
+        &self,
+        mapping: Mapping,
+        number: u16,
+        local: bool,
+        into: &mut Vec<u32>,
+    ) -> Result<(), AllocError>
+        requires { IsSome (key_at number (numbers_of mapping self.now)) }
+        ensures ok { OnOk result (ForSome (key_at number (numbers_of mapping self.now)) (λ key. into.new.items ≡ recipients local key.text self.now.rows)) }
+        ensures err { OnErr result (into.new.items ≡ into.old.items) }
+    {
+        let Some(row) = find_in(mapping, &self.own, &self.told, number) else {
+            unreachable!()
+        };
+        copy_ids(&row.matches, into)?;
         keep_takers(local, &self.rows, into);
         Ok(())
     }

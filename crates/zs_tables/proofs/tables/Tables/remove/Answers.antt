@@ -1,7 +1,7 @@
 use Rattle.std.proofs.Common.{sym, refl, ap, ◌∙◌}
 use Rattle.zs_tables.specs.declared.subscriber.SubRow.{SubRow}
 use Rattle.zs_tables.specs.Lists.{forgotten}
-use Rattle.zs_tables.proofs.Keyed.{tree_without}
+use Rattle.zs_tables.proofs.ByKey.{tree_without}
 use Rattle.zs_tables.proofs.Searching.{missing, any_none, filter_none, remove_here}
 use Rattle.zs_tables.proofs.Indexing.{still_indexed}
 use Rattle.zs_tables.proofs.Tabled.{lists_ascend, in_order_without, same_contents, held_stays}
@@ -32,7 +32,7 @@ invariant_of-self c =
     let number = ap (λ (r : SubRow). r.id) c.remove-row.ensures.value ∙ place.1 row in
     record {
       order = in_order_without c.args.id _ _ _ _ _ _ c.self.invariant.order rows_is c.forget.ensures c.forget-2.ensures;
-      tree_is = tree_without c.args.id row rows c.remove-row.new.self.items c.in-Ok.at c.self.inside.tree c.remove.new.self c.self.invariant.tree_is
+      tree_is = tree_without (λ (row : SubRow). row.id) (λ row. row.key.text) c.args.id row rows c.remove-row.new.self.items c.in-Ok.at c.self.inside.tree c.remove.new.self c.self.invariant.tree_is
           c.self.invariant.order.ascending place.0 c.remove-row.ensures.value number c.remove.ensures.rows rows_is;
       indexed = still_indexed _ _ c.self.inside.texts (held_stays (forgotten c.args.id) (λ n. refl) c.self.inside.own.items _ c.forget.ensures) c.self.invariant.indexed;
     }

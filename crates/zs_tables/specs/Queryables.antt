@@ -1,0 +1,17 @@
+-- Which queryables a request meets.
+use Rattle.std.specs.Prelude.{ℕ, Bool, ◌&&◌, ◌||◌, not, List, map, filter}
+use Rattle.zs_keys.specs.Matching.{intersects}
+use Rattle.zs_tables.specs.declared.queryable.QueryableRow.{QueryableRow}
+use Rattle.zs_tables.specs.Recipients.{takes}
+
+-- whether a queryable takes a request of this session, or one from the network, and one that wants complete ones alone
+abbrev pub is_for : Bool → Bool → QueryableRow → Bool
+is_for local complete q = takes local q.origin && (q.complete || not complete)
+
+-- whether a request on this text meets a queryable
+abbrev pub is_met : Bool → Bool → List ℕ → QueryableRow → Bool
+is_met local complete text q = is_for local complete q && intersects text q.key.text
+
+-- the ids of the queryables that it meets
+abbrev pub met : Bool → Bool → List ℕ → List QueryableRow → List ℕ
+met local complete text rows = map (λ q. q.id) (filter (is_met local complete text) rows)

@@ -1,0 +1,29 @@
+use crate::keyed_row::Keyed;
+use zs_keys::KeyExpr;
+use zs_sample::Locality;
+
+/// A live queryable.
+#[derive(Drop)]
+pub struct QueryableRow {
+    /// Its entity number.
+    pub id: u32,
+    /// Whose requests it takes.
+    pub origin: Locality,
+    /// Whether it can answer alone for all keys that its own includes.
+    pub complete: bool,
+    pub key: KeyExpr<'static>,
+}
+
+impl Keyed for QueryableRow {
+    ghost number = { λ row. row.id };
+
+    ghost text = { λ row. row.key.text };
+
+    fn number(&self) -> u32 {
+        self.id
+    }
+
+    fn key(&self) -> &KeyExpr<'static> {
+        &self.key
+    }
+}

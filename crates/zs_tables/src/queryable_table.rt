@@ -1,0 +1,137 @@
+ghost use Rattle.std.specs.Prelude.{◌≡◌, ◌<◌, ◌==◌, ◌++◌, [], ◌∷◌, All, not, filter, OnOk, OnErr};
+ghost use Rattle.std.specs.List.{find, list_any};
+ghost use Rattle.std.specs.Option.{option_copied};
+ghost use Rattle.zs_tables.specs.Ascending.{Ascend};
+ghost use Rattle.zs_tables.specs.Keyed.{passes_by};
+ghost use Rattle.zs_tables.specs.Queryables.{met, is_for};
+
+use crate::keyed_rows::{KeyedRows, find_keyed};
+use crate::queryable::QueryableRow;
+use crate::recipients::takes;
+use std::alloc::{AllocError, Global};
+use std::marker::Model;
+use zs_keys::KeyExpr;
+
+/// The live queryables in ascending id, with a tree of their keys that finds those which a request meets. No call that
+/// answers want of memory has changed anything.
+#[derive(Drop)]
+pub struct QueryableTable {
+    rows: KeyedRows<QueryableRow>,
+}
+
+impl Model for QueryableTable {
+    ghost use Rattle.std.specs.Prelude.{List};
+    ghost use Rattle.zs_tables.specs.declared.queryable.QueryableRow.{QueryableRow};
+
+    ghost Value = { List QueryableRow };
+
+    ghost view = { λ t. t.rows };
+}
+
+impl QueryableTable {
+    /// No queryables. It takes its memory from `alloc`.
+    pub fn new(alloc: Global) -> QueryableTable
+        ensures { result ≡ [] }
+    {
+        QueryableTable {
+            rows: KeyedRows::new(alloc),
+        }
+    }
+
+    /// Puts a queryable behind all others.
+    ///
+    /// # Errors
+    ///
+    /// Want of memory alone.
+    pub fn add(&mut self, row: QueryableRow) -> Result<(), AllocError>
+        requires { All (λ other. other.id < row.id) self.old }
+        ensures ok { OnOk result (self.new ≡ self.old ++ row ∷ []) }
+        ensures err { OnErr result (self.new ≡ self.old) }
+    {
+        self.rows.add(row)
+    }
+
+    /// Takes a queryable out, and says whether it was there.
+    pub fn remove(&mut self, id: u32) -> bool
+        ensures answer { result ≡ list_any (λ row. row.id == id) self.old }
+        ensures rows { self.new ≡ filter (λ row. not (row.id == id)) self.old }
+    {
+        self.rows.remove(id)
+    }
+
+    /// Takes all out.
+    pub fn clear(&mut self)
+        ensures { self.new ≡ [] }
+    {
+        self.rows.clear();
+    }
+
+    /// The queryables, in ascending id.
+    pub fn rows(&self) -> &[QueryableRow]
+        ensures rows { result.now ≡ self.now }
+        ensures ascending { Ascend (λ row. row.id) self.now }
+    {
+        self.rows.rows()
+    }
+
+    /// The queryable of that id, if there is one.
+    pub fn find(&self, id: u32) -> Option<&QueryableRow>
+        ensures { option_copied result ≡ find (λ row. row.id == id) self.now }
+    {
+        self.rows.find(id)
+    }
+
+    /// Whether there is a queryable of that id.
+    pub fn has(&self, id: u32) -> bool
+        ensures { result ≡ list_any (λ row. row.id == id) self.now }
+    {
+        self.rows.has(id)
+    }
+
+    /// Makes a list the ascending ids of the queryables that a request on that key meets. `local` says that the request
+    /// is of this session, and `complete` that it wants complete ones alone.
+    ///
+    /// # Errors
+    ///
+    /// Want of memory alone; the list is as before then.
+    pub fn met_into(
+        &self,
+        key: &KeyExpr<'_>,
+        local: bool,
+        complete: bool,
+        into: &mut Vec<u32>,
+    ) -> Result<(), AllocError>
+        ensures ok { OnOk result (into.new.items ≡ met local complete key.now.text self.now) }
+        ensures err { OnErr result (into.new.items ≡ into.old.items) }
+    {
+        self.rows.matches_into(key, into)?;
+        keep_met(local, complete, self.rows.rows(), into);
+        Ok(())
+    }
+}
+
+/// Leaves those ids out of a list whose queryables don't take such a request.
+fn keep_met(local: bool, complete: bool, rows: &[QueryableRow], ids: &mut Vec<u32>)
+    requires { Ascend (λ row. row.id) rows.now }
+    ensures { ids.new.items ≡ filter (passes_by (λ row. row.id) (is_for local complete) rows.now) ids.old.items }
+{
+    ids.retain(|id| is_met(local, complete, rows, *id));
+}
+
+/// Whether the queryable of that id takes such a request.
+fn is_met(local: bool, complete: bool, rows: &[QueryableRow], id: u32) -> bool
+    requires { Ascend (λ row. row.id) rows.now }
+    ensures { result ≡ passes_by (λ row. row.id) (is_for local complete) rows.now id }
+{
+    let Some(row) = find_keyed(rows, id) else {
+        return false;
+    };
+    is_for(local, complete, row)
+}
+
+/// Whether a queryable takes such a request, whatever its key.
+fn is_for(local: bool, complete: bool, row: &QueryableRow) -> bool
+    ensures { result ≡ is_for local complete row.now }
+{
+    takes(local, row.origin) && (row.complete || !complete)
+}
