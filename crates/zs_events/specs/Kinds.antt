@@ -2,15 +2,15 @@
 -- texts in them. What is said of all events is read off these rows.
 use Rattle.std.specs.Prelude.{ℕ, Bool, true, false, not, ◌==◌, List, [], ◌∷◌, length, Option, Some, None, codes, encode_utf8_all, if◌then◌else◌}
 use Rattle.zs_events.specs.declared.event.Event.{Event}
-use Rattle.zs_events.specs.declared.event.Event.TheVariants.{Key, UndeclareKey, Sub, Pub, Undeclare, Background, Put, Delete, PublisherPut, PublisherDelete, Close, Net}
+use Rattle.zs_events.specs.declared.event.Event.TheVariants.{Key, UndeclareKey, Sub, Pub, Undeclare, Background, Put, Delete, PublisherPut, PublisherDelete, Close, Net, Get, Tick, Queryable, Reply as reply_event, ReplyDelete, ReplyErr, Share, Finish}
 use Rattle.zs_events.specs.declared.event.EntityKind.{EntityKind}
-use Rattle.zs_events.specs.declared.event.EntityKind.TheVariants.{Sub as sub_kind, Pub as pub_kind}
+use Rattle.zs_events.specs.declared.event.EntityKind.TheVariants.{Sub as sub_kind, Pub as pub_kind, Queryable as queryable_kind}
 use Rattle.zs_events.specs.declared.event.BackgroundKind.{BackgroundKind}
-use Rattle.zs_events.specs.declared.event.BackgroundKind.TheVariants.{Sub as background_sub}
+use Rattle.zs_events.specs.declared.event.BackgroundKind.TheVariants.{Sub as background_sub, Queryable as background_queryable}
 use Rattle.zs_events.specs.declared.event.KeyArg.{KeyArg}
 use Rattle.zs_events.specs.declared.event.KeyArg.TheVariants.{Text, Number, Declared}
 use Rattle.zs_events.specs.declared.turn.Kind.{Kind}
-use Rattle.zs_events.specs.declared.turn.Kind.TheVariants.{Subscriber, Publisher}
+use Rattle.zs_events.specs.declared.turn.Kind.TheVariants.{Subscriber, Publisher, Queryable as kind_queryable}
 use Rattle.zs_sample.specs.Encoding.{encoding_of}
 use Rattle.zs_sample.specs.declared.locality.Locality.{Locality}
 use Rattle.zs_sample.specs.declared.locality.Locality.TheVariants.{Any}
@@ -22,6 +22,13 @@ use Rattle.zs_wire.specs.declared.origin.SourceInfo.{SourceInfo}
 use Rattle.zs_wire.specs.declared.origin.Timestamp.{Timestamp}
 use Rattle.zs_wire.specs.declared.push.Push.{Push}
 use Rattle.zs_wire.specs.declared.quality.QoSType.{QoSType}
+use Rattle.zs_wire.specs.declared.quality.CongestionControl.{CongestionControl}
+use Rattle.zs_wire.specs.declared.request.ConsolidationMode.{ConsolidationMode}
+use Rattle.zs_wire.specs.declared.request.QueryTarget.{QueryTarget}
+use Rattle.zs_wire.specs.declared.request.Request.{Request}
+use Rattle.zs_wire.specs.declared.response.Answered.{Answered}
+use Rattle.zs_wire.specs.declared.response.Answered.TheVariants.{Reply, Err as Error}
+use Rattle.zs_wire.specs.declared.response.Response.{Response}
 use Rattle.zs_wire.specs.declared.sample_kind.SampleKind.{SampleKind}
 use Rattle.zs_wire.specs.declared.sample_kind.SampleKind.TheVariants.{Put as put_kind, Delete as delete_kind}
 use Rattle.zs_wire.specs.declared.wire_expr.WireExpr.{WireExpr}
@@ -39,10 +46,13 @@ pub data NamedKey : Type 0 where
   PublisherKey : (id : ℕ) → NamedKey
   WireKey : (wire : WireExpr) → NamedKey
 
--- what an event draws: no number, one of an entity, or one of a key, unless the key has one
+-- what an event draws and is answered: no number, one of an entity, of a query, of a query value, or of a key, unless the key
+-- has one
 pub data Draws : Type 0 where
   NoNumber : Draws
   EntityNumber : Draws
+  QueryNumber : Draws
+  ValueNumber : Draws
   KeyNumber : Draws
 
 -- an entity by its kind and number
@@ -73,6 +83,44 @@ pub data Publishes : Type 0 where
   OwnContent : (content : Content) → Publishes
   ByPublisher : (id : ℕ) (content : PublisherContent) → Publishes
 
+-- what a get asks, but for its key
+pub record Question : Type 0 where
+  pub destination : Locality
+  pub parameters : List ℕ
+  pub target : QueryTarget
+  pub consolidation : ConsolidationMode
+  pub timeout : Option ℕ
+  pub value : Option Value
+  pub qos : QoSType
+  pub source : Option SourceInfo
+  pub attachment : Option (List (List ℕ))
+  pub any_key : Bool
+
+-- what an event is to gets: nothing, a get, a response to one, the network's final for one, a moment, or the end of all
+pub data ToGets : Type 0 where
+  NoGet : ToGets
+  Asks : (question : Question) → ToGets
+  Answers : (response : Response) → ToGets
+  EndsSide : (number : ℕ) → ToGets
+  Reaches : (moment : ℕ) → ToGets
+  EndsAll : ToGets
+
+-- the quality of service of a reply, where it is not the query's
+pub record ReplyQuality : Type 0 where
+  pub priority : Option ℕ
+  pub congestion : Option CongestionControl
+  pub express : Option Bool
+
+-- what an event does with query values: nothing, it hands them out for a request from the network, answers one, answers one with
+-- an error, draws one more of the same query, or gives one back
+pub data ToValues : Type 0 where
+  NoValue : ToValues
+  Requested : (request : Request) → ToValues
+  AnswersBy : (value : ℕ) → (body : Body) → (quality : ReplyQuality) → ToValues
+  AnswersError : (value : ℕ) → (error : Value) → ToValues
+  SharesValue : (value : ℕ) → ToValues
+  GivesBack : (value : ℕ) → ToValues
+
 -- what is said of a kind of event
 pub record Row : Type 0 where
   pub says : Speaker
@@ -86,6 +134,8 @@ pub record Row : Type 0 where
   -- the number under which it says that its key's text is held
   pub claims : Option ℕ
   pub publishes : Publishes
+  pub to_gets : ToGets
+  pub to_values : ToValues
   -- its texts beside that of its key
   pub texts : List (List ℕ)
 
@@ -100,6 +150,8 @@ said_by speaker = record {
   gives_part = false;
   claims = None;
   publishes = NoContent;
+  to_gets = NoGet;
+  to_values = NoValue;
   texts = [];
 }
 
@@ -132,9 +184,11 @@ claim_of (Declared text number prefix_len) = if is_all_of text prefix_len then S
 abbrev pub kind_of : EntityKind → Kind
 kind_of sub_kind = Subscriber
 kind_of pub_kind = Publisher
+kind_of queryable_kind = kind_queryable
 
 abbrev pub background_kind_of : BackgroundKind → Kind
 background_kind_of background_sub = Subscriber
+background_kind_of background_queryable = kind_queryable
 
 -- the encoding where none is named
 abbrev pub default_encoding : List ℕ
@@ -188,6 +242,16 @@ abbrev pub value_texts : Option Value → List (List ℕ)
 value_texts None = []
 value_texts (Some value) = value.encoding ∷ []
 
+-- a response with a value names a key, one with an error doesn't
+abbrev pub response_key : Answered → WireExpr → NamedKey
+response_key (Reply body) wire = WireKey wire
+response_key (Error value) wire = NoKey
+
+-- and either has the text of its encoding
+abbrev pub response_texts : Answered → List (List ℕ)
+response_texts (Reply body) = body.encoding ∷ []
+response_texts (Error value) = value.encoding ∷ []
+
 -- the row of each message
 abbrev pub message_row : Message → Row
 message_row (DeclareKeyExpr number wire) = record (told_on wire) { tells_zero = number == 0 }
@@ -204,9 +268,16 @@ message_row (push_message push) = record (told_on push.wire) {
   publishes = OwnContent (incoming_content push);
   texts = push.body.encoding ∷ [];
 }
-message_row (request_message request) = told_on request.wire
-message_row (response_message response) = said_by Network
-message_row (ResponseFinal rid) = said_by Network
+message_row (request_message request) = record (told_on request.wire) {
+  to_values = Requested request;
+  texts = request.parameters ∷ value_texts request.value;
+}
+message_row (response_message response) = record (said_by Network) {
+  key = response_key response.answered response.wire;
+  to_gets = Answers response;
+  texts = response_texts response.answered;
+}
+message_row (ResponseFinal rid) = record (said_by Network) { to_gets = EndsSide rid }
 message_row close_message = said_by Network
 
 -- the row of each kind
@@ -219,6 +290,7 @@ row_of (Pub destination key encoding qos reliable) = record (said_by Application
   draws = EntityNumber;
   texts = encoding ∷ [];
 }
+row_of (Queryable origin complete key) = record (said_by Application) { key = OwnKey key; draws = EntityNumber }
 row_of (Undeclare kind id) = record (said_by Anytime) { names = Some (record { kind = kind_of kind; id = id }) }
 row_of (Background kind id) = record (said_by Anytime) { names = Some (record { kind = background_kind_of kind; id = id }) }
 row_of (Put destination key payload encoding timestamp qos reliable source attachment) = record (said_by Application) {
@@ -255,5 +327,46 @@ row_of (PublisherDelete id timestamp source attachment) = record (said_by Applic
     attachment = attachment;
   });
 }
-row_of Close = said_by Anytime
+row_of (Get destination key parameters target consolidation timeout value qos source attachment any_key) = record (said_by Application) {
+  key = OwnKey key;
+  draws = QueryNumber;
+  to_gets = Asks (record {
+    destination = destination;
+    parameters = parameters;
+    target = target;
+    consolidation = consolidation;
+    timeout = timeout;
+    value = value;
+    qos = qos;
+    source = source;
+    attachment = attachment;
+    any_key = any_key;
+  });
+  texts = parameters ∷ value_texts value;
+}
+row_of (reply_event value key payload encoding timestamp priority congestion express source attachment) = record (said_by Anytime) {
+  key = OwnKey key;
+  to_values = AnswersBy value (put_body payload encoding timestamp source attachment) (record {
+    priority = priority;
+    congestion = congestion;
+    express = express;
+  });
+  texts = encoding ∷ [];
+}
+row_of (ReplyDelete value key timestamp priority congestion express source attachment) = record (said_by Anytime) {
+  key = OwnKey key;
+  to_values = AnswersBy value (delete_body timestamp source attachment) (record {
+    priority = priority;
+    congestion = congestion;
+    express = express;
+  });
+}
+row_of (ReplyErr value payload encoding) = record (said_by Anytime) {
+  to_values = AnswersError value (record { payload = payload; encoding = encoding_of encoding });
+  texts = encoding ∷ [];
+}
+row_of (Share value) = record (said_by Application) { draws = ValueNumber; to_values = SharesValue value }
+row_of (Finish value) = record (said_by Anytime) { to_values = GivesBack value }
+row_of (Tick now) = record (said_by Anytime) { to_gets = Reaches now }
+row_of Close = record (said_by Anytime) { to_gets = EndsAll }
 row_of (Net message) = message_row message

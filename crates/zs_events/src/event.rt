@@ -1,8 +1,11 @@
 ghost use Rattle.std.specs.Prelude.{◌≡◌, IfOk};
 
 use std::alloc::{AllocError, Global};
-use zs_sample::{Locality, QoSType, SourceInfo, Text, Timestamp, ZBytes};
-use zs_wire::Message;
+use zs_sample::{
+    CongestionControl, ConsolidationMode, Locality, QoSType, QueryTarget, SourceInfo, Text,
+    Timestamp, ZBytes,
+};
+use zs_wire::{Message, Value};
 
 /// The key of an event, as the application gave it.
 #[derive(Debug, Drop)]
@@ -29,12 +32,14 @@ pub enum KeyArg {
 pub enum EntityKind {
     Sub,
     Pub,
+    Queryable,
 }
 
 /// The sorts of entities that can be left to themselves: they live on, and can no longer be named.
 #[derive(Clone, Copy, Debug, PartialEq, Eq, Hash)]
 pub enum BackgroundKind {
     Sub,
+    Queryable,
 }
 
 /// What can happen to a session.
@@ -61,6 +66,13 @@ pub enum Event {
         encoding: Text,
         qos: QoSType,
         reliable: bool,
+    },
+    /// The application declares a queryable, which is handed the requests of this origin whose keys meet its own.
+    Queryable {
+        origin: Locality,
+        /// Whether it knows all values of its key: requests can ask for such queryables alone.
+        complete: bool,
+        key: KeyArg,
     },
     /// The application ends what it declared under this number.
     Undeclare {
@@ -112,9 +124,74 @@ pub enum Event {
         source: Option<SourceInfo>,
         attachment: Option<ZBytes>,
     },
+    /// The application asks for values of a key, of queryables of this destination.
+    Get {
+        destination: Locality,
+        key: KeyArg,
+        /// What stands behind the `?` of the selector.
+        parameters: Text,
+        target: QueryTarget,
+        consolidation: ConsolidationMode,
+        /// After how many milliseconds it ends whatever is missing, in place of what the settings say.
+        timeout: Option<u64>,
+        /// What the queryables are told beside the parameters.
+        value: Option<Value>,
+        qos: QoSType,
+        source: Option<SourceInfo>,
+        attachment: Option<ZBytes>,
+        /// Whether replies are taken on any key. The parameters can say so too.
+        any_key: bool,
+    },
+    /// The application answers a query with a value on a key.
+    Reply {
+        /// The number under which the query was handed to its queryable.
+        value: u32,
+        key: KeyArg,
+        payload: ZBytes,
+        /// The empty text is the default encoding.
+        encoding: Text,
+        timestamp: Option<Timestamp>,
+        /// Without one it is the query's, as with the two that follow.
+        priority: Option<u8>,
+        congestion: Option<CongestionControl>,
+        express: Option<bool>,
+        source: Option<SourceInfo>,
+        attachment: Option<ZBytes>,
+    },
+    /// The application answers a query by saying that a key's value is deleted.
+    ReplyDelete {
+        value: u32,
+        key: KeyArg,
+        timestamp: Option<Timestamp>,
+        priority: Option<u8>,
+        congestion: Option<CongestionControl>,
+        express: Option<bool>,
+        source: Option<SourceInfo>,
+        attachment: Option<ZBytes>,
+    },
+    /// The application answers a query with an error.
+    ReplyErr {
+        value: u32,
+        payload: ZBytes,
+        /// The empty text is the default encoding.
+        encoding: Text,
+    },
+    /// The application asks for one more number of a query, which is to be given back like the first.
+    Share {
+        value: u32,
+    },
+    /// The application gives a query back: it answers no more under this number. The asker is told when all numbers of
+    /// its request were given back.
+    Finish {
+        value: u32,
+    },
+    /// A moment has come, in milliseconds from a beginning of the caller's choice.
+    Tick {
+        now: u64,
+    },
     /// The application closes the session.
     Close,
-    /// A message comes in from the network. Those of gets, queryables, liveliness and matching change nothing yet.
+    /// A message comes in from the network. Those of liveliness and matching change nothing yet.
     Net(Message),
 }
 
@@ -147,38 +224,47 @@ impl Event {
     pub fn try_clone(&self, alloc: Global) -> Result<Event, AllocError>
         ensures { IfOk result (λ copy. copy ≡ self.now) }
     {
-        Ok(match self {
-            Event::Key { key } => Event::Key {
+        match self {
+            Event::Key { key } => Ok(Event::Key {
                 key: key.try_clone(alloc)?,
-            },
-            Event::UndeclareKey { key } => Event::UndeclareKey {
+            }),
+            Event::UndeclareKey { key } => Ok(Event::UndeclareKey {
                 key: key.try_clone(alloc)?,
-            },
-            Event::Sub { origin, key } => Event::Sub {
+            }),
+            Event::Sub { origin, key } => Ok(Event::Sub {
                 origin: *origin,
                 key: key.try_clone(alloc)?,
-            },
+            }),
             Event::Pub {
                 destination,
                 key,
                 encoding,
                 qos,
                 reliable,
-            } => Event::Pub {
+            } => Ok(Event::Pub {
                 destination: *destination,
                 key: key.try_clone(alloc)?,
                 encoding: encoding.try_clone(alloc)?,
                 qos: *qos,
                 reliable: *reliable,
-            },
-            Event::Undeclare { kind, id } => Event::Undeclare {
+            }),
+            Event::Queryable {
+                origin,
+                complete,
+                key,
+            } => Ok(Event::Queryable {
+                origin: *origin,
+                complete: *complete,
+                key: key.try_clone(alloc)?,
+            }),
+            Event::Undeclare { kind, id } => Ok(Event::Undeclare {
                 kind: *kind,
                 id: *id,
-            },
-            Event::Background { kind, id } => Event::Background {
+            }),
+            Event::Background { kind, id } => Ok(Event::Background {
                 kind: *kind,
                 id: *id,
-            },
+            }),
             Event::Put {
                 destination,
                 key,
@@ -189,7 +275,7 @@ impl Event {
                 reliable,
                 source,
                 attachment,
-            } => Event::Put {
+            } => Ok(Event::Put {
                 destination: *destination,
                 key: key.try_clone(alloc)?,
                 payload: payload.try_clone(alloc)?,
@@ -199,7 +285,7 @@ impl Event {
                 reliable: *reliable,
                 source: *source,
                 attachment: clone_bytes(attachment, alloc)?,
-            },
+            }),
             Event::Delete {
                 destination,
                 key,
@@ -208,7 +294,7 @@ impl Event {
                 reliable,
                 source,
                 attachment,
-            } => Event::Delete {
+            } => Ok(Event::Delete {
                 destination: *destination,
                 key: key.try_clone(alloc)?,
                 timestamp: *timestamp,
@@ -216,7 +302,7 @@ impl Event {
                 reliable: *reliable,
                 source: *source,
                 attachment: clone_bytes(attachment, alloc)?,
-            },
+            }),
             Event::PublisherPut {
                 id,
                 payload,
@@ -224,28 +310,107 @@ impl Event {
                 timestamp,
                 source,
                 attachment,
-            } => Event::PublisherPut {
+            } => Ok(Event::PublisherPut {
                 id: *id,
                 payload: payload.try_clone(alloc)?,
                 encoding: clone_text(encoding, alloc)?,
                 timestamp: *timestamp,
                 source: *source,
                 attachment: clone_bytes(attachment, alloc)?,
-            },
+            }),
             Event::PublisherDelete {
                 id,
                 timestamp,
                 source,
                 attachment,
-            } => Event::PublisherDelete {
+            } => Ok(Event::PublisherDelete {
                 id: *id,
                 timestamp: *timestamp,
                 source: *source,
                 attachment: clone_bytes(attachment, alloc)?,
-            },
-            Event::Close => Event::Close,
-            Event::Net(message) => Event::Net(message.try_clone(alloc)?),
-        })
+            }),
+            Event::Get {
+                destination,
+                key,
+                parameters,
+                target,
+                consolidation,
+                timeout,
+                value,
+                qos,
+                source,
+                attachment,
+                any_key,
+            } => Ok(Event::Get {
+                destination: *destination,
+                key: key.try_clone(alloc)?,
+                parameters: parameters.try_clone(alloc)?,
+                target: *target,
+                consolidation: *consolidation,
+                timeout: *timeout,
+                value: clone_value(value, alloc)?,
+                qos: *qos,
+                source: *source,
+                attachment: clone_bytes(attachment, alloc)?,
+                any_key: *any_key,
+            }),
+            Event::Reply {
+                value,
+                key,
+                payload,
+                encoding,
+                timestamp,
+                priority,
+                congestion,
+                express,
+                source,
+                attachment,
+            } => Ok(Event::Reply {
+                value: *value,
+                key: key.try_clone(alloc)?,
+                payload: payload.try_clone(alloc)?,
+                encoding: encoding.try_clone(alloc)?,
+                timestamp: *timestamp,
+                priority: *priority,
+                congestion: *congestion,
+                express: *express,
+                source: *source,
+                attachment: clone_bytes(attachment, alloc)?,
+            }),
+            Event::ReplyDelete {
+                value,
+                key,
+                timestamp,
+                priority,
+                congestion,
+                express,
+                source,
+                attachment,
+            } => Ok(Event::ReplyDelete {
+                value: *value,
+                key: key.try_clone(alloc)?,
+                timestamp: *timestamp,
+                priority: *priority,
+                congestion: *congestion,
+                express: *express,
+                source: *source,
+                attachment: clone_bytes(attachment, alloc)?,
+            }),
+            Event::ReplyErr {
+                value,
+                payload,
+                encoding,
+            } => Ok(Event::ReplyErr {
+                value: *value,
+                payload: payload.try_clone(alloc)?,
+                encoding: encoding.try_clone(alloc)?,
+            }),
+            Event::Share { value } => Ok(Event::Share { value: *value }),
+            Event::Finish { value } => Ok(Event::Finish { value: *value }),
+            Event::Tick { now } => Ok(Event::Tick { now: *now }),
+            Event::Close => Ok(Event::Close),
+            Event::Net(message) => Ok(Event::Net(message.try_clone(alloc)?)),
+        }
     }
 }
 
@@ -265,6 +430,16 @@ fn clone_text(text: &Option<Text>, alloc: Global) -> Result<Option<Text>, AllocE
 {
     match text {
         Some(text) => Ok(Some(text.try_clone(alloc)?)),
+        None => Ok(None),
+    }
+}
+
+/// The same value, where there is one. It shares the payload's memory.
+fn clone_value(value: &Option<Value>, alloc: Global) -> Result<Option<Value>, AllocError>
+    ensures { IfOk result (λ copy. copy ≡ value.now) }
+{
+    match value {
+        Some(value) => Ok(Some(value.try_clone(alloc)?)),
         None => Ok(None),
     }
 }

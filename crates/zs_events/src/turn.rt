@@ -4,7 +4,8 @@ ghost use Rattle.zs_events.specs.Turn.{was_refused, answered};
 
 use std::alloc::{AllocError, Global};
 use std::marker::Model;
-use zs_sample::Sample;
+use zs_query::QueryData;
+use zs_sample::{Reply, Sample};
 use zs_wire::Message;
 
 /// Why a session refused an event. Nothing else follows from a refused event.
@@ -57,7 +58,23 @@ pub enum Kind {
 #[derive(Drop)]
 pub enum HandOver {
     /// A sample for a subscriber.
-    Sample { kind: Kind, id: u32, sample: Sample },
+    Sample {
+        kind: Kind,
+        id: u32,
+        sample: Sample,
+    },
+    /// A reply for a get.
+    Reply {
+        kind: Kind,
+        id: u32,
+        reply: Reply,
+    },
+    /// A query for the queryable of that number, with the number under which it is answered and given back.
+    Query {
+        id: u32,
+        value: u32,
+        query: QueryData,
+    },
 }
 
 impl HandOver {
@@ -70,6 +87,16 @@ impl HandOver {
                 kind: *kind,
                 id: *id,
                 sample: sample.try_clone(alloc)?,
+            }),
+            HandOver::Reply { kind, id, reply } => Ok(HandOver::Reply {
+                kind: *kind,
+                id: *id,
+                reply: reply.try_clone(alloc)?,
+            }),
+            HandOver::Query { id, value, query } => Ok(HandOver::Query {
+                id: *id,
+                value: *value,
+                query: query.try_clone(alloc)?,
             }),
         }
     }
