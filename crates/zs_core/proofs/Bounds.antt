@@ -1,5 +1,5 @@
 -- All numbers of entities stay below the next one.
-use Rattle.std.proofs.Common.{◌≡◌, ◌≢◌, ◌<◌, ◌≤◌, ◌+◌, ℕ, List, [], ◌∷◌, ◌++◌, Bool, true, false, Option, Some, None, refl, sym, ap, arith, cond}
+use Rattle.std.proofs.Common.{◌≡◌, ◌≢◌, ◌<◌, ◌≤◌, ◌+◌, ℕ, List, [], ◌∷◌, ◌++◌, Bool, true, false, Option, Some, None, arith}
 use Rattle.std.specs.Prelude.{◌==◌, not, map, filter, All, if◌then◌else◌}
 use Rattle.std.specs.List.{AllByRecursion, list_any}
 use Rattle.std.specs.Cmp.Lexicographic.{slice_cmp}
@@ -10,7 +10,7 @@ use Rattle.zs_keys.specs.Key.{Key}
 use Rattle.zs_tables.specs.Groups.{Group, has_text, members_of, with_group, joined, left, without_member, has_members}
 use Rattle.zs_tables.proofs.Ascending.{all_weaker, all_filter, all_push, all_map}
 use Rattle.zs_core.specs.Bounds.{GroupsBelow}
-use Rattle.zs_core.specs.Groups.{Shared, share_text, joined_by, left_by, left_found}
+use Rattle.zs_core.specs.Groups.{Shared, share_text, joined_by, left_found}
 
 -- the members of one group are below a number
 abbrev Below : ℕ → Group → Type 0

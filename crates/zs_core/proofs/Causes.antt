@@ -1,6 +1,6 @@
 -- The first cause, by tests one after the other, is the first in order of those that hold.
 use Rattle.std.proofs.Common.{◌≡◌, List, [], ◌∷◌, Bool, true, false, Option, Some, None, refl, sym, ◌∙◌, ap}
-use Rattle.std.specs.Prelude.{◌&&◌, not, if◌then◌else◌}
+use Rattle.std.specs.Prelude.{if◌then◌else◌}
 use Rattle.zs_events.specs.declared.turn.Refusal.{Refusal}
 use Rattle.zs_events.specs.declared.turn.Refusal.TheVariants.{SessionClosedError, NotFound, UnknownScope, BadKeyExpr, QueryCancelled, ReplyDisjoint, NotDeclared, IdsExhausted, Ignored}
 use Rattle.zs_events.specs.Kinds.{Speaker, Application, Anytime, Network, Row}
@@ -17,17 +17,19 @@ is_first true row seen = go row.says
     go Application = refl
     go Anytime = refl
     go Network = refl
-is_first false row seen = go (is_not_found row seen) (is_unknown row seen) (is_bad seen.text) row.gives_part seen.lacks
+is_first false row seen = go (is_not_found row seen) (is_unknown row seen) (is_bad seen.text) seen.disjoint row.gives_part seen.lacks seen.idle
   where
-    go : (a b c d e : Bool)
-        → refused_if a NotFound (refused_if b UnknownScope (refused_if c BadKeyExpr (refused_if d NotDeclared (refused_if e IdsExhausted None))))
-        ≡ (if a then Some NotFound else if b then Some UnknownScope else if c then Some BadKeyExpr else if d then Some NotDeclared else if e then Some IdsExhausted else None)
-    go true b c d e = refl
-    go false true c d e = refl
-    go false false true d e = refl
-    go false false false true e = refl
-    go false false false false true = refl
-    go false false false false false = refl
+    go : (a b c r d e f : Bool)
+        → refused_if a NotFound (refused_if b UnknownScope (refused_if c BadKeyExpr (refused_if r ReplyDisjoint (refused_if d NotDeclared (refused_if e IdsExhausted (refused_if f Ignored None))))))
+        ≡ (if a then Some NotFound else if b then Some UnknownScope else if c then Some BadKeyExpr else if r then Some ReplyDisjoint else if d then Some NotDeclared else if e then Some IdsExhausted else if f then Some Ignored else None)
+    go true b c r d e f = refl
+    go false true c r d e f = refl
+    go false false true r d e f = refl
+    go false false false true d e f = refl
+    go false false false false true e f = refl
+    go false false false false false true f = refl
+    go false false false false false false true = refl
+    go false false false false false false false = refl
 
 -- the first that passes a test passes it
 first_names : (test : Refusal → Bool) (order : List Refusal) (refusal : Refusal) → first_that test order ≡ Some refusal → test refusal ≡ true

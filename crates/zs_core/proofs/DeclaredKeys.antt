@@ -1,26 +1,23 @@
 -- The tables of keys are what the events tell: counts, texts and numbers. Each table goes by the changes of its own area.
 use Rattle.std.proofs.Common.{◌≡◌, ◌≤◌, ◌<◌, ◌+◌, ◌-◌, ℕ, List, [], ◌∷◌, Bool, true, false, Option, Some, None, refl, sym, ◌∙◌, ap, subst, arith}
 use Rattle.std.specs.Prelude.{◌==◌, ◌&&◌, ◌||◌, not, nat_lt, is_some, option_map, if◌then◌else◌}
-use Rattle.std.specs.Str.{bytes_eq}
 use Rattle.std.proofs.lemmas.Bool.{eqb-true}
 use Rattle.std.proofs.lemmas.Bool.Decides.{nat_tests}
-use Rattle.std.proofs.lemmas.Slice.Eq.{bytes_eq-Decides}
 use Rattle.zs_keys.specs.Key.{Key as a_key}
-use Rattle.zs_tables.specs.Numbers.{NumberedKey, key_at, number_at, placed, without}
+use Rattle.zs_tables.specs.Numbers.{NumberedKey, key_at, without}
 use Rattle.zs_core.specs.declared.declared_key.KeyHolders.{KeyHolders}
 use Rattle.zs_core.specs.declared.change.Change.{Change}
-use Rattle.zs_core.specs.declared.change.Change.TheVariants.{Nothing, OfKeys, OfEntities, OfNetwork, Shut}
-use Rattle.zs_core.specs.declared.change.KeyChange.{KeyChange}
+use Rattle.zs_core.specs.declared.change.Change.TheVariants.{Nothing, OfKeys, OfNetwork, Shut}
 use Rattle.zs_core.specs.declared.change.KeyChange.TheVariants.{Declare, Hold, Release}
 use Rattle.zs_core.specs.declared.change.NetworkChange.TheVariants.{TellKey}
 use Rattle.zs_core.specs.World.{World}
-use Rattle.zs_core.specs.Entry.{Entry, is_close, is_closed}
+use Rattle.zs_core.specs.Entry.{Entry, is_closed}
 use Rattle.std.specs.Option.{option_or}
-use Rattle.zs_core.specs.Held.{times_declared, times_returned, is_held, held_count, drawn_text, held_text, told_text, tells_number, declares_number, returns_number}
-use Rattle.zs_core.specs.DeclaredKeys.{holders_of, has_holder, raised, is_last, lowered, own_left}
-use Rattle.zs_core.specs.Changes.{with_change, Fits, KeysFit, own_after, holders_after, next_key_after, told_after}
-use Rattle.zs_core.proofs.Numbers.{has_holder-raised, holders_of-raised, has_holder-lowered, holders_of-lowered, holders_none, key_at-placed, key_at-without, number_at-known, or_known}
-use Rattle.zs_core.proofs.DistinctNumbers.{Once, Differ, apart, once-placed, once-without}
+use Rattle.zs_core.specs.Held.{times_declared, times_returned, is_held, held_count, drawn_text, held_text, told_text, declares_number}
+use Rattle.zs_core.specs.DeclaredKeys.{holders_of, has_holder, raised, is_last, lowered}
+use Rattle.zs_core.specs.Changes.{with_change, Fits}
+use Rattle.zs_core.proofs.Numbers.{has_holder-raised, holders_of-raised, has_holder-lowered, holders_of-lowered, holders_none, key_at-placed, key_at-without, or_known}
+use Rattle.zs_core.proofs.DistinctNumbers.{Once, apart, once-placed, once-without}
 use Rattle.zs_core.proofs.Changes.{IsMade, IsText, closes, declares_by, returns_by, told_by}
 
 -- what the tables of keys are behind a past

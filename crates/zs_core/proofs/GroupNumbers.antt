@@ -1,19 +1,19 @@
 -- The groups are those of the live entities, each with the number of the first that joined it since it was last empty.
 use Rattle.std.proofs.Common.{◌≡◌, ℕ, List, [], ◌∷◌, ◌++◌, Bool, true, false, Option, Some, None, refl, sym, ◌∙◌, ap, cond}
 use Rattle.std.specs.Prelude.{◌==◌, not, map, filter, option_map, if◌then◌else◌}
-use Rattle.std.specs.List.{find, AllByRecursion}
+use Rattle.std.specs.List.{find}
 use Rattle.std.proofs.lemmas.Bool.{eqb-true}
 use Rattle.zs_keys.specs.Key.{Key}
 use Rattle.zs_tables.specs.Ascending.{Ascend}
-use Rattle.zs_tables.specs.Groups.{Group, AllGroups, groups_of, number_of_group, members_of}
+use Rattle.zs_tables.specs.Groups.{Group, groups_of, number_of_group, members_of}
 use Rattle.zs_tables.specs.declared.group_kind.GroupKind.{GroupKind}
 use Rattle.zs_tables.specs.declared.group_kind.GroupKind.TheVariants.{Subscribers, Publishers, Queriers}
 use Rattle.zs_tables.specs.declared.subscriber.SubRow.{SubRow}
 use Rattle.zs_core.specs.declared.publisher.PubRow.{PubRow}
 use Rattle.zs_core.specs.declared.settings.Settings.{Settings}
 use Rattle.zs_core.specs.declared.change.Change.{Change}
-use Rattle.zs_core.specs.declared.change.Change.TheVariants.{Nothing, OfKeys, OfEntities, OfNetwork, Shut}
-use Rattle.zs_core.specs.declared.change.EntityChange.TheVariants.{AddSub, EndSub, AddPub, EndPub, LeaveSub}
+use Rattle.zs_core.specs.declared.change.Change.TheVariants.{Nothing, OfEntities, Shut}
+use Rattle.zs_core.specs.declared.change.EntityChange.TheVariants.{AddSub, EndSub, AddPub, EndPub}
 use Rattle.zs_core.specs.World.{World}
 use Rattle.zs_core.specs.Entry.{Entry}
 use Rattle.zs_core.specs.Groups.{Shared, sub_shared, pub_shared, left_found, sharing, group, group_number}

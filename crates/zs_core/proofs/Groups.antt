@@ -1,6 +1,6 @@
 -- The groups of entities of one kind: who is in the group of a text, and its number, behind one that joins and one that leaves.
 use Rattle.std.proofs.Common.{◌≡◌, ℕ, Bool, true, false, List, [], ◌∷◌, ◌++◌, length, Option, Some, None, refl, sym, ◌∙◌, ap, arith, cond}
-use Rattle.std.specs.Prelude.{◌==◌, ◌&&◌, ◌||◌, not, map, filter, bytes_eq, is_some, is_none, if◌then◌else◌}
+use Rattle.std.specs.Prelude.{◌==◌, ◌||◌, not, map, filter, bytes_eq, if◌then◌else◌}
 use Rattle.std.specs.List.{list_any}
 use Rattle.std.specs.Option.{option_or}
 use Rattle.std.specs.Cmp.Lexicographic.{slice_cmp}
@@ -8,7 +8,7 @@ use Rattle.std.specs.Ordering.{nat_cmp, is_lt}
 use Rattle.std.proofs.lemmas.Bool.Decides.{nat_tests}
 use Rattle.std.proofs.lemmas.Slice.Eq.{bytes_eq-Decides}
 use Rattle.zs_core.specs.Groups.{is_empty}
-use Rattle.zs_tables.specs.Groups.{Group, has_text, number_of_group, members_of, with_group, joined, without_member, has_members, left, number_left}
+use Rattle.zs_tables.specs.Groups.{Group, has_text, number_of_group, members_of, with_group, joined, without_member, has_members, left}
 
 -- at most one group, which has members
 abbrev pub IsOne : List Group → Type 0

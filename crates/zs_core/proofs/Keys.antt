@@ -1,7 +1,6 @@
 -- The texts that keys stand for, and the numbers of held texts, are what the events tell.
 use Rattle.std.proofs.Common.{◌≡◌, ◌<◌, ◌+◌, ℕ, List, [], ◌∷◌, ◌++◌, Bool, true, false, Option, Some, None, refl, sym, ◌∙◌, ap, arith}
 use Rattle.std.specs.Prelude.{◌==◌, ◌&&◌, not, is_some, option_map, if◌then◌else◌, encode_utf8_all, nat_lt}
-use Rattle.std.specs.Str.{bytes_eq}
 use Rattle.std.proofs.lemmas.Bool.{eqb-true}
 use Rattle.std.proofs.lemmas.Bool.Decides.{nat_tests}
 use Rattle.std.proofs.lemmas.Slice.Eq.{bytes_eq-Decides}
@@ -17,12 +16,12 @@ use Rattle.zs_events.specs.declared.event.KeyArg.TheVariants.{Text, Number, Decl
 use Rattle.zs_core.specs.World.{World}
 use Rattle.zs_events.specs.Kinds.{NamedKey, NoKey, OwnKey, PublisherKey, WireKey}
 use Rattle.zs_core.specs.Entry.{Entry, is_closed}
-use Rattle.zs_core.specs.Held.{is_claimed, declares_number, times_declared, times_returned, is_held, drawn_text, held_text, stands_for, answers_under, number_among, held_number, key_text, mapped_text, wire_text, text_named}
+use Rattle.zs_core.specs.Held.{is_claimed, declares_number, times_declared, times_returned, drawn_text, held_text, stands_for, answers_under, number_among, held_number, key_text, mapped_text, wire_text, text_named}
 use Rattle.zs_core.specs.Keys.{key_of, is_key_of, has_claim, text_with_suffix, numbers_for, wire_of, text_of}
 use Rattle.zs_core.specs.declared.publisher.PubRow.{PubRow}
 use Rattle.zs_core.specs.Publishers.{pub_at}
 use Rattle.zs_core.proofs.Live.{AreLive}
-use Rattle.zs_core.proofs.DeclaredKeys.{AreKnown, held_text_is, held_is}
+use Rattle.zs_core.proofs.DeclaredKeys.{AreKnown, held_text_is}
 use Rattle.zs_core.proofs.DistinctNumbers.{found_again, named_again}
 
 -- a known key with a suffix

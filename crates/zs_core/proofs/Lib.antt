@@ -1,12 +1,19 @@
+mod Answered
 mod Bounds
 mod Causes
 mod Changes
 mod Counts
+mod Covered
+mod CoveredGroups
+mod CoveredKeys
 mod Decisions
 mod DeclaredKeys
 mod DistinctNumbers
+mod Endings
 mod Entities
 pub mod Filters
+mod Finals
+mod Gets
 mod GroupNumbers
 mod Groups
 mod KeyNumbers
@@ -17,6 +24,9 @@ mod Publications
 mod Publishers
 mod Received
 mod Recipients
+mod Replies
 mod Sharing
+mod Spelled
 mod Stands
 mod Steps
+mod Values

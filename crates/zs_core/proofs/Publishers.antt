@@ -1,7 +1,6 @@
 -- What a publisher is told to publish, where it is live and where it is not.
-use Rattle.std.proofs.Common.{◌≡◌, ℕ, List, [], ◌∷◌, Bool, true, false, Option, Some, None, refl, sym, ◌∙◌, ap}
+use Rattle.std.proofs.Common.{◌≡◌, ℕ, List, [], ◌∷◌, Bool, true, false, Option, Some, None, refl, ◌∙◌}
 use Rattle.std.specs.Prelude.{◌==◌, ◌&&◌, ◌||◌, not, option_map, if◌then◌else◌}
-use Rattle.std.specs.List.{find, list_any}
 use Rattle.zs_keys.specs.Text.{is_canonical}
 use Rattle.zs_events.specs.declared.turn.Refusal.TheVariants.{NotFound, BadKeyExpr}
 use Rattle.zs_events.specs.Kinds.{PublisherContent, Publishes, OwnContent, Application, PublisherKey, said_by, publisher_named}
@@ -38,7 +37,7 @@ abbrev decided : World → ℕ → PublisherContent → Option PubRow → Bool �
 decided w id c o there =
     decision_of
     (first_cause (record (said_by Application) { key = PublisherKey id; names = publisher_named id })
-    (record { text = option_map (λ (row : PubRow). row.key.text) o; lives = there && true; claimed = true; lacks = false }))
+    (record { text = option_map (λ (row : PubRow). row.key.text) o; lives = there && true; claimed = true; owed = true; disjoint = false; lacks = false; idle = false }))
     None (published_effects w id (option_map (λ (row : PubRow). row.key.text) o) (content_of c o)) Nothing
 
 canonical_decided : (w : World) (id : ℕ) (text : List ℕ) (p : Publishes) (b : Bool) → b ≡ true

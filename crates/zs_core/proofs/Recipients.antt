@@ -2,12 +2,9 @@
 use Rattle.std.proofs.Common.{◌≡◌, ℕ, List, Option, Some, None, refl, ◌∙◌, ap}
 use Rattle.std.specs.Prelude.{option_map}
 use Rattle.zs_keys.specs.Key.{Key as a_key}
-use Rattle.zs_wire.specs.declared.wire_expr.Mapping.{Mapping}
 use Rattle.zs_tables.specs.declared.subscriber.SubRow.{SubRow}
 use Rattle.zs_tables.specs.Numbers.{key_at}
 use Rattle.zs_tables.specs.Recipients.{matches}
-use Rattle.zs_events.specs.declared.event.Event.{Event}
-use Rattle.zs_core.specs.declared.settings.Settings.{Settings}
 use Rattle.zs_core.specs.Keys.{numbers_for}
 use Rattle.zs_core.specs.Past.{past_of}
 use Rattle.zs_core.specs.Held.{mapped_text}

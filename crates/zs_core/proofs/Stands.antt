@@ -1,40 +1,42 @@
 -- What the tables are behind every history: one induction, by the changes of accepted events.
 use Rattle.std.proofs.Common.{◌≡◌, ◌+◌, ℕ, List, [], ◌∷◌, Bool, true, false, Option, Some, None, refl, sym, ◌∙◌, ap, subst}
-use Rattle.std.specs.Prelude.{not, ◌&&◌, is_some, unwrap_or, if◌then◌else◌}
+use Rattle.std.specs.Prelude.{not, ◌&&◌, ◌||◌, is_some, unwrap_or, if◌then◌else◌}
 use Rattle.zs_events.specs.declared.event.Event.{Event}
 use Rattle.zs_core.specs.declared.settings.Settings.{Settings}
 use Rattle.zs_core.specs.declared.change.Change.{Change}
-use Rattle.zs_core.specs.declared.change.Change.TheVariants.{Nothing, OfKeys, OfEntities, OfNetwork, Shut}
+use Rattle.zs_core.specs.declared.change.Change.TheVariants.{Nothing, OfKeys, OfEntities}
 use Rattle.zs_core.specs.declared.change.KeyChange.TheVariants.{Declare, Hold, Release}
-use Rattle.zs_core.specs.declared.change.EntityChange.TheVariants.{AddSub, EndSub, AddPub, EndPub}
+use Rattle.zs_core.specs.declared.change.EntityChange.TheVariants.{AddSub, EndSub, AddPub, AddQueryable}
 use Rattle.zs_core.specs.declared.change.Decision.{Decision}
 use Rattle.zs_events.specs.declared.turn.Refusal.{Refusal}
 use Rattle.zs_events.specs.declared.turn.Turn.{Turn}
-use Rattle.zs_tables.specs.declared.subscriber.SubRow.{SubRow}
-use Rattle.zs_tables.specs.Numbers.{number_at}
-use Rattle.zs_core.specs.Settings.{last_entity, last_key}
+use Rattle.zs_core.specs.Settings.{last_entity, last_query, last_key}
 use Rattle.zs_events.specs.Turn.{answered}
 use Rattle.zs_core.specs.World.{World}
-use Rattle.zs_events.specs.Kinds.{Draws, NoNumber, EntityNumber, KeyNumber, Named, row_of}
+use Rattle.zs_events.specs.Kinds.{Draws, NoNumber, EntityNumber, QueryNumber, ValueNumber, KeyNumber, Named, row_of}
 use Rattle.zs_core.specs.Seen.{Sight}
 use Rattle.zs_core.specs.Entry.{Entry, is_closed}
 use Rattle.zs_core.specs.Held.{held_number, is_claimed, named_text}
 use Rattle.zs_core.specs.Keys.{has_claim}
-use Rattle.zs_core.specs.Live.{live_subs, live_pubs, names_some}
+use Rattle.zs_core.specs.Live.{live_queryables, names_some}
+use Rattle.zs_tables.specs.declared.queryable.QueryableRow.{QueryableRow}
+use Rattle.zs_query.specs.RequestTable.{Handing}
+use Rattle.zs_core.specs.Values.{met_by, handing_of, values_now, last_value, lacks_values}
+use Rattle.zs_core.specs.Answers.{is_owed, is_disjoint}
+use Rattle.zs_core.proofs.Values.{handing_next, handing_more}
 use Rattle.zs_tables.specs.Groups.{groups_of, number_of_group}
 use Rattle.zs_tables.specs.declared.group_kind.GroupKind.{GroupKind}
 use Rattle.zs_tables.specs.declared.group_kind.GroupKind.TheVariants.{Subscribers, Publishers, Queriers}
-use Rattle.zs_core.specs.declared.publisher.PubRow.{PubRow}
 use Rattle.zs_core.specs.Publishers.{pub_at}
 use Rattle.zs_core.specs.Sends.{prefix_declaration}
 use Rattle.zs_core.specs.Groups.{aggregates_of, group_number, company_of, company_at}
-use Rattle.zs_core.specs.Counters.{is_spent, draws_entity, draws_key, next_entity, next_key, lacks_number, drawn_number}
+use Rattle.zs_core.specs.Counters.{is_spent, draws_key, next_value, next_entity, next_key, lacks_number, drawn_number}
 use Rattle.zs_core.specs.Causes.{past_sight, holds, in_order, first_that, refusal_of}
 use Rattle.zs_core.specs.Past.{entry_of, with_entry, past_with, past_of}
-use Rattle.zs_core.specs.Effects.{Known, known_of, own_keys_of, effects_on, turn_of, effects}
+use Rattle.zs_core.specs.Effects.{Known, known_of, own_keys_of, effects_on, turn_of}
 use Rattle.zs_core.specs.Changes.{with_change, change_for}
-use Rattle.zs_core.specs.Turns.{text_for, finds, has_run_out, number_of, number_for, sight, first_cause, refused_closed, closed_cause, open_cause, cause, own_keys_at, known_at, effects_of, decision_of, open_decision, decision}
-use Rattle.zs_core.specs.Stands.{new_world, world_of, world_after, Stands, Steps}
+use Rattle.zs_core.specs.Turns.{text_for, finds, has_run_out, number_of, number_for, sight, closed_cause, open_cause, cause, own_keys_at, known_at, decision_of, open_decision, decision}
+use Rattle.zs_core.specs.Stands.{new_world, world_of, world_after}
 use Rattle.zs_core.proofs.Decisions.{entry_for, past_with_by, cases}
 use Rattle.zs_core.proofs.Changes.{IsMade, adds, draws_by, draws_new, made}
 use Rattle.zs_core.proofs.Live.{AreLive, live_more, live_none, there_is}
@@ -43,6 +45,9 @@ use Rattle.zs_core.proofs.GroupNumbers.{AreShared, shared_more, members_are, num
 use Rattle.zs_core.proofs.DeclaredKeys.{AreKnown, known_more, held_text_is, count_is}
 use Rattle.zs_core.proofs.Keys.{text_is, number_is, claim_is}
 use Rattle.zs_core.proofs.Causes.{is_first}
+use Rattle.zs_query.specs.declared.open_get.OpenGet.{OpenGet}
+use Rattle.zs_core.specs.Gets.{open_now, is_idle}
+use Rattle.zs_core.proofs.Gets.{AreAsked, asking_by, asked_more, asked_opened}
 
 -- what the tables and counters are behind a past
 pub record AreStanding (s : Settings) (w : World) (past : List Entry) : Type 0 where
@@ -53,6 +58,8 @@ pub record AreStanding (s : Settings) (w : World) (past : List Entry) : Type 0 w
   pub known : AreKnown w past
   pub entity : w.counters.entity ≡ next_entity s past
   pub key : w.counters.key ≡ next_key s past
+  pub asking : AreAsked s w.asking past
+  pub handing : w.handing ≡ handing_of past
 
 settings_step : (w : World) (c : Change) → (with_change c w).settings ≡ w.settings
 settings_step w Nothing = refl
@@ -61,6 +68,7 @@ settings_step w c = refl
 entity_step : (w : World) (c : Change) → (with_change c w).counters.entity ≡ (if adds c then w.counters.entity + 1 else w.counters.entity)
 entity_step w (OfEntities (AddSub row)) = refl
 entity_step w (OfEntities (AddPub row)) = refl
+entity_step w (OfEntities (AddQueryable row)) = refl
 entity_step w (OfEntities (EndSub id)) = refl
 entity_step w Nothing = refl
 entity_step w c = refl
@@ -78,8 +86,20 @@ draws_is w past KeyNumber (Some text) k = ap (λ (o : Option ℕ). not (is_some 
 draws_is w past KeyNumber None k = refl
 draws_is w past NoNumber text k = refl
 draws_is w past EntityNumber text k = refl
+draws_is w past QueryNumber text k = refl
+draws_is w past ValueNumber text k = refl
 
-standing_more : (s : Settings) (w : World) (past : List Entry) (x : Entry) (c : Change) → IsMade w x c → AreStanding s w past → AreStanding s (with_change c w) (x ∷ past)
+-- what gets hear of an event is told by the past
+asking_told : (s : Settings) (w : World) (past : List Entry) (x : Entry) → AreStanding s w past
+    → asking_by w.settings.default_timeout w.settings.zid w.entities.queryables w.handing.values (row_of x.event).to_gets (row_of x.event).to_values x.text w.asking
+    ≡ asking_by s.default_timeout s.zid (live_queryables past) (values_now past) (row_of x.event).to_gets (row_of x.event).to_values x.text w.asking
+asking_told s w past x st =
+    let settings = st.settings in
+    let rows = st.live.queryables.table in
+    let handing = st.handing in
+    λ i. asking_by (settings i).default_timeout (settings i).zid (rows i) (handing i).values (row_of x.event).to_gets (row_of x.event).to_values x.text w.asking
+
+pub standing_more : (s : Settings) (w : World) (past : List Entry) (x : Entry) (c : Change) → IsMade w x c → AreStanding s w past → AreStanding s (with_change c w) (x ∷ past)
 standing_more s w past x c m st = record {
   settings = settings_step w c ∙ st.settings;
   live = live_more w past x c m st.live;
@@ -93,6 +113,14 @@ standing_more s w past x c m st = record {
   key =
       key_step w c ∙ ap (λ (n : ℕ). if draws_by c then n + 1 else n) st.key
       ∙ ap (λ (b : Bool). if b then next_key s past + 1 else next_key s past) (sym m.keys.draws ∙ draws_is w past (row_of x.event).draws x.text st.known);
+  asking =
+      asked_more s w.asking (with_change c w).asking past x
+      (m.gets.asking ∙ asking_told s w past x st)
+      m.gets.under m.gets.counted st.asking;
+  handing =
+      handing_more (with_change c w).handing w.handing past x w.asking.next
+      (m.gets.handing ∙ ap (λ (rows : List QueryableRow). handing_next rows (row_of x.event).to_gets (row_of x.event).to_values x.number x.text w.handing) st.live.queryables.table)
+      m.gets.under st.handing;
 }
 
 -- what is looked up in the tables is what the events tell
@@ -109,6 +137,8 @@ finds_is w past (Some named) l =
 lacks_is : (s : Settings) (w : World) (past : List Entry) (draws : Draws) (text : Option (List ℕ)) → AreStanding s w past → has_run_out w draws text ≡ lacks_number s past draws text
 lacks_is s w past NoNumber text st = refl
 lacks_is s w past EntityNumber text st = ap (is_spent last_entity) st.entity
+lacks_is s w past QueryNumber text st = ap (is_spent last_query) st.asking.next
+lacks_is s w past ValueNumber text st = ap (λ (h : Handing). is_spent last_value h.next) st.handing
 lacks_is s w past KeyNumber None st = refl
 lacks_is s w past KeyNumber (Some text) st =
     ap (λ (o : Option ℕ). not (is_some o) && is_spent last_key w.counters.key) (number_is w past text st.known)
@@ -117,6 +147,8 @@ lacks_is s w past KeyNumber (Some text) st =
 number_drawn : (s : Settings) (w : World) (past : List Entry) (draws : Draws) (text : Option (List ℕ)) → AreStanding s w past → number_of w draws text ≡ drawn_number s past draws text
 number_drawn s w past NoNumber text st = refl
 number_drawn s w past EntityNumber text st = ap (λ (n : ℕ). Some n) st.entity
+number_drawn s w past QueryNumber text st = ap (λ (n : ℕ). Some n) st.asking.next
+number_drawn s w past ValueNumber text st = ap (λ (h : Handing). Some h.next) st.handing
 number_drawn s w past KeyNumber None st = refl
 number_drawn s w past KeyNumber (Some text) st =
     ap (λ (o : Option ℕ). Some (unwrap_or o w.counters.key)) (number_is w past text st.known)
@@ -128,9 +160,19 @@ same_sight s w past e st =
     let lives : finds w (row_of e).names ≡ names_some past (row_of e).names = finds_is w past (row_of e).names st.live in
     let claimed : has_claim w (row_of e).claims (text_for w e) ≡ is_claimed past (row_of e).claims (named_text past e) =
     ap (has_claim w (row_of e).claims) text ∙ claim_is w past (row_of e).claims (named_text past e) st.known in
-    let lacks : has_run_out w (row_of e).draws (text_for w e) ≡ lacks_number s past (row_of e).draws (named_text past e) =
+    let spent : has_run_out w (row_of e).draws (text_for w e) ≡ lacks_number s past (row_of e).draws (named_text past e) =
     ap (has_run_out w (row_of e).draws) text ∙ lacks_is s w past (row_of e).draws (named_text past e) st in
-    λ i. record { text = text i; lives = lives i; claimed = claimed i; lacks = lacks i }
+    let handing : w.handing ≡ handing_of past = st.handing in
+    let rows : w.entities.queryables ≡ live_queryables past = st.live.queryables.table in
+    let owed : is_owed w.handing.values (row_of e).to_values ≡ is_owed (values_now past) (row_of e).to_values = ap (λ (h : Handing). is_owed h.values (row_of e).to_values) handing in
+    let disjoint : is_disjoint w.handing.values (row_of e).to_values (text_for w e) ≡ is_disjoint (values_now past) (row_of e).to_values (named_text past e) =
+    λ i. is_disjoint (handing i).values (row_of e).to_values (text i) in
+    let lacks : lacks_values w.handing.next (met_by w.entities.queryables (row_of e).to_gets (row_of e).to_values (text_for w e)) || has_run_out w (row_of e).draws (text_for w e)
+    ≡ (lacks_values (next_value past) (met_by (live_queryables past) (row_of e).to_gets (row_of e).to_values (named_text past e)) || lacks_number s past (row_of e).draws (named_text past e)) =
+    λ i. lacks_values (handing i).next (met_by (rows i) (row_of e).to_gets (row_of e).to_values (text i)) || spent i in
+    let idle : is_idle w.asking.gets (row_of e).to_gets (text_for w e) ≡ is_idle (open_now s past) (row_of e).to_gets (named_text past e) =
+    ap (λ (gets : List OpenGet). is_idle gets (row_of e).to_gets (text_for w e)) st.asking.gets ∙ ap (is_idle (open_now s past) (row_of e).to_gets) text in
+    λ i. record { text = text i; lives = lives i; claimed = claimed i; owed = owed i; disjoint = disjoint i; lacks = lacks i; idle = idle i }
 
 pub same_cause : (s : Settings) (w : World) (past : List Entry) (e : Event) → AreStanding s w past → cause w e ≡ refusal_of s past e
 same_cause s w past e st =
@@ -179,7 +221,11 @@ known_same s w past st =
     let keys = own_keys_same s w past st in
     let subs = st.live.subs.table in
     let pubs = st.live.pubs.table in
-    λ i. record { keys = keys i; subs = subs i; pubs = pubs i; company = λ kind. company_same s w past kind st i }
+    let queryables = st.live.queryables.table in
+    let settings = st.settings in
+    let gets = st.asking.gets in
+    let handing = st.handing in
+    λ i. record { keys = keys i; subs = subs i; pubs = pubs i; queryables = queryables i; company = λ kind. company_same s w past kind st i; timeout = (settings i).default_timeout; gets = gets i; zid = (settings i).zid; handing = handing i }
 
 -- and so is the turn
 abbrev turn_by : Bool → Option Refusal → Option ℕ → Known → Option (List ℕ) → Event → Turn
@@ -211,7 +257,7 @@ no_numbers s Queriers text = refl
 standing_opened : (s : Settings) → AreStanding s (new_world s) []
 standing_opened s = record {
   settings = refl;
-  live = live_none (new_world s) refl refl refl;
+  live = live_none (new_world s) refl refl refl refl refl;
   shared = record { subs = grouped_none s.aggregated_subscribers; pubs = grouped_none s.aggregated_publishers; queriers = refl };
   numbers = no_numbers s;
   known = record {
@@ -227,6 +273,8 @@ standing_opened s = record {
   };
   entity = refl;
   key = refl;
+  asking = asked_opened s;
+  handing = refl;
 }
 
 pub standing : (s : Settings) (h : List Event) → AreStanding s (world_after s h) (past_of s h)

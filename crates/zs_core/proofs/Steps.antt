@@ -1,5 +1,5 @@
 -- What one step makes of a state that stands for a history.
-use Rattle.std.proofs.Common.{◌≡◌, List, [], ◌∷◌, Bool, true, false, Option, Some, None, refl, sym, ◌∙◌, ap, subst}
+use Rattle.std.proofs.Common.{◌≡◌, List, [], ◌∷◌, Bool, true, refl, sym, ◌∙◌, ap, subst}
 use Rattle.std.specs.Prelude.{ℕ}
 use Rattle.zs_events.specs.declared.event.Event.{Event}
 use Rattle.zs_core.specs.declared.settings.Settings.{Settings}
@@ -11,10 +11,9 @@ use Rattle.zs_core.specs.World.{World}
 use Rattle.zs_core.specs.Entry.{Entry}
 use Rattle.zs_core.specs.DeclaredKeys.{has_holder}
 use Rattle.zs_core.specs.Past.{past_of}
-use Rattle.zs_core.specs.Effects.{effects}
 use Rattle.zs_core.specs.Changes.{with_change, change_for, Fits}
-use Rattle.zs_core.specs.Turns.{is_there, decision, number_for, effects_of, open_cause}
-use Rattle.zs_core.specs.Stands.{world_of, world_after, Stands, Previews, Steps, ClosedIs, IsHeld, IsLive}
+use Rattle.zs_core.specs.Turns.{is_there, decision}
+use Rattle.zs_core.specs.Stands.{world_of, world_after, Previews, Steps, ClosedIs, IsHeld, IsLive}
 use Rattle.zs_core.proofs.Decisions.{entry_for, cases}
 use Rattle.zs_core.proofs.Changes.{made, IsMade}
 use Rattle.zs_core.proofs.DeclaredKeys.{held_is}

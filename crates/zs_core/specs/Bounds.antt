@@ -3,6 +3,7 @@ use Rattle.std.specs.Prelude.{ℕ, ◌<◌, List, All}
 use Rattle.std.specs.List.{AllByRecursion}
 use Rattle.zs_tables.specs.Groups.{Group, AllGroups}
 use Rattle.zs_tables.specs.declared.subscriber.SubRow.{SubRow}
+use Rattle.zs_tables.specs.declared.queryable.QueryableRow.{QueryableRow}
 use Rattle.zs_core.specs.declared.publisher.PubRow.{PubRow}
 
 -- the members of these groups are below a number
@@ -10,8 +11,9 @@ abbrev pub GroupsBelow : ℕ → List Group → Type 0
 GroupsBelow next gs = AllByRecursion (λ g. AllByRecursion (λ member. member < next) g.members) gs
 
 -- all numbers of entities are below the next one
-pub record AreBelow (next : ℕ) (rows : List SubRow) (publishers : List PubRow) (groups : AllGroups) : Type 0 where
+pub record AreBelow (next : ℕ) (rows : List SubRow) (publishers : List PubRow) (queryable_rows : List QueryableRow) (groups : AllGroups) : Type 0 where
   pub subs : All (λ row. row.id < next) rows
   pub pubs : All (λ row. row.id < next) publishers
+  pub queryables : All (λ row. row.id < next) queryable_rows
   pub sub_groups : GroupsBelow next groups.subscribers
   pub pub_groups : GroupsBelow next groups.publishers

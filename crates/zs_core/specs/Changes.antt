@@ -1,28 +1,54 @@
 -- What accepted events make of the tables. A change says it with the copies that it needs, and it names one area, but for the
 -- close.
-use Rattle.std.specs.Prelude.{◌≡◌, ℕ, Bool, ◌+◌, true, false, List, [], ◌∷◌, ◌++◌, filter, not, ◌==◌, is_some, Option, Some, None, option_map}
+use Rattle.std.specs.Prelude.{◌≡◌, ◌≤◌, ℕ, length, Bool, ◌+◌, true, false, List, [], ◌∷◌, ◌++◌, filter, not, ◌==◌, is_some, Option, Some, None, option_map, ◌≢◌, IsOk, if◌then◌else◌}
 use Rattle.zs_keys.specs.Key.{undeclared}
 use Rattle.zs_sample.specs.declared.locality.Locality.{Locality}
 use Rattle.zs_tables.specs.Numbers.{NumberedKey, key_at, number_at, placed}
 use Rattle.zs_tables.specs.declared.subscriber.SubRow.{SubRow}
+use Rattle.zs_tables.specs.declared.queryable.QueryableRow.{QueryableRow}
 use Rattle.zs_core.specs.declared.declared_key.KeyHolders.{KeyHolders}
 use Rattle.zs_events.specs.declared.event.Event.{Event}
-use Rattle.zs_events.specs.declared.event.Event.TheVariants.{Key, UndeclareKey, Sub, Pub, Undeclare, Background, Close, Net}
-use Rattle.zs_events.specs.declared.event.EntityKind.TheVariants.{Sub as sub_kind, Pub as pub_kind}
-use Rattle.zs_events.specs.declared.event.BackgroundKind.TheVariants.{Sub as background_sub}
+use Rattle.zs_events.specs.declared.event.Event.TheVariants.{Key, UndeclareKey, Sub, Pub, Queryable, Undeclare, Background, Close, Net, Get, Tick, Reply as reply_event, ReplyDelete, Share, Finish}
+use Rattle.zs_events.specs.declared.event.EntityKind.TheVariants.{Sub as sub_kind, Pub as pub_kind, Queryable as queryable_sort}
+use Rattle.zs_events.specs.declared.event.BackgroundKind.TheVariants.{Sub as background_sub, Queryable as background_queryable}
 use Rattle.zs_events.specs.declared.event.KeyArg.{KeyArg}
 use Rattle.zs_events.specs.declared.event.KeyArg.TheVariants.{Number, Declared}
 use Rattle.zs_wire.specs.declared.message.Message.{Message}
-use Rattle.zs_wire.specs.declared.message.Message.TheVariants.{DeclareKeyExpr}
+use Rattle.zs_wire.specs.declared.message.Message.TheVariants.{DeclareKeyExpr, Request as request_message, Response as response_message, ResponseFinal}
 use Rattle.zs_core.specs.declared.change.Change.{Change}
-use Rattle.zs_core.specs.declared.change.Change.TheVariants.{Nothing, OfKeys, OfEntities, OfNetwork, Shut}
+use Rattle.zs_core.specs.declared.change.Change.TheVariants.{Nothing, OfKeys, OfEntities, OfNetwork, OfGets, OfValues, Shut}
 use Rattle.zs_core.specs.declared.change.KeyChange.{KeyChange}
 use Rattle.zs_core.specs.declared.change.KeyChange.TheVariants.{Declare, Hold, Release}
 use Rattle.zs_core.specs.declared.change.EntityChange.{EntityChange}
-use Rattle.zs_core.specs.declared.change.EntityChange.TheVariants.{AddSub, EndSub, AddPub, EndPub, LeaveSub}
+use Rattle.zs_core.specs.declared.change.EntityChange.TheVariants.{AddSub, EndSub, AddPub, EndPub, AddQueryable, EndQueryable, LeaveSub, LeaveQueryable}
 use Rattle.zs_core.specs.declared.change.NetworkChange.{NetworkChange}
 use Rattle.zs_core.specs.declared.change.NetworkChange.TheVariants.{TellKey}
-use Rattle.zs_core.specs.Settings.{last_entity, last_key}
+use Rattle.zs_core.specs.declared.change.ValueChange.{ValueChange}
+use Rattle.zs_core.specs.declared.change.ValueChange.TheVariants.{HandOut, AskHere, ShareOf, GiveBack}
+use Rattle.zs_core.specs.declared.change.GetChange.{GetChange}
+use Rattle.zs_core.specs.declared.change.GetChange.TheVariants.{Ask, Take, Final, Advance}
+use Rattle.zs_wire.specs.declared.request.ConsolidationMode.TheVariants.{Auto}
+use Rattle.zs_wire.specs.declared.response.Answered.{Answered}
+use Rattle.zs_wire.specs.declared.response.Answered.TheVariants.{Reply, Err as Error}
+use Rattle.zs_wire.specs.declared.response.Response.{Response}
+use Rattle.zs_query.specs.GetTable.{Asking, with_asked, with_reply, with_final, with_local_final, at_moment, all_ended}
+use Rattle.zs_query.specs.RequestTable.{Handing, with_handed, with_shared, with_finished}
+use Rattle.zs_query.specs.Unfinished.{value_at, finished}
+use Rattle.zs_query.specs.Asked.{waits}
+use Rattle.zs_query.specs.declared.get_row.GetRow.{GetRow}
+use Rattle.zs_query.specs.declared.query_value.QueryValue.{QueryValue}
+use Rattle.zs_query.specs.declared.request_row.RequestRow.{RequestRow}
+use Rattle.zs_query.specs.declared.requests.Finished.{Finished}
+use Rattle.zs_query.specs.declared.requests.Finished.TheVariants.{Unknown, MoreLeft, Last}
+use Rattle.zs_wire.specs.declared.body.Body.{Body}
+use Rattle.zs_wire.specs.declared.request.Request.{Request}
+use Rattle.zs_sample.specs.Reply.{Replied}
+use Rattle.zs_core.specs.Answers.{local_reply}
+use Rattle.zs_core.specs.Values.{met_by_get, met_by_request, get_request, network_request, last_value, lacks_values}
+use Rattle.zs_events.specs.Kinds.{Question, ReplyQuality, put_body, delete_body, response_key}
+use Rattle.zs_core.specs.Questions.{row_waiting}
+use Rattle.zs_core.specs.Gets.{sample_reply}
+use Rattle.zs_core.specs.Settings.{last_entity, last_query, last_key}
 use Rattle.zs_core.specs.Counters.{is_spent}
 use Rattle.zs_wire.specs.declared.quality.QoSType.{QoSType}
 use Rattle.zs_tables.specs.Ascending.{placed_by}
@@ -33,7 +59,7 @@ use Rattle.zs_core.specs.Subscribers.{sub_at}
 use Rattle.zs_core.specs.Publishers.{pub_on, pub_at}
 use Rattle.zs_core.specs.Groups.{sub_shared, pub_shared, joined_by, left_found, no_groups}
 use Rattle.zs_core.specs.World.{World, Entities}
-use Rattle.zs_core.specs.Keys.{key_of, wire_of}
+use Rattle.zs_core.specs.Keys.{key_of, wire_of, text_of}
 use Rattle.zs_core.specs.DeclaredKeys.{raised, lowered, own_left}
 
 -- a declared text is held once more, or else it draws the next number
@@ -55,14 +81,58 @@ abbrev pub pub_change : ℕ → Locality → KeyArg → List ℕ → QoSType →
 pub_change id destination key encoding qos reliable None = Nothing
 pub_change id destination key encoding qos reliable (Some text) = OfEntities (AddPub (pub_on id destination key encoding qos reliable text))
 
+-- a declared queryable
+abbrev pub queryable_change : ℕ → Locality → Bool → Option (List ℕ) → Change
+queryable_change id origin complete None = Nothing
+queryable_change id origin complete (Some text) =
+    OfEntities (AddQueryable (record { id = id; origin = origin; complete = complete; key = undeclared text }))
+
 -- what the network tells of a number
 abbrev pub tell_change : ℕ → Option (List ℕ) → Change
 tell_change number None = Nothing
 tell_change number (Some text) = OfNetwork (TellKey number (undeclared text))
 
+-- what a response changes: an error changes nothing
+abbrev pub response_change : Response → Answered → Option (List ℕ) → Change
+response_change response (Reply body) None = Nothing
+response_change response (Reply body) (Some text) = OfGets (Take response.rid (sample_reply text response body))
+response_change response (Error value) text = Nothing
+
+-- a get is asked, and its request is handed to the queryables that it meets
+abbrev pub ask_change : GetRow → RequestRow → List ℕ → Change
+ask_change row request [] = OfGets (Ask row)
+ask_change row request (q ∷ met) = OfValues (AskHere row request (q ∷ met))
+
+-- on the key of this text
+abbrev pub get_change : World → Question → Option (List ℕ) → Change
+get_change w q None = Nothing
+get_change w q (Some text) =
+    ask_change (row_waiting w.settings.default_timeout w.asking.moment w.asking.next text q (met_by_get w.entities.queryables q text))
+    (get_request w.asking.next text q) (met_by_get w.entities.queryables q text)
+
+-- a request from the network on the key of this text
+abbrev pub request_change : World → Request → Option (List ℕ) → Change
+request_change w request None = Nothing
+request_change w request (Some text) = OfValues (HandOut (network_request text request) (met_by_request w.entities.queryables request text))
+
+-- a reply reaches a get of this session
+abbrev pub replied_change : Bool → ℕ → Replied → Change
+replied_change true rid reply = OfGets (Take rid reply)
+replied_change false rid reply = Nothing
+
+-- a reply to a query value: it changes a get of this session
+abbrev pub answer_change : ℕ → ReplyQuality → Body → Option QueryValue → Option (List ℕ) → Change
+answer_change zid quality body None text = Nothing
+answer_change zid quality body (Some v) None = Nothing
+answer_change zid quality body (Some v) (Some text) =
+    replied_change v.row.local v.row.rid (local_reply zid v.queryable v.row quality body text)
+
 -- what an accepted message changes
 abbrev pub message_change : World → Message → Change
 message_change w (DeclareKeyExpr number wire) = tell_change number (wire_of w wire)
+message_change w (request_message request) = request_change w request (wire_of w request.wire)
+message_change w (response_message response) = response_change response response.answered (text_of w (response_key response.answered response.wire))
+message_change w (ResponseFinal rid) = OfGets (Final rid)
 message_change w message = Nothing
 
 -- what an accepted event changes
@@ -72,9 +142,36 @@ change_for w (UndeclareKey (Number number suffix)) = OfKeys (Release number)
 change_for w (UndeclareKey (Declared text number prefix_len)) = OfKeys (Release number)
 change_for w (Sub origin key) = sub_change w.counters.entity origin (key_of w key)
 change_for w (Pub destination key encoding qos reliable) = pub_change w.counters.entity destination key encoding qos reliable (key_of w key)
+change_for w (Queryable origin complete key) = queryable_change w.counters.entity origin complete (key_of w key)
 change_for w (Undeclare sub_kind id) = OfEntities (EndSub id)
 change_for w (Undeclare pub_kind id) = OfEntities (EndPub id)
+change_for w (Undeclare queryable_sort id) = OfEntities (EndQueryable id)
 change_for w (Background background_sub id) = OfEntities (LeaveSub id)
+change_for w (Background background_queryable id) = OfEntities (LeaveQueryable id)
+change_for w (Get destination key parameters target consolidation timeout value qos source attachment any_key) =
+    get_change w
+    (record {
+      destination = destination;
+      parameters = parameters;
+      target = target;
+      consolidation = consolidation;
+      timeout = timeout;
+      value = value;
+      qos = qos;
+      source = source;
+      attachment = attachment;
+      any_key = any_key;
+    })
+    (key_of w key)
+change_for w (reply_event value key payload encoding timestamp priority congestion express source attachment) =
+    answer_change w.settings.zid (record { priority = priority; congestion = congestion; express = express })
+    (put_body payload encoding timestamp source attachment) (value_at value w.handing.values) (key_of w key)
+change_for w (ReplyDelete value key timestamp priority congestion express source attachment) =
+    answer_change w.settings.zid (record { priority = priority; congestion = congestion; express = express })
+    (delete_body timestamp source attachment) (value_at value w.handing.values) (key_of w key)
+change_for w (Share value) = OfValues (ShareOf value)
+change_for w (Finish value) = OfValues (GiveBack value)
+change_for w (Tick now) = OfGets (Advance now)
 change_for w Close = Shut
 change_for w (Net message) = message_change w message
 change_for w e = Nothing
@@ -100,6 +197,7 @@ holders_after (Release number) rows = lowered number rows
 abbrev pub next_entity_after : EntityChange → ℕ → ℕ
 next_entity_after (AddSub row) next = next + 1
 next_entity_after (AddPub row) next = next + 1
+next_entity_after (AddQueryable row) next = next + 1
 next_entity_after change next = next
 
 -- the subscribers
@@ -114,10 +212,20 @@ pubs_after (AddPub row) rows = rows ++ row ∷ []
 pubs_after (EndPub id) rows = filter (λ row. not (row.id == id)) rows
 pubs_after change rows = rows
 
--- the subscribers that were left to themselves
+-- the queryables
+abbrev pub queryables_after : EntityChange → List QueryableRow → List QueryableRow
+queryables_after (AddQueryable row) rows = rows ++ row ∷ []
+queryables_after (EndQueryable id) rows = filter (λ row. not (row.id == id)) rows
+queryables_after change rows = rows
+
+-- the subscribers that were left to themselves, and the queryables
 abbrev pub left_after : EntityChange → List ℕ → List ℕ
 left_after (LeaveSub id) ids = placed_by (λ n. n) id ids
 left_after change ids = ids
+
+abbrev pub left_queryables_after : EntityChange → List ℕ → List ℕ
+left_queryables_after (LeaveQueryable id) ids = placed_by (λ n. n) id ids
+left_queryables_after change ids = ids
 
 -- the groups, given what was declared before
 abbrev pub groups_after : Settings → Entities → EntityChange → AllGroups → AllGroups
@@ -135,6 +243,32 @@ groups_after s before change gs = gs
 abbrev pub told_after : NetworkChange → List NumberedKey → List NumberedKey
 told_after (TellKey number key) rows = placed (record { number = number; key = key }) rows
 
+-- the gets, with the counter of their numbers and the moment
+abbrev pub asking_after : GetChange → Asking → Asking
+asking_after (Ask row) a = with_asked row a
+asking_after (Take number reply) a = with_reply number reply a
+asking_after (Final number) a = with_final number a
+asking_after (Advance moment) a = at_moment moment a
+
+-- the query values
+abbrev pub handing_after : ValueChange → Handing → Handing
+handing_after (HandOut row met) h = with_handed row met h
+handing_after (AskHere get row met) h = with_handed row met h
+handing_after (ShareOf value) h = with_shared value h
+handing_after (GiveBack value) h = with_finished value h
+
+-- the gets behind a change of query values: the last value of a get's request gives it this session's final
+abbrev pub with_ended : Finished → Asking → Asking
+with_ended Unknown a = a
+with_ended MoreLeft a = a
+with_ended (Last row) a = if row.local then with_local_final row.rid a else a
+
+abbrev pub asking_beside : ValueChange → List QueryValue → Asking → Asking
+asking_beside (HandOut row met) values a = a
+asking_beside (AskHere get row met) values a = with_asked get a
+asking_beside (ShareOf value) values a = a
+asking_beside (GiveBack value) values a = with_ended (finished (value_at value values) values) a
+
 -- a world with a change made
 abbrev pub with_change : Change → World → World
 with_change Nothing w = w
@@ -150,16 +284,24 @@ with_change (OfEntities change) w = record w {
   entities = record {
     subs = subs_after change w.entities.subs;
     pubs = pubs_after change w.entities.pubs;
+    queryables = queryables_after change w.entities.queryables;
     left_subs = left_after change w.entities.left_subs;
+    left_queryables = left_queryables_after change w.entities.left_queryables;
   };
   groups = groups_after w.settings w.entities change w.groups;
 }
 with_change (OfNetwork change) w = record w { keys = record w.keys { told = told_after change w.keys.told } }
+with_change (OfGets change) w = record w { asking = asking_after change w.asking }
+with_change (OfValues change) w = record w {
+  asking = asking_beside change w.handing.values w.asking;
+  handing = handing_after change w.handing;
+}
 with_change Shut w = record w {
   closed = true;
-  entities = record w.entities { subs = []; pubs = [] };
+  entities = record w.entities { subs = []; pubs = []; queryables = [] };
   keys = record w.keys { own = []; holders = [] };
   groups = no_groups;
+  asking = all_ended w.asking;
 }
 
 -- what a change takes for granted: a number that it draws is the next one, and is there; a number that it names stands for a key
@@ -172,9 +314,29 @@ KeysFit w (Release number) = is_some (key_at number w.keys.own) ≡ true
 abbrev pub EntitiesFit : World → EntityChange → Type 0
 EntitiesFit w (AddSub row) = (row.id ≡ w.counters.entity) × (is_spent last_entity w.counters.entity ≡ false)
 EntitiesFit w (AddPub row) = (row.id ≡ w.counters.entity) × (is_spent last_entity w.counters.entity ≡ false)
+EntitiesFit w (AddQueryable row) = (row.id ≡ w.counters.entity) × (is_spent last_entity w.counters.entity ≡ false)
 EntitiesFit w change = Unit {0}
+
+abbrev pub GetsFit : World → GetChange → Type 0
+GetsFit w (Ask row) = (row.number ≡ w.asking.next) × (is_spent last_query w.asking.next ≡ false) × (row.mode ≢ Auto)
+GetsFit w (Take number reply) = IsOk reply.result
+GetsFit w (Final number) = Unit {0}
+GetsFit w (Advance moment) = Unit {0}
+
+-- there are numbers left for values that are drawn
+abbrev pub HasRoom : World → List ℕ → Type 0
+HasRoom w met = lacks_values w.handing.next met ≡ false
+
+abbrev pub ValuesFit : World → ValueChange → Type 0
+ValuesFit w (HandOut row met) = HasRoom w met
+ValuesFit w (AskHere get row met) =
+    (get.number ≡ w.asking.next) × (is_spent last_query w.asking.next ≡ false) × (get.mode ≢ Auto) × (waits get ≡ true) × (w.handing.next + length met ≤ last_value)
+ValuesFit w (ShareOf value) = is_spent last_value w.handing.next ≡ false
+ValuesFit w (GiveBack value) = Unit {0}
 
 abbrev pub Fits : World → Change → Type 0
 Fits w (OfKeys change) = KeysFit w change
 Fits w (OfEntities change) = EntitiesFit w change
+Fits w (OfGets change) = GetsFit w change
+Fits w (OfValues change) = ValuesFit w change
 Fits w change = Unit {0}

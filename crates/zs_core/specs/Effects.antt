@@ -1,8 +1,9 @@
 -- What an event is answered and brings about, told by the events alone.
 use Rattle.std.specs.Prelude.{ℕ, List, [], ◌∷◌, ◌++◌, Option, Some, None, option_map, if◌then◌else◌}
 use Rattle.zs_tables.specs.declared.subscriber.SubRow.{SubRow}
+use Rattle.zs_tables.specs.declared.queryable.QueryableRow.{QueryableRow}
 use Rattle.zs_events.specs.declared.event.Event.{Event}
-use Rattle.zs_events.specs.declared.event.Event.TheVariants.{Sub, Pub, Undeclare, Close}
+use Rattle.zs_events.specs.declared.event.Event.TheVariants.{Sub, Pub, Queryable, Undeclare, Close}
 use Rattle.zs_core.specs.declared.settings.Settings.{Settings}
 use Rattle.zs_events.specs.declared.turn.Effect.{Effect}
 use Rattle.zs_events.specs.declared.turn.Effect.TheVariants.{End}
@@ -11,22 +12,30 @@ use Rattle.zs_events.specs.Turn.{answered}
 use Rattle.zs_events.specs.Kinds.{Publishes, NoContent, OwnContent, ByPublisher, row_of}
 use Rattle.zs_core.specs.Entry.{Entry, is_closed}
 use Rattle.zs_core.specs.Held.{held_text, held_count, held_number, named_text}
-use Rattle.zs_core.specs.Live.{live_subs, live_pubs}
+use Rattle.zs_core.specs.Live.{live_subs, live_pubs, live_queryables}
 use Rattle.zs_events.specs.declared.event.EntityKind.{EntityKind}
-use Rattle.zs_events.specs.declared.event.EntityKind.TheVariants.{Sub as sub_kind, Pub as pub_kind}
-use Rattle.zs_events.specs.declared.turn.Kind.TheVariants.{Subscriber}
+use Rattle.zs_events.specs.declared.event.EntityKind.TheVariants.{Sub as sub_kind, Pub as pub_kind, Queryable as queryable_sort}
+use Rattle.zs_events.specs.declared.turn.Kind.TheVariants.{Subscriber, Queryable as queryable_kind}
 use Rattle.zs_core.specs.declared.publisher.PubRow.{PubRow}
 use Rattle.zs_events.specs.declared.event.KeyArg.{KeyArg}
 use Rattle.zs_wire.specs.declared.wire_expr.WireExpr.{WireExpr}
-use Rattle.zs_wire.specs.declared.message.Message.TheVariants.{DeclareSubscriber, Interest}
+use Rattle.zs_wire.specs.declared.message.Message.TheVariants.{DeclareSubscriber, DeclareQueryable, UndeclareQueryable, Interest}
 use Rattle.zs_wire.specs.declared.interest.InterestMode.TheVariants.{CurrentFuture}
 use Rattle.zs_wire.specs.declared.interest.InterestWhat.TheVariants.{Subscribers as of_subscribers}
 use Rattle.zs_tables.specs.Recipients.{has_network}
 use Rattle.zs_tables.specs.declared.group_kind.GroupKind.{GroupKind}
 use Rattle.zs_tables.specs.declared.group_kind.GroupKind.TheVariants.{Subscribers, Publishers}
 use Rattle.zs_core.specs.Subscribers.{sub_at, sub_ends}
-use Rattle.zs_core.specs.Groups.{Company, company_of, sub_shared, pub_shared, joins_first, first_sends, leaving, subscriber_end, interest_end}
+use Rattle.zs_core.specs.Groups.{Company, company_of, sub_shared, pub_shared, joins_first, sends_if, leaving, subscriber_end, interest_end}
 use Rattle.zs_core.specs.Publishers.{pub_at, resolved}
+use Rattle.zs_core.specs.Queryables.{queryable_at, queryable_ends}
+use Rattle.zs_core.specs.Gets.{open_now}
+use Rattle.zs_core.specs.GetEffects.{request_effects, told_effects, with_gets}
+use Rattle.zs_query.specs.declared.open_get.OpenGet.{OpenGet}
+use Rattle.zs_query.specs.declared.query_value.QueryValue.{QueryValue}
+use Rattle.zs_query.specs.RequestTable.{Handing}
+use Rattle.zs_core.specs.Values.{drawn_by, handing_of}
+use Rattle.zs_core.specs.ValueEffects.{Answering, value_effects, with_values}
 use Rattle.zs_core.specs.Publications.{Publication, sample_on, hands}
 use Rattle.zs_core.specs.Sends.{OwnKeys, wire_form, group_wire, declared_by, prefix_declaration, sends_of}
 use Rattle.zs_core.specs.Causes.{refusal_of}
@@ -60,44 +69,72 @@ hands_of rows pubs text e = hands_for rows (publication_of pubs text e)
 abbrev pub undeclared_ends : EntityKind → ℕ → List Effect
 undeclared_ends sub_kind id = End Subscriber id ∷ []
 undeclared_ends pub_kind id = []
+undeclared_ends queryable_sort id = End queryable_kind id ∷ []
 
-abbrev pub ends_of : List SubRow → Event → List Effect
-ends_of rows (Undeclare kind id) = undeclared_ends kind id
-ends_of rows Close = sub_ends rows
-ends_of rows e = []
+abbrev pub ends_of : List QueryableRow → List SubRow → Event → List Effect
+ends_of queryables rows (Undeclare kind id) = undeclared_ends kind id
+ends_of queryables rows Close = queryable_ends queryables ++ sub_ends rows
+ends_of queryables rows e = []
 
--- what effects are read off: the keys that this session declared, the live subscribers and publishers, and the groups of each kind
+-- what effects are read off: the keys that this session declared, the live subscribers, publishers and queryables, the groups of
+-- each kind, how long a get waits that doesn't say it, the open gets, the session's identifier, and the query values
 pub record Known : Type 0 where
   pub keys : OwnKeys
   pub subs : List SubRow
   pub pubs : List PubRow
+  pub queryables : List QueryableRow
   pub company : GroupKind → Company
+  pub timeout : ℕ
+  pub gets : List OpenGet
+  pub zid : ℕ
+  pub handing : Handing
 
 -- the form of an application's key in a message
 abbrev pub key_wire : OwnKeys → List ℕ → KeyArg → WireExpr
 key_wire k text key = wire_form k text (declared_by k text key)
 
--- what is sent where an entity joins the group of its text or leaves it: the declaration of a group that had no members, and the
--- end of one that has none left
-abbrev pub group_sends : Known → Event → Option ℕ → Option (List ℕ) → List Effect
-group_sends known (Sub origin key) (Some id) (Some text) =
-    first_sends (joins_first (known.company Subscribers) (record { id = id; told = has_network origin; text = text }))
+-- what is sent where a queryable ends, if it is there: its end, where the network was told of it
+abbrev pub queryable_leaves : Option QueryableRow → List Effect
+queryable_leaves None = []
+queryable_leaves (Some row) = sends_if (has_network row.origin) (UndeclareQueryable row.id)
+
+-- what is sent where an entity is declared and where it ends. Subscribers and publishers join the group of their text and leave it:
+-- the declaration of a group that had no members is sent, and the end of one that has none left. A queryable has a declaration of
+-- its own, where the network is in its origin
+abbrev pub entity_sends : Known → Event → Option ℕ → Option (List ℕ) → List Effect
+entity_sends known (Sub origin key) (Some id) (Some text) =
+    sends_if (joins_first (known.company Subscribers) (record { id = id; told = has_network origin; text = text }))
     (DeclareSubscriber id (group_wire (known.company Subscribers).aggregates text (key_wire known.keys text key)))
-group_sends known (Pub destination key encoding qos reliable) (Some id) (Some text) =
-    first_sends (joins_first (known.company Publishers) (record { id = id; told = has_network destination; text = text }))
+entity_sends known (Pub destination key encoding qos reliable) (Some id) (Some text) =
+    sends_if (joins_first (known.company Publishers) (record { id = id; told = has_network destination; text = text }))
     (Interest id CurrentFuture of_subscribers (Some (group_wire (known.company Publishers).aggregates text (key_wire known.keys text key))))
-group_sends known (Undeclare sub_kind id) number text =
+entity_sends known (Undeclare sub_kind id) number text =
     leaving (known.company Subscribers) subscriber_end (option_map sub_shared (sub_at id known.subs))
-group_sends known (Undeclare pub_kind id) number text =
+entity_sends known (Undeclare pub_kind id) number text =
     leaving (known.company Publishers) interest_end (option_map pub_shared (pub_at id known.pubs))
-group_sends known e number text = []
+entity_sends known (Queryable origin complete key) (Some id) (Some text) =
+    sends_if (has_network origin) (DeclareQueryable id complete (key_wire known.keys text key))
+entity_sends known (Undeclare queryable_sort id) number text = queryable_leaves (queryable_at id known.queryables)
+entity_sends known e number text = []
+
+-- the query values that an event draws, given the number that it is answered and the text of its key
+abbrev pub draws_of : Known → Option ℕ → Option (List ℕ) → Event → List QueryValue
+draws_of known number text e = drawn_by known.queryables known.handing (row_of e).to_gets (row_of e).to_values number text
+
+-- what is known where query values are answered
+abbrev pub answering : Known → Answering
+answering known = record { zid = known.zid; keys = known.keys; gets = known.gets; values = known.handing.values }
 
 -- what an accepted event brings about, given the number that it is answered and the text of its key: first what it sends, then
 -- what it hands out, then what ends
 abbrev pub effects_on : Known → Option ℕ → Option (List ℕ) → Event → List Effect
 effects_on known number text e =
-    sends_of known.keys known.pubs number text e ++ group_sends known e number text ++ hands_of known.subs known.pubs text e
-    ++ ends_of known.subs e
+    with_gets (row_of e).to_gets
+    (with_values (row_of e).to_values
+    (sends_of known.keys known.pubs number text e ++ entity_sends known e number text ++ hands_of known.subs known.pubs text e ++ ends_of known.queryables known.subs e)
+    (value_effects (answering known) (row_of e).key (draws_of known number text e) text (row_of e).to_values))
+    (request_effects known.timeout known.keys (row_of e).key (draws_of known number text e) number text (row_of e).to_gets)
+    (told_effects known.gets text (row_of e).to_gets)
 
 -- what the past tells of declared keys
 abbrev pub own_keys_of : Settings → List Entry → OwnKeys
@@ -114,7 +151,12 @@ known_of s past = record {
   keys = own_keys_of s past;
   subs = live_subs past;
   pubs = live_pubs past;
+  queryables = live_queryables past;
   company = λ kind. company_of s kind past;
+  timeout = s.default_timeout;
+  gets = open_now s past;
+  zid = s.zid;
+  handing = handing_of past;
 }
 
 -- the answer and effects of an event behind these accepted events

@@ -122,9 +122,10 @@ abbrev pub last_number : Company → Shared → Option ℕ
 last_number c x =
     if x.told && length (c.members (share_text c.aggregates x.text)) == 1 then c.number (share_text c.aggregates x.text) else None
 
-abbrev pub first_sends : Bool → Message → List Effect
-first_sends true message = Send message ∷ []
-first_sends false message = []
+-- a message, where the test holds
+abbrev pub sends_if : Bool → Message → List Effect
+sends_if true message = Send message ∷ []
+sends_if false message = []
 
 abbrev pub last_sends : (ℕ → Message) → Option ℕ → List Effect
 last_sends end None = []

@@ -5,7 +5,7 @@ use Rattle.zs_keys.specs.Key.{Key, undeclared}
 use Rattle.zs_keys.specs.Text.{is_canonical}
 use Rattle.zs_events.specs.declared.event.KeyArg.{KeyArg}
 use Rattle.zs_events.specs.declared.event.KeyArg.TheVariants.{Text, Number, Declared}
-use Rattle.zs_tables.specs.Numbers.{NumberedKey}
+use Rattle.zs_tables.specs.Numbers.{NumberedKey, key_at}
 use Rattle.zs_wire.specs.declared.wire_expr.Mapping.{Mapping}
 use Rattle.zs_wire.specs.declared.wire_expr.WireExpr.{WireExpr}
 use Rattle.zs_events.specs.declared.turn.Refusal.{Refusal}
@@ -16,7 +16,6 @@ use Rattle.zs_core.specs.declared.state.keys.KeyName.TheVariants.{Own, Publisher
 use Rattle.zs_events.specs.Kinds.{NamedKey, NoKey, OwnKey, PublisherKey, WireKey, is_nothing}
 use Rattle.zs_core.specs.Publishers.{pub_at}
 use Rattle.zs_core.specs.World.{World, tables_of}
-use Rattle.zs_tables.specs.Numbers.{key_at}
 
 -- the text of a key with a text behind it, if there is a key
 abbrev pub text_with_suffix : List ℕ → Option Key → Option (List ℕ)

@@ -1,13 +1,14 @@
 -- What the tables hold after every history, and how events are answered, told by the events alone: each law is the clause of a
 -- public function.
-use Rattle.std.specs.Prelude.{◌≡◌, ◌≤◌, ℕ, length, Bool, true, false, List, Option, Some, None, option_map, IsUtf8}
+use Rattle.std.specs.Prelude.{◌≡◌, ◌≤◌, ℕ, length, Bool, true, false, List, Option, Some, None, option_map, IsUtf8, if◌then◌else◌}
+use Rattle.std.specs.List.{AllByRecursion}
 use Rattle.std.specs.Option.{IfSome}
 use Rattle.zs_wire.specs.declared.wire_expr.Mapping.{Mapping}
 use Rattle.zs_tables.specs.Ascending.{Ascend}
 use Rattle.zs_tables.specs.Groups.{groups_of, members_of, number_of_group}
 use Rattle.zs_tables.specs.declared.group_kind.GroupKind.{GroupKind}
 use Rattle.zs_tables.specs.Numbers.{key_at}
-use Rattle.zs_tables.specs.Recipients.{matches}
+use Rattle.zs_tables.specs.Recipients.{matches, has_network}
 use Rattle.zs_events.specs.declared.event.Event.{Event}
 use Rattle.zs_events.specs.declared.event.Event.TheVariants.{Key}
 use Rattle.zs_events.specs.declared.event.KeyArg.{KeyArg}
@@ -16,13 +17,17 @@ use Rattle.zs_events.specs.declared.turn.Refusal.{Refusal}
 use Rattle.zs_events.specs.Kinds.{row_of}
 use Rattle.zs_core.specs.Entry.{is_closed}
 use Rattle.zs_core.specs.Held.{times_declared, is_held, held_text, held_count, key_text, told_text, mapped_text, named_text}
-use Rattle.zs_core.specs.Live.{live_subs, live_pubs}
+use Rattle.zs_core.specs.Live.{live_subs, live_pubs, live_queryables}
 use Rattle.zs_core.specs.Groups.{group, group_number}
-use Rattle.zs_core.specs.Counters.{next_entity, next_key, drawn_number}
+use Rattle.zs_core.specs.Counters.{next_entity, next_key, drawn_number, next_query}
+use Rattle.zs_core.specs.Gets.{moment_of, open_now}
 use Rattle.zs_core.specs.Causes.{has_cause, refusal_of}
+use Rattle.zs_core.specs.Values.{handing_of}
+use Rattle.zs_core.specs.Finals.{finals_among, finals_due, times_ended, is_over}
 use Rattle.zs_core.specs.Past.{past_of, entry_of}
 use Rattle.zs_core.specs.Effects.{effects}
-use Rattle.zs_core.specs.Received.{messages_of, sent, AreReadAs, AreSpelled, AreUtf8}
+use Rattle.zs_core.specs.Received.{messages_of, sent, spoken_text, AreReadAs, AreSpelled, AreUtf8}
+use Rattle.zs_core.specs.Covered.{IsCovered}
 use Rattle.zs_core.specs.Keys.{numbers_for}
 use Rattle.zs_core.specs.DeclaredKeys.{holders_of}
 use Rattle.zs_core.specs.Turns.{cause, text_for, number_for}
@@ -35,6 +40,10 @@ TableIsLive = (s : Settings) (h : List Event) → (world_after s h).entities.sub
 -- so does that of publishers
 abbrev pub PublishersAreLive : Type 0
 PublishersAreLive = (s : Settings) (h : List Event) → (world_after s h).entities.pubs ≡ live_pubs (past_of s h)
+
+-- and that of queryables
+abbrev pub QueryablesAreLive : Type 0
+QueryablesAreLive = (s : Settings) (h : List Event) → (world_after s h).entities.queryables ≡ live_queryables (past_of s h)
 
 -- the live subscribers stand in ascending number, and so no number is there twice
 abbrev pub SubscribersAscend : Type 0
@@ -67,6 +76,33 @@ abbrev pub CountersAreTold : Type 0
 CountersAreTold =
     (s : Settings) (h : List Event)
     → ((world_after s h).counters.entity ≡ next_entity s (past_of s h)) × ((world_after s h).counters.key ≡ next_key s (past_of s h))
+
+-- the table of gets holds those that are open, each with the sides that it waits for and what its replies make it keep
+abbrev pub GetsAreTold : Type 0
+GetsAreTold = (s : Settings) (h : List Event) → (world_after s h).asking.gets ≡ open_now s (past_of s h)
+
+-- the counter of gets stands at the next number, and the moment is the greatest of all ticks
+abbrev pub MomentsAreTold : Type 0
+MomentsAreTold =
+    (s : Settings) (h : List Event)
+    → ((world_after s h).asking.next ≡ next_query s (past_of s h)) × ((world_after s h).asking.moment ≡ moment_of (past_of s h))
+
+-- the table of query values holds those that are unfinished, each with its request and queryable, and its counters stand at how
+-- many were drawn and how many requests met queryables
+abbrev pub ValuesAreTold : Type 0
+ValuesAreTold = (s : Settings) (h : List Event) → (world_after s h).handing ≡ handing_of (past_of s h)
+
+-- a request from the network is sent its final where it meets nobody, or else when its last value is given back, and no other event
+-- sends one
+abbrev pub FinalsAreDue : Type 0
+FinalsAreDue =
+    (s : Settings) (h : List Event) (e : Event) → finals_among (messages_of (effects s h e).effects) ≡ finals_due s (past_of s h) e
+
+-- the last value of a request is given back once where none of its values is unfinished, and never where one is
+abbrev pub RequestsEndOnce : Type 0
+RequestsEndOnce =
+    (s : Settings) (h : List Event) (request : ℕ)
+    → times_ended request (past_of s h) ≡ (if is_over request (past_of s h) then 1 else 0)
 
 -- a session is closed where an event closed it
 abbrev pub ClosedIsTold : Type 0
@@ -117,12 +153,18 @@ abbrev pub RefusalsHaveCauses : Type 0
 RefusalsHaveCauses = (s : Settings) (h : List Event) (e : Event) → Names (has_cause s (past_of s h) e) (cause (world_after s h) e)
 
 -- each message that an event sends is read as the text of the event's key, or as the text that a group shares where it declares
--- one, by a receiver of all that was sent before it
+-- one, or where it answers a query with an error as the text of the query's key, by a receiver of all that was sent before it
 abbrev pub WireFormsAreRead : Type 0
 WireFormsAreRead =
     (s : Settings) (h : List Event) (e : Event) → AreSpelled s → AreUtf8 (past_of s h) → IfSome (named_text (past_of s h) e) IsUtf8
-    → AreReadAs s (named_text (past_of s h) e) (sent s h) (messages_of (effects s h e).effects)
+    → AreReadAs s (spoken_text (past_of s h) e) (sent s h) (messages_of (effects s h e).effects)
 
 -- no event sends more than one message
 abbrev pub OneMessageAtMost : Type 0
 OneMessageAtMost = (s : Settings) (h : List Event) (e : Event) → length (messages_of (effects s h e).effects) ≤ 1
+
+-- each live subscriber that the network is told of has a key that a subscription includes which the session sent and did not end
+abbrev pub SubscribersAreCovered : Type 0
+SubscribersAreCovered =
+    (s : Settings) (h : List Event) → AreSpelled s → AreUtf8 (past_of s h)
+    → AllByRecursion (λ row. has_network row.origin ≡ true → IsCovered (sent s h) row.key.text) (live_subs (past_of s h))

@@ -4,6 +4,7 @@ pub mod Entry
 pub mod Held
 pub mod Subscribers
 pub mod Publishers
+pub mod Queryables
 pub mod Live
 pub mod Groups
 pub mod Counters
@@ -11,9 +12,18 @@ pub mod Seen
 pub mod Causes
 pub mod Publications
 pub mod Sends
+pub mod Questions
+pub mod Values
+pub mod Replies
+pub mod Answers
+pub mod Gets
+pub mod GetEffects
+pub mod ValueEffects
 pub mod Past
 pub mod Effects
 pub mod Received
+pub mod Finals
+pub mod Covered
 pub mod Bounds
 pub mod World
 pub mod Keys

@@ -2,18 +2,20 @@
 use Rattle.std.specs.Prelude.{ℕ, Bool, true, false, ◌==◌, ◌&&◌, ◌||◌, not, List, [], ◌∷◌, ◌++◌, Option, Some, None, filter}
 use Rattle.std.specs.List.{list_any}
 use Rattle.zs_events.specs.declared.event.Event.{Event}
-use Rattle.zs_events.specs.declared.event.Event.TheVariants.{Sub, Pub, Undeclare, Background, Close}
+use Rattle.zs_events.specs.declared.event.Event.TheVariants.{Sub, Pub, Queryable, Undeclare, Background, Close}
 use Rattle.zs_events.specs.declared.event.EntityKind.{EntityKind}
-use Rattle.zs_events.specs.declared.event.EntityKind.TheVariants.{Sub as sub_kind, Pub as pub_kind}
-use Rattle.zs_events.specs.declared.event.BackgroundKind.TheVariants.{Sub as background_sub}
+use Rattle.zs_events.specs.declared.event.EntityKind.TheVariants.{Sub as sub_kind, Pub as pub_kind, Queryable as queryable_sort}
+use Rattle.zs_events.specs.declared.event.BackgroundKind.TheVariants.{Sub as background_sub, Queryable as background_queryable}
 use Rattle.zs_events.specs.declared.turn.Kind.{Kind}
-use Rattle.zs_events.specs.declared.turn.Kind.TheVariants.{Subscriber, Publisher}
+use Rattle.zs_events.specs.declared.turn.Kind.TheVariants.{Subscriber, Publisher, Queryable as queryable_kind}
 use Rattle.zs_tables.specs.declared.subscriber.SubRow.{SubRow}
+use Rattle.zs_tables.specs.declared.queryable.QueryableRow.{QueryableRow}
 use Rattle.zs_events.specs.Kinds.{Named}
 use Rattle.zs_core.specs.Entry.{Entry}
 use Rattle.zs_core.specs.declared.publisher.PubRow.{PubRow}
 use Rattle.zs_core.specs.Subscribers.{sub_row}
 use Rattle.zs_core.specs.Publishers.{pub_row}
+use Rattle.zs_core.specs.Queryables.{queryable_row}
 
 -- the list with more behind it
 abbrev pub appended : {A : Type 0} → List A → List A → List A
@@ -25,7 +27,7 @@ abbrev pub declared : {R : Type 0} → (Event → Option ℕ → Option (List �
 declared row [] = []
 declared row (x ∷ past) = appended (declared row past) (row x.event x.number x.text)
 
--- the kind of subscribers, and of publishers
+-- the kind of subscribers, of publishers and of queryables
 abbrev pub is_subscriber : Kind → Bool
 is_subscriber Subscriber = true
 is_subscriber kind = false
@@ -34,15 +36,21 @@ abbrev pub is_publisher : Kind → Bool
 is_publisher Publisher = true
 is_publisher kind = false
 
+abbrev pub is_queryable : Kind → Bool
+is_queryable queryable_kind = true
+is_queryable kind = false
+
 -- whether the sort of what is undeclared has that kind
 abbrev pub is_of : EntityKind → Kind → Bool
 is_of sub_kind kind = is_subscriber kind
 is_of pub_kind kind = is_publisher kind
+is_of queryable_sort kind = is_queryable kind
 
 -- whether a declaration of that kind drew this number
 abbrev pub drew : Kind → ℕ → Event → Option ℕ → Bool
 drew kind id (Sub origin key) (Some number) = is_subscriber kind && id == number
 drew kind id (Pub destination key encoding qos reliable) (Some number) = is_publisher kind && id == number
+drew kind id (Queryable origin complete key) (Some number) = is_queryable kind && id == number
 drew kind id e number = false
 
 -- whether an event ends what has this kind and number: its undeclaration, or the close
@@ -54,6 +62,7 @@ ends kind id e = false
 -- whether an event leaves what has this kind and number to itself
 abbrev pub leaves : Kind → ℕ → Event → Bool
 leaves kind id (Background background_sub number) = is_subscriber kind && id == number
+leaves kind id (Background background_queryable number) = is_queryable kind && id == number
 leaves kind id e = false
 
 -- an event of the past drew the number, and none after it, nor any of the later ones, ended it
@@ -79,9 +88,12 @@ abbrev pub names_some : List Entry → Option Named → Bool
 names_some past None = true
 names_some past (Some named) = is_named named.kind named.id past
 
--- the live subscribers and the live publishers, in the order of their declarations
+-- the live subscribers, publishers and queryables, in the order of their declarations
 abbrev pub live_subs : List Entry → List SubRow
 live_subs past = filter (λ row. is_live Subscriber row.id past) (declared sub_row past)
 
 abbrev pub live_pubs : List Entry → List PubRow
 live_pubs past = filter (λ row. is_live Publisher row.id past) (declared pub_row past)
+
+abbrev pub live_queryables : List Entry → List QueryableRow
+live_queryables past = filter (λ row. is_live queryable_kind row.id past) (declared queryable_row past)

@@ -12,6 +12,11 @@ use Rattle.zs_core.specs.declared.settings.Settings.{Settings}
 use Rattle.zs_core.specs.Entry.{Entry}
 use Rattle.zs_core.specs.Groups.{share_text}
 use Rattle.zs_core.specs.Effects.{effects}
+use Rattle.zs_core.specs.Held.{named_text}
+use Rattle.zs_core.specs.Values.{values_now}
+use Rattle.zs_query.specs.declared.query_value.QueryValue.{QueryValue}
+use Rattle.zs_query.specs.Unfinished.{value_at}
+use Rattle.zs_events.specs.Kinds.{ToValues, AnswersError, row_of}
 
 -- the messages among effects
 abbrev pub messages_of : List Effect → List Message
@@ -64,6 +69,14 @@ abbrev pub meant_by : Settings → Option (List ℕ) → Message → Option (Lis
 meant_by s text (DeclareSubscriber id wire) = option_map (share_text s.aggregated_subscribers) text
 meant_by s text (Interest id mode what wire) = option_map (share_text s.aggregated_publishers) text
 meant_by s text message = text
+
+-- the text that an event's messages name: that of its key, and of an error that of its query's key, where these values are unfinished
+abbrev pub spoken_by : List QueryValue → ToValues → Option (List ℕ) → Option (List ℕ)
+spoken_by values (AnswersError value error) text = option_map (λ v. v.row.key.text) (value_at value values)
+spoken_by values to text = text
+
+abbrev pub spoken_text : List Entry → Event → Option (List ℕ)
+spoken_text past e = spoken_by (values_now past) (row_of e).to_values (named_text past e)
 
 -- each of these messages that has a wire expression is read so by a receiver of those before it
 abbrev pub AreReadAs : Settings → Option (List ℕ) → List Message → List Message → Type 0

@@ -3,13 +3,16 @@ use Rattle.std.specs.Prelude.{ℕ, Bool, false, not, ◌||◌, is_none, List, Op
 use Rattle.zs_keys.specs.Text.{is_canonical}
 use Rattle.zs_events.specs.Kinds.{NamedKey, OwnKey, WireKey, Row}
 
--- the text of its key, whether what it names can be named, whether what it claims of a number is so, and whether it lacks a number
--- to draw
+-- the text of its key, whether what it names can be named, whether what it claims of a number is so, whether the query value that it
+-- names is unfinished, whether its query takes no reply on its key, whether it lacks a number to draw, and whether it means nothing here
 pub record Sight : Type 0 where
   pub text : Option (List ℕ)
   pub lives : Bool
   pub claimed : Bool
+  pub owed : Bool
+  pub disjoint : Bool
   pub lacks : Bool
+  pub idle : Bool
 
 -- an application's key that stands for no text
 abbrev pub is_unheld : NamedKey → Option (List ℕ) → Bool
@@ -26,9 +29,10 @@ abbrev pub is_bad : Option (List ℕ) → Bool
 is_bad None = false
 is_bad (Some text) = not (is_canonical text)
 
--- an event that names a number which is not held, or not with the text that it claims, or what cannot be named
+-- an event that names a number which is not held, or not with the text that it claims, or what cannot be named, or a query value that
+-- is not unfinished
 abbrev pub is_not_found : Row → Sight → Bool
-is_not_found row seen = is_unheld row.key seen.text || not seen.lives || not seen.claimed
+is_not_found row seen = not seen.owed || is_unheld row.key seen.text || not seen.lives || not seen.claimed
 
 -- an event from the network with a number that stands for nothing, or that would tell of number 0
 abbrev pub is_unknown : Row → Sight → Bool

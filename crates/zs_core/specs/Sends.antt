@@ -1,5 +1,5 @@
 -- What an event sends to the network, and the form that a message gives a key, given what is known of declared keys.
-use Rattle.std.specs.Prelude.{ℕ, ◌-◌, Bool, true, false, not, ◌==◌, ◌&&◌, nat_le, is_some, length, drop, List, [], ◌∷◌, Option, Some, None, option_map, unwrap_or, chars, if◌then◌else◌, encode_utf8_all}
+use Rattle.std.specs.Prelude.{ℕ, ◌-◌, Bool, false, not, ◌==◌, ◌&&◌, nat_le, is_some, length, drop, List, [], ◌∷◌, Option, Some, None, option_map, unwrap_or, chars, if◌then◌else◌, encode_utf8_all}
 use Rattle.std.specs.List.{starts_with}
 use Rattle.zs_keys.specs.declared.declaration.Declared.{Declared}
 use Rattle.zs_wire.specs.declared.message.Message.{Message}
@@ -13,7 +13,7 @@ use Rattle.zs_events.specs.declared.event.KeyArg.{KeyArg}
 use Rattle.zs_events.specs.declared.event.KeyArg.TheVariants.{Text, Number, Declared as declared_text}
 use Rattle.zs_events.specs.declared.turn.Effect.{Effect}
 use Rattle.zs_events.specs.declared.turn.Effect.TheVariants.{Send}
-use Rattle.zs_events.specs.Kinds.{NamedKey, NoKey, OwnKey, PublisherKey, WireKey, Content, Publishes, NoContent, OwnContent, ByPublisher, row_of}
+use Rattle.zs_events.specs.Kinds.{NamedKey, OwnKey, PublisherKey, Content, Publishes, NoContent, OwnContent, ByPublisher, row_of}
 use Rattle.zs_keys.specs.Key.{Key as a_key}
 use Rattle.zs_core.specs.declared.publisher.PubRow.{PubRow}
 use Rattle.zs_core.specs.Publishers.{resolved}

@@ -5,14 +5,30 @@ use Rattle.zs_core.specs.declared.settings.Settings.{Settings}
 abbrev pub last_entity : ℕ
 last_entity = 4294967295
 
+-- the last query number, which no get draws
+abbrev pub last_query : ℕ
+last_query = 4294967295
+
 -- the last number of a declared key, which no key draws
 abbrev pub last_key : ℕ
 last_key = 65535
 
 -- the settings where none are given: the session's identifier and tag are 1, it is entity 1, its first key number
--- is 1, no keys are aggregated, lines have at most 65536 bytes, and there are 4294967296 reads
+-- is 1 and its first query number 0, no keys are aggregated, gets wait for 10 seconds, lines have at most 65536 bytes, and there are
+-- 4294967296 reads
 abbrev pub default_settings : Settings
-default_settings = record { zid = 1; tag = 1; entity_start = 1; key_start = 1; aggregated_subscribers = []; aggregated_publishers = []; line_max = 65536; turns = 4294967296 }
+default_settings = record {
+  zid = 1;
+  tag = 1;
+  entity_start = 1;
+  key_start = 1;
+  query_start = 0;
+  aggregated_subscribers = [];
+  aggregated_publishers = [];
+  default_timeout = 10000;
+  line_max = 65536;
+  turns = 4294967296;
+}
 
 -- settings that a session can be opened with
 abbrev pub is_valid : Settings → Bool

@@ -19,9 +19,11 @@ new_world s = record {
   settings = s;
   closed = false;
   counters = record { entity = s.entity_start + 1; key = s.key_start };
-  entities = record { subs = []; pubs = []; left_subs = [] };
+  entities = record { subs = []; pubs = []; queryables = []; left_subs = []; left_queryables = [] };
   keys = record { own = []; holders = []; told = [] };
   groups = no_groups;
+  asking = record { gets = []; next = s.query_start; moment = 0 };
+  handing = record { handed = 0; values = []; next = 0 };
 }
 
 -- what a session is after these accepted events, the newest first: each makes its change

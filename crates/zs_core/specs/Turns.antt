@@ -1,32 +1,54 @@
 -- What a session makes of an event, by the tables: its turn and what it changes.
-use Rattle.std.specs.Prelude.{ℕ, Bool, true, false, not, ◌&&◌, ◌==◌, is_some, unwrap_or, List, [], ◌++◌, Option, Some, None, option_map, if◌then◌else◌}
+use Rattle.std.specs.Prelude.{ℕ, Bool, true, false, not, ◌&&◌, ◌||◌, ◌==◌, is_some, unwrap_or, map, List, [], ◌++◌, Option, Some, None, option_map, if◌then◌else◌, ◌∷◌}
 use Rattle.zs_events.specs.declared.event.Event.{Event}
 use Rattle.zs_events.specs.declared.turn.Effect.{Effect}
 use Rattle.zs_events.specs.declared.turn.Kind.{Kind}
-use Rattle.zs_events.specs.declared.turn.Kind.TheVariants.{Subscriber, Publisher}
+use Rattle.zs_events.specs.declared.turn.Kind.TheVariants.{Subscriber, Publisher, Queryable}
 use Rattle.zs_events.specs.declared.turn.Refusal.{Refusal}
-use Rattle.zs_events.specs.declared.turn.Refusal.TheVariants.{SessionClosedError, NotFound, UnknownScope, BadKeyExpr, NotDeclared, IdsExhausted, Ignored}
+use Rattle.zs_events.specs.declared.turn.Refusal.TheVariants.{SessionClosedError, NotFound, UnknownScope, BadKeyExpr, ReplyDisjoint, NotDeclared, IdsExhausted, Ignored}
 use Rattle.zs_core.specs.declared.change.Change.{Change}
-use Rattle.zs_core.specs.declared.change.Change.TheVariants.{Nothing}
+use Rattle.zs_core.specs.declared.change.Change.TheVariants.{Nothing, OfGets, OfValues}
+use Rattle.zs_core.specs.declared.change.GetChange.TheVariants.{Ask, Take}
+use Rattle.zs_core.specs.declared.change.ValueChange.TheVariants.{AskHere, GiveBack}
 use Rattle.zs_core.specs.declared.change.Decision.{Decision}
 use Rattle.zs_tables.specs.Numbers.{key_at, number_at}
+use Rattle.zs_wire.specs.declared.body.Body.{Body}
+use Rattle.zs_wire.specs.declared.body.Value.{Value}
+use Rattle.zs_wire.specs.declared.response.Answered.TheVariants.{Reply, Err as Error}
+use Rattle.zs_wire.specs.declared.response.Response.{Response}
 use Rattle.zs_wire.specs.declared.wire_expr.WireExpr.{WireExpr}
-use Rattle.zs_core.specs.Settings.{last_entity, last_key}
+use Rattle.zs_core.specs.Settings.{last_entity, last_query, last_key}
 use Rattle.zs_events.specs.Turn.{answered}
-use Rattle.zs_events.specs.Kinds.{Speaker, Application, Anytime, Network, NamedKey, PublisherKey, WireKey, Draws, NoNumber, EntityNumber, KeyNumber, Named, Content, PublisherContent, Publishes, OwnContent, ByPublisher, Row, said_by, publisher_named, row_of}
+use Rattle.zs_events.specs.Kinds.{Speaker, Application, Anytime, Network, NamedKey, OwnKey, PublisherKey, WireKey, Draws, NoNumber, EntityNumber, ValueNumber, KeyNumber, Named, Content, Question, ReplyQuality, PublisherContent, Publishes, OwnContent, ByPublisher, Row, AnswersBy, AnswersError, said_by, publisher_named, row_of, QueryNumber, Answers, told_on}
 use Rattle.zs_core.specs.Seen.{Sight, is_not_found, is_unknown, is_bad}
 use Rattle.zs_core.specs.Counters.{is_spent}
+use Rattle.zs_core.specs.Values.{met_by, get_request, last_value, lacks_values}
+use Rattle.zs_core.specs.Answers.{is_owed, is_disjoint_from, is_disjoint, is_refused_on, local_reply}
 use Rattle.zs_core.specs.DeclaredKeys.{holders_of}
 use Rattle.std.specs.List.{list_any}
 use Rattle.zs_core.specs.Subscribers.{is_sub}
 use Rattle.zs_core.specs.Publishers.{is_pub, pub_at, resolved}
-use Rattle.zs_core.specs.Live.{is_subscriber}
+use Rattle.zs_core.specs.Live.{is_subscriber, is_queryable}
 use Rattle.zs_core.specs.Sends.{OwnKeys, prefix_declaration, publication_sends}
-use Rattle.zs_core.specs.Effects.{Known, publication_on, hands_for, effects_on}
+use Rattle.zs_sample.specs.Reply.{Replied}
+use Rattle.zs_query.specs.declared.open_get.OpenGet.{OpenGet}
+use Rattle.zs_query.specs.Gets.{get_at, peek_at}
+use Rattle.zs_core.specs.Gets.{is_unmet, is_idle_response, is_idle}
+use Rattle.zs_core.specs.GetEffects.{hand_query, request_sends, unmet_effects, ask_effects, reply_effects, response_effects}
+use Rattle.zs_core.specs.Effects.{Known, answering, key_wire, publication_on, hands_for, effects_on}
 use Rattle.zs_core.specs.Groups.{company_at}
 use Rattle.zs_core.specs.World.{World}
-use Rattle.zs_core.specs.Keys.{has_claim, text_of}
-use Rattle.zs_core.specs.Changes.{change_for}
+use Rattle.zs_core.specs.Keys.{has_claim, key_of, wire_of, text_of}
+use Rattle.zs_core.specs.Changes.{response_change, ask_change, replied_change, answer_change, change_for}
+use Rattle.zs_keys.specs.Text.{is_canonical}
+use Rattle.zs_events.specs.declared.event.KeyArg.{KeyArg}
+use Rattle.zs_query.specs.declared.query_value.QueryValue.{QueryValue}
+use Rattle.zs_query.specs.declared.request_row.RequestRow.{RequestRow}
+use Rattle.zs_query.specs.declared.requests.Finished.{Finished}
+use Rattle.zs_query.specs.declared.requests.Finished.TheVariants.{Unknown, MoreLeft, Last}
+use Rattle.zs_query.specs.Unfinished.{value_at, values_from}
+use Rattle.zs_core.specs.Questions.{row_asked, row_waiting}
+use Rattle.zs_core.specs.ValueEffects.{reply_for_value, answer_effects, answer_error_effects, finish_effects}
 
 -- the text of the event's key, if it has one
 abbrev pub text_for : World → Event → Option (List ℕ)
@@ -36,11 +58,14 @@ text_for w e = text_of w (row_of e).key
 abbrev pub is_there : Kind → ℕ → World → Bool
 is_there Subscriber id w = is_sub id w.entities.subs
 is_there Publisher id w = is_pub id w.entities.pubs
+is_there Queryable id w = list_any (λ row. row.id == id) w.entities.queryables
 is_there kind id w = false
 
 -- whether it was left to itself
 abbrev pub is_left : Kind → ℕ → World → Bool
-is_left kind id w = is_subscriber kind && list_any (λ other. other == id) w.entities.left_subs
+is_left kind id w =
+    if is_subscriber kind then list_any (λ other. other == id) w.entities.left_subs
+    else is_queryable kind && list_any (λ other. other == id) w.entities.left_queryables
 
 -- whether what an event names can be named, if it names anything
 abbrev pub finds : World → Option Named → Bool
@@ -51,6 +76,8 @@ finds w (Some named) = is_there named.kind named.id w && not (is_left named.kind
 abbrev pub has_run_out : World → Draws → Option (List ℕ) → Bool
 has_run_out w NoNumber text = false
 has_run_out w EntityNumber text = is_spent last_entity w.counters.entity
+has_run_out w QueryNumber text = is_spent last_query w.asking.next
+has_run_out w ValueNumber text = is_spent last_value w.handing.next
 has_run_out w KeyNumber None = false
 has_run_out w KeyNumber (Some text) = not (is_some (number_at text w.keys.own)) && is_spent last_key w.counters.key
 
@@ -58,6 +85,8 @@ has_run_out w KeyNumber (Some text) = not (is_some (number_at text w.keys.own)) 
 abbrev pub number_of : World → Draws → Option (List ℕ) → Option ℕ
 number_of w NoNumber text = None
 number_of w EntityNumber text = Some w.counters.entity
+number_of w QueryNumber text = Some w.asking.next
+number_of w ValueNumber text = Some w.handing.next
 number_of w KeyNumber None = None
 number_of w KeyNumber (Some text) = Some (unwrap_or (number_at text w.keys.own) w.counters.key)
 
@@ -70,7 +99,12 @@ sight w e = record {
   text = text_for w e;
   lives = finds w (row_of e).names;
   claimed = has_claim w (row_of e).claims (text_for w e);
-  lacks = has_run_out w (row_of e).draws (text_for w e);
+  owed = is_owed w.handing.values (row_of e).to_values;
+  disjoint = is_disjoint w.handing.values (row_of e).to_values (text_for w e);
+  lacks =
+      lacks_values w.handing.next (met_by w.entities.queryables (row_of e).to_gets (row_of e).to_values (text_for w e))
+      || has_run_out w (row_of e).draws (text_for w e);
+  idle = is_idle w.asking.gets (row_of e).to_gets (text_for w e);
 }
 
 -- the refusal where the test holds, else the next one
@@ -83,7 +117,9 @@ abbrev pub first_cause : Row → Sight → Option Refusal
 first_cause row seen =
     refused_if (is_not_found row seen) NotFound
     (refused_if (is_unknown row seen) UnknownScope
-    (refused_if (is_bad seen.text) BadKeyExpr (refused_if row.gives_part NotDeclared (refused_if seen.lacks IdsExhausted None))))
+    (refused_if (is_bad seen.text) BadKeyExpr
+    (refused_if seen.disjoint ReplyDisjoint
+    (refused_if row.gives_part NotDeclared (refused_if seen.lacks IdsExhausted (refused_if seen.idle Ignored None))))))
 
 -- why a closed session refuses what is said so
 abbrev pub refused_closed : Speaker → Option Refusal
@@ -116,7 +152,12 @@ known_at w = record {
   keys = own_keys_at w;
   subs = w.entities.subs;
   pubs = w.entities.pubs;
+  queryables = w.entities.queryables;
   company = λ kind. company_at w.settings w.groups kind;
+  timeout = w.settings.default_timeout;
+  gets = w.asking.gets;
+  zid = w.settings.zid;
+  handing = w.handing;
 }
 
 -- what an accepted event brings about
@@ -126,7 +167,7 @@ effects_of w e = effects_on (known_at w) (number_for w e) (text_for w e) e
 -- why a key is refused, if it is
 abbrev pub key_cause : World → NamedKey → Option Refusal
 key_cause w key =
-    first_cause (record (said_by Network) { key = key }) (record { text = text_of w key; lives = true; claimed = true; lacks = false })
+    first_cause (record (said_by Network) { key = key }) (record { text = text_of w key; lives = true; claimed = true; owed = true; disjoint = false; lacks = false; idle = false })
 
 -- a refused event changes nothing
 abbrev pub unless_refused : Option Refusal → Change → Change
@@ -166,5 +207,99 @@ abbrev pub published_decision : World → ℕ → PublisherContent → Decision
 published_decision w id c =
     decision_of
     (first_cause (record (said_by Application) { key = PublisherKey id; names = publisher_named id })
-    (record { text = text_of w (PublisherKey id); lives = finds w (publisher_named id); claimed = true; lacks = false }))
+    (record { text = text_of w (PublisherKey id); lives = finds w (publisher_named id); claimed = true; owed = true; disjoint = false; lacks = false; idle = false }))
     None (published_effects w id (text_of w (PublisherKey id)) (resolved w.entities.pubs (ByPublisher id c))) Nothing
+
+-- what an open session makes of a reply that a queryable's request takes, on this text
+abbrev pub replied_by : World → KeyArg → ℕ → RequestRow → ReplyQuality → Body → List ℕ → Decision
+replied_by w key queryable row quality body text =
+    decision_of None None (reply_for_value (answering (known_at w)) (OwnKey key) queryable row quality body text)
+    (replied_change row.local row.rid (local_reply w.settings.zid queryable row quality body text))
+
+-- of one on a key
+abbrev pub answered_by : World → KeyArg → ℕ → RequestRow → ReplyQuality → Body → Option (List ℕ) → Decision
+answered_by w key queryable row quality body None = decision_of (Some NotFound) None [] Nothing
+answered_by w key queryable row quality body (Some text) =
+    if not (is_canonical text) then decision_of (Some BadKeyExpr) None [] Nothing
+    else if is_refused_on text row then decision_of (Some ReplyDisjoint) None [] Nothing
+    else replied_by w key queryable row quality body text
+
+-- of one to a query value
+abbrev pub answer_row : ℕ → KeyArg → ReplyQuality → Body → Row
+answer_row value key quality body = record (said_by Anytime) { key = OwnKey key; to_values = AnswersBy value body quality }
+
+abbrev pub answer_on : World → ℕ → KeyArg → ReplyQuality → Body → Option QueryValue → Option (List ℕ) → Decision
+answer_on w value key quality body o text =
+    decision_of
+    (first_cause (answer_row value key quality body)
+    (record { text = text; lives = true; claimed = true; owed = is_some o; disjoint = is_disjoint_from o text; lacks = false; idle = false }))
+    None (answer_effects (answering (known_at w)) (OwnKey key) o quality body text) (answer_change w.settings.zid quality body o text)
+
+abbrev pub answer_decision : World → ℕ → KeyArg → ReplyQuality → Body → Decision
+answer_decision w value key quality body = answer_on w value key quality body (value_at value w.handing.values) (key_of w key)
+
+-- and of an error
+abbrev pub error_answered : World → ℕ → Value → Option QueryValue → Decision
+error_answered w value error o =
+    decision_of
+    (first_cause (record (said_by Anytime) { to_values = AnswersError value error })
+    (record { text = None; lives = true; claimed = true; owed = is_some o; disjoint = false; lacks = false; idle = false }))
+    None (answer_error_effects (answering (known_at w)) o error) Nothing
+
+abbrev pub error_answer_decision : World → ℕ → Value → Decision
+error_answer_decision w value error = error_answered w value error (value_at value w.handing.values)
+
+-- what it makes of a value that is given back, by what that comes to
+abbrev pub finished_decision : World → ℕ → Finished → Decision
+finished_decision w value Unknown = decision_of (Some NotFound) None [] Nothing
+finished_decision w value MoreLeft = decision_of None None [] (OfValues (GiveBack value))
+finished_decision w value (Last row) = decision_of None None (finish_effects w.asking.gets (Last row)) (OfValues (GiveBack value))
+
+-- what it makes of a get on this text, which meets these queryables
+abbrev pub asked_decision : World → KeyArg → Question → List ℕ → List ℕ → Decision
+asked_decision w key q text met =
+    decision_of None (Some w.asking.next)
+    (ask_effects w.settings.default_timeout (key_wire (own_keys_at w) text key) w.asking.next q
+    (values_from w.handing.next w.handing.handed (get_request w.asking.next text q) met))
+    (ask_change (row_waiting w.settings.default_timeout w.asking.moment w.asking.next text q met) (get_request w.asking.next text q) met)
+
+-- the same of one that meets nobody here, and of one that meets somebody
+abbrev pub unmet_decision : World → KeyArg → Question → List ℕ → Decision
+unmet_decision w key q text =
+    decision_of None (Some w.asking.next)
+    (unmet_effects w.settings.default_timeout (key_wire (own_keys_at w) text key) w.asking.next q)
+    (OfGets (Ask (row_waiting w.settings.default_timeout w.asking.moment w.asking.next text q [])))
+
+abbrev pub met_decision : World → KeyArg → Question → List ℕ → List ℕ → Decision
+met_decision w key q text met =
+    decision_of None (Some w.asking.next)
+    (request_sends w.settings.default_timeout (key_wire (own_keys_at w) text key) w.asking.next q
+    ++ map hand_query (values_from w.handing.next w.handing.handed (get_request w.asking.next text q) met))
+    (OfValues (AskHere
+    (record (row_asked w.settings.default_timeout w.asking.moment w.asking.next text q) { local_wanted = true })
+    (get_request w.asking.next text q) met))
+
+-- what gets make of a reply to one of them
+abbrev pub heard_reply : List OpenGet → ℕ → Replied → Decision
+heard_reply gets number reply =
+    decision_of (refused_if (is_unmet (peek_at (get_at number gets) reply)) Ignored None) None
+    (reply_effects (peek_at (get_at number gets) reply) number reply) (OfGets (Take number reply))
+
+-- and what an open session makes of a response with a value, and with an error
+abbrev pub reply_row : Response → Body → Row
+reply_row response body = record (told_on response.wire) { to_gets = Answers response; texts = body.encoding ∷ [] }
+
+abbrev pub reply_decision_on : World → Response → Body → Option (List ℕ) → Decision
+reply_decision_on w response body text =
+    decision_of
+    (first_cause (reply_row response body)
+    (record { text = text; lives = true; claimed = true; owed = true; disjoint = false; lacks = false; idle = is_idle_response w.asking.gets response (Reply body) text }))
+    None (response_effects w.asking.gets response (Reply body) text) (response_change response (Reply body) text)
+
+abbrev pub reply_decision : World → Response → Body → Decision
+reply_decision w response body = reply_decision_on w response body (wire_of w response.wire)
+
+abbrev pub error_decision : World → Response → Value → Decision
+error_decision w response value =
+    decision_of (refused_if (is_idle_response w.asking.gets response (Error value) None) Ignored None) None
+    (response_effects w.asking.gets response (Error value) None) Nothing

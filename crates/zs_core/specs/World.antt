@@ -1,10 +1,13 @@
 use Rattle.std.specs.Prelude.{ℕ, Bool, List}
 use Rattle.zs_core.specs.declared.settings.Settings.{Settings}
 use Rattle.zs_tables.specs.declared.subscriber.SubRow.{SubRow}
+use Rattle.zs_tables.specs.declared.queryable.QueryableRow.{QueryableRow}
 use Rattle.zs_tables.specs.Groups.{AllGroups}
 use Rattle.zs_core.specs.declared.publisher.PubRow.{PubRow}
 use Rattle.zs_tables.specs.Numbers.{NumberedKey}
 use Rattle.zs_tables.specs.Contents.{Contents}
+use Rattle.zs_query.specs.GetTable.{Asking}
+use Rattle.zs_query.specs.RequestTable.{Handing}
 use Rattle.zs_core.specs.declared.declared_key.KeyHolders.{KeyHolders}
 
 -- the next number of each sort
@@ -16,8 +19,10 @@ pub record Counters : Type 0 where
 pub record Entities : Type 0 where
   pub subs : List SubRow
   pub pubs : List PubRow
-  -- the numbers of the subscribers that were left to themselves
+  pub queryables : List QueryableRow
+  -- the numbers of the subscribers and of the queryables that were left to themselves
   pub left_subs : List ℕ
+  pub left_queryables : List ℕ
 
 -- the keys that numbers stand for: those that this session declared, how many hold each of them, and those that the
 -- network told
@@ -35,6 +40,8 @@ pub record World : Type 0 where
   pub keys : DeclaredKeys
   -- those that share a network declaration
   pub groups : AllGroups
+  pub asking : Asking
+  pub handing : Handing
 
 -- the tables that find subscribers by number, as they are at this moment
 abbrev pub tables_of : World → Contents

@@ -1,11 +1,14 @@
 ghost use Rattle.std.specs.Prelude.{◌≡◌, [], Some, None};
 ghost use Rattle.zs_core.specs.Turns.{decision_of};
 
+use crate::met::Met;
 use crate::publisher::PubRow;
 use std::alloc::Global;
-use zs_events::{Effects, Refusal, Turn};
+use zs_events::{Answer, Effects, Refusal, Turn};
 use zs_keys::KeyExpr;
-use zs_tables::SubRow;
+use zs_query::{GetRow, RequestRow};
+use zs_sample::Reply;
+use zs_tables::{QueryableRow, SubRow};
 
 /// What an accepted event makes of the keys that the session declared.
 #[derive(Drop)]
@@ -29,8 +32,14 @@ pub enum EntityChange {
     AddPub { row: PubRow },
     /// A publisher ends.
     EndPub { id: u32 },
+    /// A queryable is declared: it draws a number.
+    AddQueryable { row: QueryableRow },
+    /// A queryable ends.
+    EndQueryable { id: u32 },
     /// A subscriber is left to itself.
     LeaveSub { id: u32 },
+    /// A queryable is left to itself.
+    LeaveQueryable { id: u32 },
 }
 
 /// What an accepted event makes of what the network told.
@@ -40,13 +49,53 @@ pub enum NetworkChange {
     TellKey { number: u16, key: KeyExpr<'static> },
 }
 
-/// What an accepted event changes, with the copies that it needs. It names one area, but for the close.
+/// What an accepted event makes of the gets.
+#[derive(Drop)]
+pub enum GetChange {
+    /// A get is asked: it draws a number.
+    Ask { row: GetRow },
+    /// A reply reached a get.
+    Take { number: u32, reply: Reply },
+    /// The network has no more replies to a get.
+    Final { number: u32 },
+    /// A moment has come.
+    Advance { moment: u64 },
+}
+
+/// What an accepted event makes of the query values.
+#[derive(Drop)]
+pub enum ValueChange {
+    /// A request from the network is handed to these queryables, if there are any: each draws a value.
+    HandOut {
+        row: RequestRow,
+        met: Met,
+    },
+    /// A get is asked, and its request is handed to these queryables.
+    AskHere {
+        get: GetRow,
+        row: RequestRow,
+        met: Met,
+    },
+    /// A value is drawn for the query of this one.
+    ShareOf {
+        value: u32,
+    },
+    /// A value is given back. The last one of a get's request gives the get this session's final.
+    GiveBack {
+        value: u32,
+    },
+}
+
+/// What an accepted event changes, with the copies that it needs. It names one area, but for
+/// the close, and for query values whose requests are gets.
 #[derive(Drop)]
 pub enum Change {
     Nothing,
     OfKeys(KeyChange),
     OfEntities(EntityChange),
     OfNetwork(NetworkChange),
+    OfGets(GetChange),
+    OfValues(ValueChange),
     /// The session is closed.
     Shut,
 }

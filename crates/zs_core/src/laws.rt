@@ -1,6 +1,6 @@
 //! Laws over the definitions: each is the contract of a function that does nothing.
 
-ghost use Rattle.zs_core.specs.Laws.{TableIsLive, SubscribersAscend, PublishersAreLive, GroupsAreLive, KeysAreHeld, HoldersAreCounted, KeysAreTold, CountersAreTold, ClosedIsTold, TextsAreNamed, NumbersAreDrawn, HeldTextsKeepNumbers, KeyNumbersAreNew, ListsAreTests, FirstCause, RefusalsHaveCauses, WireFormsAreRead, OneMessageAtMost};
+ghost use Rattle.zs_core.specs.Laws.{TableIsLive, SubscribersAscend, PublishersAreLive, QueryablesAreLive, GroupsAreLive, KeysAreHeld, HoldersAreCounted, KeysAreTold, CountersAreTold, ClosedIsTold, TextsAreNamed, NumbersAreDrawn, HeldTextsKeepNumbers, KeyNumbersAreNew, ListsAreTests, FirstCause, RefusalsHaveCauses, WireFormsAreRead, OneMessageAtMost, SubscribersAreCovered, GetsAreTold, MomentsAreTold, ValuesAreTold, FinalsAreDue, RequestsEndOnce};
 
 /// After any history the table of subscribers holds those that were declared and not ended since, and no others.
 pub fn table_is_live()
@@ -15,6 +15,11 @@ pub fn subscribers_ascend()
 /// After any history the table of publishers holds those that were declared and not ended since, and no others.
 pub fn publishers_are_live()
     ensures { PublishersAreLive }
+{}
+
+/// After any history the table of queryables holds those that were declared and not ended since, and no others.
+pub fn queryables_are_live()
+    ensures { QueryablesAreLive }
 {}
 
 /// After any history the group of a text has as members the live entities of its kind that the network is told of and that
@@ -42,6 +47,36 @@ pub fn keys_are_told()
 /// After any history each counter stands at its first number and one more for each that was drawn.
 pub fn counters_are_told()
     ensures { CountersAreTold }
+{}
+
+/// After any history the table of gets holds those that the events tell to be open, each with the finals that it waits for
+/// and the replies that it keeps, and no others.
+pub fn gets_are_told()
+    ensures { GetsAreTold }
+{}
+
+/// After any history the counter of gets stands at its first number and one more for each that was asked, and the moment
+/// is the greatest that was told.
+pub fn moments_are_told()
+    ensures { MomentsAreTold }
+{}
+
+/// After any history the table of query values holds those that an event drew and none gave back since, and no others; the
+/// next number is how many were drawn.
+pub fn values_are_told()
+    ensures { ValuesAreTold }
+{}
+
+/// A request from the network is sent its final at once where it meets no queryable, else when its last value is given back
+/// while the session is open, and no other event sends a final.
+pub fn finals_are_due()
+    ensures { FinalsAreDue }
+{}
+
+/// After any history the last value of a request was given back once where it met queryables and none of its values is
+/// unfinished, and else never: so no request has two finals.
+pub fn requests_end_once()
+    ensures { RequestsEndOnce }
 {}
 
 /// A session is closed exactly where an event of its history closed it.
@@ -94,4 +129,11 @@ pub fn wire_forms_are_read()
 /// No event sends more than one message.
 pub fn one_message_at_most()
     ensures { OneMessageAtMost }
+{}
+
+/// After any history each live subscriber that the network is told of has a key that is included in a subscription which the
+/// session sent and did not end, as a receiver of its messages reads it, where the texts are UTF-8, as those of a program are.
+/// A closed session has no live subscriber.
+pub fn subscribers_are_covered()
+    ensures { SubscribersAreCovered }
 {}

@@ -5,10 +5,12 @@
 pub use declared_key::KeyHolders;
 pub use key_list::KeyList;
 pub use laws::{
-    closed_is_told, counters_are_told, first_cause, groups_are_live, held_texts_keep_numbers,
-    holders_are_counted, key_numbers_are_new, keys_are_held, keys_are_told, lists_are_tests,
-    numbers_are_drawn, one_message_at_most, publishers_are_live, refusals_have_causes,
-    subscribers_ascend, table_is_live, texts_are_named, wire_forms_are_read,
+    closed_is_told, counters_are_told, finals_are_due, first_cause, gets_are_told, groups_are_live,
+    held_texts_keep_numbers, holders_are_counted, key_numbers_are_new, keys_are_held,
+    keys_are_told, lists_are_tests, moments_are_told, numbers_are_drawn, one_message_at_most,
+    publishers_are_live, queryables_are_live, refusals_have_causes, requests_end_once,
+    subscribers_are_covered, subscribers_ascend, table_is_live, texts_are_named, values_are_told,
+    wire_forms_are_read,
 };
 pub use publisher::{Prefix, PubRow};
 pub use settings::Settings;
@@ -17,16 +19,15 @@ pub use zs_events::{
     Answer, BackgroundKind, Effect, Effects, EntityKind, Event, HandOver, KeyArg, Kind, Refusal,
     Turn,
 };
-pub use zs_tables::{KeyRef, SubRow};
+pub use zs_tables::{KeyRef, QueryableRow, SubRow};
 
 mod change;
 mod declared_key;
 mod id_set;
 mod key_list;
 mod laws;
+mod met;
 mod pub_table;
 mod publisher;
 mod settings;
 mod state;
-#[cfg(test)]
-mod tests;

@@ -18,10 +18,14 @@ pub struct Settings {
     pub entity_start: u32,
     /// The number of the first key that it declares: not 0, which no declared key has.
     pub key_start: u16,
+    /// The number of its first get.
+    pub query_start: u32,
     /// What subscribers on narrower keys are told to the network as: each is on the first of these that includes its key.
     pub aggregated_subscribers: KeyList,
     /// The same for publishers.
     pub aggregated_publishers: KeyList,
+    /// After how many milliseconds a get ends that doesn't say it itself.
+    pub default_timeout: u64,
     /// How many bytes a line of a script may have.
     pub line_max: u32,
     /// How many reads of its input a run makes at most.
@@ -51,8 +55,10 @@ impl Settings {
             tag: self.tag,
             entity_start: self.entity_start,
             key_start: self.key_start,
+            query_start: self.query_start,
             aggregated_subscribers: self.aggregated_subscribers.try_clone(alloc)?,
             aggregated_publishers: self.aggregated_publishers.try_clone(alloc)?,
+            default_timeout: self.default_timeout,
             line_max: self.line_max,
             turns: self.turns,
         })
@@ -71,8 +77,10 @@ impl Default for Settings {
             tag: 1,
             entity_start: 1,
             key_start: 1,
+            query_start: 0,
             aggregated_subscribers: KeyList::new(),
             aggregated_publishers: KeyList::new(),
+            default_timeout: 10000,
             line_max: 65536,
             turns: 1 << 32,
         }

@@ -2,7 +2,11 @@ ghost use Rattle.std.specs.Prelude.{◌≡◌, None, [], IfOk, OnOk, OnErr};
 ghost use Rattle.zs_core.specs.Turns.{decision_of, decision, closed_cause};
 ghost use Rattle.zs_core.specs.Changes.{Fits, with_change};
 
-use self::content::{delete_body, local_content, publisher_delete, publisher_put, put_body};
+use self::answers::ReplyQuality;
+use self::content::{
+    delete_body, error_value, local_content, publisher_delete, publisher_put, put_body,
+};
+use self::questions::Question;
 use crate::change::{Change, Decision};
 use crate::declared_key::KeyHolders;
 use crate::id_set::IdSet;
@@ -11,20 +15,27 @@ use crate::settings::Settings;
 use std::alloc::{AllocError, Global};
 use std::marker::Model;
 use zs_events::{BackgroundKind, EntityKind, Event, Refusal};
-use zs_tables::{Groups, Tables};
+use zs_query::{GetTable, RequestTable};
+use zs_tables::{Groups, QueryableTable, Tables};
 
+mod answers;
 mod backgrounds;
 mod content;
 mod declared_keys;
+mod get_effects;
+mod gets;
 mod groups;
 mod keys;
 mod messages;
 mod publications;
 mod publishers;
+mod queryables;
+mod questions;
 mod recipients;
 mod status;
 mod stepping;
 mod subscribers;
+mod values;
 mod wires;
 
 /// A session: what the application declared, and the numbers that it draws next. It changes by `step` alone.
@@ -39,8 +50,12 @@ pub struct SessionState {
     tables: Tables,
     holders: Vec<KeyHolders>,
     publishers: PubTable,
+    queryables: QueryableTable,
     left_subs: IdSet,
+    left_queryables: IdSet,
     groups: Groups,
+    asking: GetTable,
+    handing: RequestTable,
 }
 
 impl Model for SessionState {
@@ -52,14 +67,22 @@ impl Model for SessionState {
       settings = s.settings;
       closed = s.closed;
       counters = record { entity = s.next_entity; key = s.next_key };
-      entities = record { subs = s.tables.rows; pubs = s.publishers; left_subs = s.left_subs };
+      entities = record {
+        subs = s.tables.rows;
+        pubs = s.publishers;
+        queryables = s.queryables;
+        left_subs = s.left_subs;
+        left_queryables = s.left_queryables;
+      };
       keys = record { own = s.tables.own; holders = s.holders.items; told = s.tables.told };
       groups = s.groups;
+      asking = s.asking;
+      handing = s.handing;
     } };
 
     ghost use Rattle.zs_core.specs.Bounds.{AreBelow};
 
-    ghost invariant = { λ s. AreBelow s.next_entity s.tables.rows s.publishers s.groups };
+    ghost invariant = { λ s. AreBelow s.next_entity s.tables.rows s.publishers s.queryables s.groups };
 }
 
 impl SessionState {
@@ -89,10 +112,23 @@ impl SessionState {
                 kind: EntityKind::Pub,
                 id,
             } => self.decide_undeclare_pub(*id),
+            Event::Queryable {
+                origin,
+                complete,
+                key,
+            } => self.decide_queryable(*origin, *complete, key),
+            Event::Undeclare {
+                kind: EntityKind::Queryable,
+                id,
+            } => self.decide_undeclare_queryable(*id),
             Event::Background {
                 kind: BackgroundKind::Sub,
                 id,
             } => self.decide_background_sub(*id),
+            Event::Background {
+                kind: BackgroundKind::Queryable,
+                id,
+            } => self.decide_background_queryable(*id),
             Event::Put {
                 destination,
                 key,
@@ -143,6 +179,84 @@ impl SessionState {
                 let content = publisher_delete(self.alloc, *timestamp, *source, attachment)?;
                 self.decide_published(*id, content)
             }
+            Event::Get {
+                destination,
+                key,
+                parameters,
+                target,
+                consolidation,
+                timeout,
+                value,
+                qos,
+                source,
+                attachment,
+                any_key,
+            } => {
+                let question = Question {
+                    destination: *destination,
+                    parameters,
+                    target: *target,
+                    consolidation: *consolidation,
+                    timeout: *timeout,
+                    value,
+                    qos: *qos,
+                    source: *source,
+                    attachment,
+                    any_key: *any_key,
+                };
+                self.decide_get(key, question)
+            }
+            Event::Reply {
+                value,
+                key,
+                payload,
+                encoding,
+                timestamp,
+                priority,
+                congestion,
+                express,
+                source,
+                attachment,
+            } => {
+                let body = put_body(
+                    self.alloc, payload, encoding, *timestamp, *source, attachment,
+                )?;
+                let quality = ReplyQuality {
+                    priority: *priority,
+                    congestion: *congestion,
+                    express: *express,
+                };
+                self.decide_answer(*value, key, body, quality)
+            }
+            Event::ReplyDelete {
+                value,
+                key,
+                timestamp,
+                priority,
+                congestion,
+                express,
+                source,
+                attachment,
+            } => {
+                let body = delete_body(self.alloc, *timestamp, *source, attachment)?;
+                let quality = ReplyQuality {
+                    priority: *priority,
+                    congestion: *congestion,
+                    express: *express,
+                };
+                self.decide_answer(*value, key, body, quality)
+            }
+            Event::ReplyErr {
+                value,
+                payload,
+                encoding,
+            } => {
+                let error = error_value(self.alloc, payload, encoding)?;
+                self.decide_error_answer(*value, error)
+            }
+            Event::Share { value } => self.decide_share(*value),
+            Event::Finish { value } => self.decide_finish(*value),
+            Event::Tick { now } => self.decide_tick(*now),
             Event::Close => self.decide_close(),
             Event::Net(message) => self.decide_message(message),
         }
@@ -159,6 +273,8 @@ impl SessionState {
             Change::OfKeys(change) => self.change_keys(change),
             Change::OfEntities(change) => self.change_entities(change),
             Change::OfNetwork(change) => self.change_network(change),
+            Change::OfGets(change) => self.change_gets(change),
+            Change::OfValues(change) => self.change_values(change),
             Change::Shut => {
                 self.shut();
                 Ok(())
@@ -172,19 +288,25 @@ fn closed_decision(alloc: Global, event: &Event) -> Decision
     ensures { result ≡ decision_of (closed_cause event.now) None [] Change.Nothing }
 {
     match event {
-        Event::Undeclare { .. } | Event::Background { .. } | Event::Close => Decision::quiet(
-            alloc,
-            None,
-            Change::Nothing,
-        ),
+        Event::Undeclare { .. }
+        | Event::Background { .. }
+        | Event::Reply { .. }
+        | Event::ReplyDelete { .. }
+        | Event::ReplyErr { .. }
+        | Event::Finish { .. }
+        | Event::Tick { .. }
+        | Event::Close => Decision::quiet(alloc, None, Change::Nothing),
         Event::Net(_) => Decision::refused(alloc, Refusal::Ignored),
         Event::Key { .. }
         | Event::UndeclareKey { .. }
         | Event::Sub { .. }
         | Event::Pub { .. }
+        | Event::Queryable { .. }
+        | Event::Share { .. }
         | Event::Put { .. }
         | Event::Delete { .. }
         | Event::PublisherPut { .. }
-        | Event::PublisherDelete { .. } => Decision::refused(alloc, Refusal::SessionClosedError),
+        | Event::PublisherDelete { .. }
+        | Event::Get { .. } => Decision::refused(alloc, Refusal::SessionClosedError),
     }
 }

@@ -1,9 +1,11 @@
-ghost use Rattle.std.specs.Prelude.{◌≡◌, [], Some, IfOk, unwrap_or};
+ghost use Rattle.std.specs.Prelude.{◌≡◌, [], Some, false, IfOk, unwrap_or};
 ghost use Rattle.zs_events.specs.Kinds.{default_encoding, put_body, delete_body, local_content, incoming_content};
 ghost use Rattle.zs_sample.specs.Encoding.{encoding_of};
 ghost use Rattle.zs_core.specs.Publications.{content_by, published_content, sample_on, handed_payload, handed_encoding};
 ghost use Rattle.zs_core.specs.Publishers.{published_by};
 ghost use Rattle.zs_keys.specs.Key.{undeclared};
+ghost use Rattle.zs_core.specs.Replies.{reply_content};
+ghost use Rattle.zs_sample.specs.declared.locality.Locality.{Locality};
 
 use super::keys::into_owned;
 use crate::publisher::PubRow;
@@ -14,7 +16,7 @@ use zs_sample::{
     Encoding, Locality, Priority, QoSType, Reliability, Sample, SampleFields, SampleKind,
     SourceInfo, Text, Timestamp, ZBytes,
 };
-use zs_wire::{Body, Push};
+use zs_wire::{Body, Push, Value};
 
 /// A publication but for its key: made here for a destination, or come in.
 #[derive(Drop)]
@@ -155,12 +157,32 @@ pub(super) fn local_content(
 pub(super) fn incoming_content(alloc: Global, push: &Push) -> Result<Content, AllocError>
     ensures { IfOk result (λ made. content_by made ≡ incoming_content push.now) }
 {
+    came_in(alloc, &push.body, push.qos, push.reliable)
+}
+
+/// What a reply says of its key.
+pub(super) fn reply_content(qos: QoSType, body: Body) -> Content
+    ensures { content_by result ≡ reply_content qos body }
+{
+    Content {
+        local: false,
+        destination: Locality::Any,
+        body,
+        qos,
+        reliable: true,
+    }
+}
+
+fn came_in(alloc: Global, body: &Body, qos: QoSType, reliable: bool) -> Result<Content, AllocError>
+    ensures { IfOk result (λ made.
+        content_by made ≡ record { local = false; destination = Locality.Any; body = body.now; qos = qos; reliable = reliable }) }
+{
     Ok(Content {
         local: false,
         destination: Locality::Any,
-        body: push.body.try_clone(alloc)?,
-        qos: push.qos,
-        reliable: push.reliable,
+        body: body.try_clone(alloc)?,
+        qos,
+        reliable,
     })
 }
 
@@ -204,8 +226,22 @@ pub(super) fn delete_body(
     })
 }
 
+/// What an error says.
+pub(super) fn error_value(
+    alloc: Global,
+    payload: &ZBytes,
+    encoding: &Text,
+) -> Result<Value, AllocError>
+    ensures { IfOk result (λ made. made ≡ record { payload = payload.now; encoding = encoding_of encoding.now }) }
+{
+    Ok(Value {
+        payload: payload.try_clone(alloc)?,
+        encoding: text_of_encoding(alloc, encoding)?,
+    })
+}
+
 /// The encoding that a text names: the empty text is the default.
-fn text_of_encoding(alloc: Global, encoding: &Text) -> Result<Text, AllocError>
+pub(super) fn text_of_encoding(alloc: Global, encoding: &Text) -> Result<Text, AllocError>
     ensures { IfOk result (λ made. made ≡ encoding_of encoding.now) }
 {
     if encoding.is_empty() {

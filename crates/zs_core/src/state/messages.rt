@@ -10,7 +10,7 @@ use zs_events::{Event, Refusal};
 use zs_wire::{Message, WireExpr};
 
 impl SessionState {
-    /// What a message from the network makes of an open session. Those of gets, queryables, liveliness and matching
+    /// What a message from the network makes of an open session. Those of liveliness and matching
     /// change nothing, but their keys must be known ones.
     pub(super) fn decide_message(&self, message: &Message) -> Result<Decision, AllocError>
         ensures { IfOk result (λ made. made ≡ open_decision self.now (Event.Net message.now)) }
@@ -24,15 +24,15 @@ impl SessionState {
             Message::DeclareSubscriber { wire, .. }
             | Message::DeclareQueryable { wire, .. }
             | Message::DeclareToken { wire, .. } => self.decide_heard(wire),
-            Message::Request(request) => self.decide_heard(&request.wire),
+            Message::Request(request) => self.decide_request(request),
+            Message::Response(response) => self.decide_response(response),
+            Message::ResponseFinal { rid } => self.decide_response_final(*rid),
             Message::UndeclareKeyExpr { .. }
             | Message::UndeclareSubscriber { .. }
             | Message::UndeclareQueryable { .. }
             | Message::UndeclareToken { .. }
             | Message::DeclareFinal { .. }
             | Message::Interest { .. }
-            | Message::Response(_)
-            | Message::ResponseFinal { .. }
             | Message::Close => Ok(Decision::quiet(self.alloc, None, Change::Nothing)),
         }
     }

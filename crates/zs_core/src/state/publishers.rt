@@ -2,11 +2,11 @@ ghost use Rattle.std.specs.Prelude.{◌≡◌, ◌≢◌, ◌<◌, ◌++◌, ◌
 ghost use Rattle.std.specs.Option.{option_map};
 ghost use Rattle.zs_tables.specs.Groups.{with_groups, groups_of, members_of};
 ghost use Rattle.zs_core.specs.Turns.{own_keys_at, known_at, open_decision, published_decision};
-ghost use Rattle.zs_core.specs.Effects.{group_sends, key_wire};
+ghost use Rattle.zs_core.specs.Effects.{entity_sends, key_wire};
 ghost use Rattle.zs_core.specs.Sends.{group_wire};
 ghost use Rattle.zs_tables.specs.Recipients.{has_network};
 ghost use Rattle.zs_core.specs.Changes.{EntitiesFit, with_change};
-ghost use Rattle.zs_core.specs.Groups.{company_at, pub_shared, share_text, joined_by, left_found, joins_first, first_sends, last_sends, leaving, interest_end};
+ghost use Rattle.zs_core.specs.Groups.{company_at, pub_shared, share_text, joined_by, left_found, joins_first, sends_if, last_sends, leaving, interest_end};
 ghost use Rattle.zs_core.specs.Publishers.{prefix_of, pub_at};
 ghost use Rattle.zs_core.specs.Publications.{published_content};
 ghost use Rattle.std.specs.Prelude.{true};
@@ -82,7 +82,7 @@ impl SessionState {
         resolved: &KeyExpr<'_>,
     ) -> Result<Effects, AllocError>
         ensures { IfOk result (λ effects.
-            effects ≡ first_sends (joins_first (company_at self.now.settings self.now.groups GroupKind.Publishers)
+            effects ≡ sends_if (joins_first (company_at self.now.settings self.now.groups GroupKind.Publishers)
             (record { id = id; told = has_network destination; text = resolved.now.text }))
             (Message.Interest id InterestMode.CurrentFuture InterestWhat.Subscribers
             (Some (group_wire self.now.settings.aggregated_publishers resolved.now.text (key_wire (own_keys_at self.now) resolved.now.text key.now)))) ++ []) }
@@ -109,7 +109,7 @@ impl SessionState {
 
     /// What is sent where a publisher leaves it: the end of a group that has no other.
     fn leaving_pub(&self, id: u32) -> Result<Effects, AllocError>
-        ensures { IfOk result (λ effects. effects ≡ group_sends (known_at self.now) (Event.Undeclare EntityKind.Pub id) None None ++ []) }
+        ensures { IfOk result (λ effects. effects ≡ entity_sends (known_at self.now) (Event.Undeclare EntityKind.Pub id) None None ++ []) }
     {
         let mut effects = Effects::new(self.alloc);
         if let Some(number) = self.last_number_of_pub(id) {

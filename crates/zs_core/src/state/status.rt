@@ -35,6 +35,7 @@ impl SessionState {
         match kind {
             Kind::Subscriber => self.tables.has(id),
             Kind::Publisher => self.publishers.has(id),
+            Kind::Queryable => self.has_queryable(id),
             _ => false,
         }
     }

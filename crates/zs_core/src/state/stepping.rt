@@ -10,7 +10,8 @@ use crate::pub_table::PubTable;
 use crate::settings::Settings;
 use std::alloc::{AllocError, Global};
 use zs_events::{Event, Turn};
-use zs_tables::{Groups, Tables};
+use zs_query::{GetTable, RequestTable};
+use zs_tables::{Groups, QueryableTable, Tables};
 
 impl SessionState {
     /// An open session in which nothing is declared. It keeps the allocator.
@@ -27,8 +28,12 @@ impl SessionState {
             tables: Tables::new(alloc),
             holders: Vec::new(alloc),
             publishers: PubTable::new(alloc),
+            queryables: QueryableTable::new(alloc),
             left_subs: IdSet::new(alloc),
+            left_queryables: IdSet::new(alloc),
             groups: Groups::new(alloc),
+            asking: GetTable::new(alloc, settings.query_start),
+            handing: RequestTable::new(alloc),
         })
     }
 

@@ -1,6 +1,6 @@
 ghost use Rattle.std.specs.Prelude.{◌≡◌, ◌≢◌, ◌<◌, ◌++◌, ◌∷◌, [], Some, None, All, IfOk, OnOk, OnErr};
 ghost use Rattle.zs_core.specs.Turns.{known_at, open_decision};
-ghost use Rattle.zs_core.specs.Effects.{group_sends};
+ghost use Rattle.zs_core.specs.Effects.{entity_sends};
 ghost use Rattle.zs_core.specs.Changes.{EntitiesFit, with_change};
 ghost use Rattle.std.specs.Prelude.{◌&&◌, ◌==◌, not};
 ghost use Rattle.std.specs.List.{list_any};
@@ -10,8 +10,10 @@ ghost use Rattle.zs_core.specs.Groups.{company_at, sub_shared, share_text, joine
 ghost use Rattle.zs_core.specs.Subscribers.{is_sub, sub_at, sub_ends};
 
 use super::SessionState;
+use super::get_effects::push_get_ends;
 use super::groups::{join_group, joins_first, last_number, leave_group};
 use super::keys::into_owned;
+use super::queryables::push_queryable_ends;
 use super::recipients::has_network;
 use crate::change::{Change, Decision, EntityChange};
 use crate::key_list::{KeyList, copy_of};
@@ -66,7 +68,7 @@ impl SessionState {
         key: &KeyArg,
         resolved: &KeyExpr<'_>,
     ) -> Result<Effects, AllocError>
-        ensures { IfOk result (λ effects. effects ≡ group_sends (known_at self.now) (Event.Sub origin key.now) (Some id) (Some resolved.now.text) ++ []) }
+        ensures { IfOk result (λ effects. effects ≡ entity_sends (known_at self.now) (Event.Sub origin key.now) (Some id) (Some resolved.now.text) ++ []) }
     {
         let mut effects = Effects::new(self.alloc);
         let aggregates = &self.settings.aggregated_subscribers;
@@ -85,7 +87,7 @@ impl SessionState {
 
     /// What is sent where a subscriber leaves it: the end of a group that has no other.
     fn leaving_sub(&self, id: u32) -> Result<Effects, AllocError>
-        ensures { IfOk result (λ effects. effects ≡ group_sends (known_at self.now) (Event.Undeclare EntityKind.Sub id) None None) }
+        ensures { IfOk result (λ effects. effects ≡ entity_sends (known_at self.now) (Event.Undeclare EntityKind.Sub id) None None) }
     {
         let mut effects = Effects::new(self.alloc);
         if let Some(number) = self.last_number_of_sub(id) {
@@ -122,9 +124,12 @@ impl SessionState {
     pub(super) fn decide_close(&self) -> Result<Decision, AllocError>
         ensures { IfOk result (λ made. made ≡ open_decision self.now Event.Close) }
     {
+        let gets = self.asking.gets().numbers()?;
         let mut effects = Effects::new(self.alloc);
         effects.push(Effect::Send(Message::Close))?;
+        push_queryable_ends(&mut effects, self.queryables.rows())?;
         push_ends(&mut effects, self.tables.rows())?;
+        push_get_ends(&gets, &mut effects)?;
         Ok(Decision::of(effects, Change::Shut))
     }
 
@@ -144,7 +149,13 @@ impl SessionState {
                 self.end_pub(id);
                 Ok(())
             }
+            EntityChange::AddQueryable { row } => self.add_queryable(row),
+            EntityChange::EndQueryable { id } => {
+                self.end_queryable(id);
+                Ok(())
+            }
             EntityChange::LeaveSub { id } => self.leave_sub(id),
+            EntityChange::LeaveQueryable { id } => self.leave_queryable(id),
         }
     }
 
@@ -186,7 +197,9 @@ impl SessionState {
         self.tables.clear();
         self.holders.clear();
         self.publishers.clear();
+        self.queryables.clear();
         self.groups = Groups::new(self.alloc);
+        self.asking.close();
     }
 }
 

@@ -2,6 +2,7 @@ use Rattle.std.proofs.Common.{◌≡◌, ◌<◌, ◌≤◌, ◌+◌, sym, ◌�
 use Rattle.zs_tables.specs.Groups.{AllGroups}
 use Rattle.zs_core.specs.declared.publisher.PubRow.{PubRow}
 use Rattle.zs_tables.specs.declared.subscriber.SubRow.{SubRow}
+use Rattle.zs_tables.specs.declared.queryable.QueryableRow.{QueryableRow}
 use Rattle.zs_core.specs.World.{World}
 use Rattle.zs_core.specs.Groups.{pub_shared, share_text}
 use Rattle.zs_core.proofs.Bounds.{no_member, groups_weaker, more_below, rows_push, rows_weaker}
@@ -21,6 +22,7 @@ invariant_of-self-2 c =
     record {
       pubs = rw (c.in_ok-add_to_group.ensures.publishers) (rows_push (λ (row : PubRow). row.id) c.self.inside.next_entity c.self.inside.publishers c.args.row id c.self.invariant.pubs);
       subs = rows_weaker (λ (row : SubRow). row.id) c.self.inside.next_entity c.self.inside.tables.rows c.self.invariant.subs;
+      queryables = rows_weaker (λ (row : QueryableRow). row.id) c.self.inside.next_entity c.self.inside.queryables c.self.invariant.queryables;
       pub_groups = rw (ap (λ (gs : AllGroups). gs.publishers) c.in_ok-add_to_group.ensures.groups)
           (more_below c.self.inside.next_entity (c.self.inside.next_entity + 1) c.self.inside.settings.aggregated_publishers (pub_shared c.args.row) c.self.inside.groups.publishers up less c.self.invariant.pub_groups);
       sub_groups = rw (ap (λ (gs : AllGroups). gs.subscribers) c.in_ok-add_to_group.ensures.groups)

@@ -2,6 +2,7 @@ use Rattle.std.proofs.Common.{◌≡◌, ◌<◌, ◌≤◌, ◌+◌, sym, ◌�
 use Rattle.zs_tables.specs.Groups.{AllGroups}
 use Rattle.zs_tables.specs.Contents.{Contents}
 use Rattle.zs_tables.specs.declared.subscriber.SubRow.{SubRow}
+use Rattle.zs_tables.specs.declared.queryable.QueryableRow.{QueryableRow}
 use Rattle.zs_core.specs.declared.publisher.PubRow.{PubRow}
 use Rattle.zs_core.specs.World.{World}
 use Rattle.zs_core.specs.Groups.{sub_shared, share_text}
@@ -22,6 +23,7 @@ invariant_of-self-2 c =
     record {
       subs = rw (ap (λ (t : Contents). t.rows) c.in_ok-add_to_group.ensures.tables) (rows_push (λ (row : SubRow). row.id) c.self.inside.next_entity c.self.inside.tables.rows c.args.row id c.self.invariant.subs);
       pubs = rows_weaker (λ (row : PubRow). row.id) c.self.inside.next_entity c.self.inside.publishers c.self.invariant.pubs;
+      queryables = rows_weaker (λ (row : QueryableRow). row.id) c.self.inside.next_entity c.self.inside.queryables c.self.invariant.queryables;
       sub_groups = rw (ap (λ (gs : AllGroups). gs.subscribers) c.in_ok-add_to_group.ensures.groups)
           (more_below c.self.inside.next_entity (c.self.inside.next_entity + 1) c.self.inside.settings.aggregated_subscribers (sub_shared c.args.row) c.self.inside.groups.subscribers up less c.self.invariant.sub_groups);
       pub_groups = rw (ap (λ (gs : AllGroups). gs.publishers) c.in_ok-add_to_group.ensures.groups)

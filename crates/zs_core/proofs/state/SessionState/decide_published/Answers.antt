@@ -1,5 +1,4 @@
-use Rattle.std.proofs.Common.{◌≡◌, ◌∙◌, List, Some, None, Option, sym, ap, subst, IfOk}
-use Rattle.zs_core.specs.declared.publisher.PubRow.{PubRow}
+use Rattle.std.proofs.Common.{◌≡◌, ◌∙◌, List, Some, None, sym, ap}
 use Rattle.zs_keys.specs.Key.{Key as a_key}
 use Rattle.zs_events.specs.Kinds.{OwnContent}
 use Rattle.zs_events.specs.declared.turn.Effect.{Effect}

@@ -6,6 +6,7 @@ pub invariant_of-self : goal.invariant_of-self
 invariant_of-self c = record {
   subs = rw c.remove.ensures.rows (rows_less (λ (row : SubRow). row.id) c.self.inside.next_entity c.args.id _ c.self.invariant.subs);
   pubs = c.self.invariant.pubs;
+  queryables = c.self.invariant.queryables;
   sub_groups = rw c.leave_sub_group.ensures (less_below c.self.inside.next_entity _ _ _ c.self.invariant.sub_groups);
   pub_groups = rw c.leave_sub_group.ensures c.self.invariant.pub_groups;
 }

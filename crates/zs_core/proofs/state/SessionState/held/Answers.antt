@@ -1,5 +1,4 @@
-use Rattle.std.proofs.Common.{◌≡◌, ◌∙◌, List, ap}
-use Rattle.zs_core.specs.declared.declared_key.KeyHolders.{KeyHolders}
+use Rattle.std.proofs.Common.{◌≡◌, ◌∙◌, ap}
 use Rattle.zs_core.specs.World.{World}
 use Rattle.zs_core.specs.DeclaredKeys.{has_holder}
 use Rattle.zs_core.proofs.Steps.{held_told}

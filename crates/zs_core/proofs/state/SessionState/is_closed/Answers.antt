@@ -1,6 +1,5 @@
-use Rattle.std.proofs.Common.{◌≡◌, Bool, ap, subst}
+use Rattle.std.proofs.Common.{ap}
 use Rattle.zs_core.specs.World.{World}
-use Rattle.zs_core.specs.Stands.{ClosedIs}
 use Rattle.zs_core.proofs.Steps.{closed_told}
 use Rattle.zs_core.proofs.state.SessionState.is_closed.Goals as goal
 

@@ -1,4 +1,4 @@
-use Rattle.std.proofs.Common.{◌∙◌, ap, subst}
+use Rattle.std.proofs.Common.{◌∙◌}
 use Rattle.zs_core.proofs.Steps.{previews_on}
 use Rattle.zs_core.proofs.state.SessionState.preview.Goals as goal
 

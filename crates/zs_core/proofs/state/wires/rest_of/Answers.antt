@@ -1,4 +1,4 @@
-use Rattle.std.proofs.Common.{◌≡◌, ◌==◌, ℕ, List, Bool, true, false, Option, Some, None, sym, subst, length, MatchOption, Bor}
+use Rattle.std.proofs.Common.{◌≡◌, ◌==◌, ℕ, List, true, false, Option, Some, None, sym, subst, MatchOption, Bor}
 use Rattle.std.specs.Prelude.{is_some, IsCharBoundary}
 use Rattle.std.specs.List.{starts_with}
 use Rattle.std.specs.Str.Pattern.{FindsTextPrefix, StripsPrefix}

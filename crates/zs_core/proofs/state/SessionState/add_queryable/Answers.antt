@@ -1,0 +1,19 @@
+use Rattle.std.proofs.Common.{◌≡◌, ◌≤◌, ◌+◌, sym, ◌∙◌, ap, arith}
+use Rattle.zs_core.specs.declared.publisher.PubRow.{PubRow}
+use Rattle.zs_tables.specs.declared.subscriber.SubRow.{SubRow}
+use Rattle.zs_tables.specs.declared.queryable.QueryableRow.{QueryableRow}
+use Rattle.zs_core.specs.World.{World}
+use Rattle.zs_core.proofs.Bounds.{groups_weaker, rows_push, rows_weaker}
+use Rattle.zs_core.proofs.state.SessionState.add_queryable.Goals as goal
+
+pub invariant_of-self-2 : goal.invariant_of-self-2
+invariant_of-self-2 c =
+    let id : c.args.row.id ≡ c.self.inside.next_entity = c.requires.0 ∙ sym (ap (λ (w : World). w.counters.entity) c.self.view_is) in
+    let up : c.self.inside.next_entity ≤ c.self.inside.next_entity + 1 = omega arith in
+    record {
+      subs = rows_weaker (λ (row : SubRow). row.id) c.self.inside.next_entity c.self.inside.tables.rows c.self.invariant.subs;
+      pubs = rows_weaker (λ (row : PubRow). row.id) c.self.inside.next_entity c.self.inside.publishers c.self.invariant.pubs;
+      queryables = rw (c.in_ok-add.ensures.ok) (rows_push (λ (row : QueryableRow). row.id) c.self.inside.next_entity c.self.inside.queryables c.args.row id c.self.invariant.queryables);
+      sub_groups = groups_weaker c.self.inside.next_entity (c.self.inside.next_entity + 1) c.self.inside.groups.subscribers up c.self.invariant.sub_groups;
+      pub_groups = groups_weaker c.self.inside.next_entity (c.self.inside.next_entity + 1) c.self.inside.groups.publishers up c.self.invariant.pub_groups;
+    }

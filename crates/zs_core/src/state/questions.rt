@@ -1,0 +1,168 @@
+//! What a get asks: its parameters and mode, its row, and the request that is sent.
+
+ghost use Rattle.std.specs.Prelude.{◌≡◌, IfOk, encode_utf8_all};
+ghost use Rattle.zs_keys.specs.Key.{undeclared};
+ghost use Rattle.zs_core.specs.Questions.{question_by, parameters_of, mode_by, mode_of, timeout_of, row_asked, sent_value, request_of};
+ghost use Rattle.std.specs.Option.{option_map};
+ghost use Rattle.zs_core.specs.Values.{get_request};
+
+use super::content::text_of_encoding;
+use super::keys::into_owned;
+use super::recipients::has_network;
+use std::alloc::{AllocError, Global};
+use zs_events::clone_bytes;
+use zs_keys::KeyExpr;
+use zs_query::{GetRow, RequestRow};
+use zs_sample::{
+    ConsolidationMode, Locality, Parameters, QoSType, QueryTarget, SourceInfo, Text, ZBytes,
+    ZenohParameters,
+};
+use zs_wire::{Request, Value, WireExpr};
+
+/// What a get asks, but for its key.
+#[derive(Clone, Copy)]
+pub(super) struct Question<'a> {
+    pub(super) destination: Locality,
+    pub(super) parameters: &'a Text,
+    pub(super) target: QueryTarget,
+    pub(super) consolidation: ConsolidationMode,
+    pub(super) timeout: Option<u64>,
+    pub(super) value: &'a Option<Value>,
+    pub(super) qos: QoSType,
+    pub(super) source: Option<SourceInfo>,
+    pub(super) attachment: &'a Option<ZBytes>,
+    pub(super) any_key: bool,
+}
+
+/// Its parameters, with the name that says that replies on any key are taken, where it says so.
+pub(super) fn parameters_of<'a>(
+    alloc: Global,
+    question: Question<'a>,
+) -> Result<Parameters<'a>, AllocError>
+    ensures { IfOk result (λ made. made ≡ parameters_of (question_by question.entry)) }
+{
+    let mut parameters = Parameters::of(question.parameters.as_str());
+    if !question.any_key {
+        return Ok(parameters);
+    }
+    parameters.set_reply_key_expr_any(alloc)?;
+    Ok(parameters)
+}
+
+/// Which of the replies on one key are handed out.
+fn mode_of(question: Question<'_>) -> ConsolidationMode
+    ensures { result ≡ mode_of (question_by question.entry) }
+{
+    let given = Parameters::of(question.parameters.as_str());
+    mode_by(question.consolidation, given.contains_key("_time"))
+}
+
+fn mode_by(mode: ConsolidationMode, timed: bool) -> ConsolidationMode
+    ensures { result ≡ mode_by mode timed }
+{
+    match mode {
+        ConsolidationMode::Auto if timed => ConsolidationMode::None,
+        ConsolidationMode::Auto => ConsolidationMode::Latest,
+        mode => mode,
+    }
+}
+
+/// How long it waits.
+fn timeout_of(default: u64, question: Question<'_>) -> u64
+    ensures { result ≡ timeout_of default (question_by question.entry) }
+{
+    match question.timeout {
+        Some(timeout) => timeout,
+        None => default,
+    }
+}
+
+/// The row of a get that is asked at a moment, and that waits for the queryables of this session where it met any.
+pub(super) fn row_waiting(
+    default: u64,
+    moment: u64,
+    number: u32,
+    key: KeyExpr<'static>,
+    question: Question<'_>,
+    parameters: &Parameters<'_>,
+    here: bool,
+) -> GetRow
+    requires plain { key ≡ undeclared key.text }
+    requires parameters { parameters.now ≡ parameters_of (question_by question) }
+    ensures { result ≡ record (row_asked default moment number key.entry.text (question_by question.entry)) { local_wanted = here } }
+{
+    GetRow {
+        number,
+        key,
+        any_key: parameters.reply_key_expr_any(),
+        mode: mode_of(question),
+        local_wanted: here,
+        network_wanted: has_network(question.destination),
+        deadline: moment.saturating_add(timeout_of(default, question)),
+        querier: None,
+        token: None,
+    }
+}
+
+/// What a get asks of queryables of this session.
+pub(super) fn get_request(
+    alloc: Global,
+    number: u32,
+    key: &KeyExpr<'_>,
+    question: Question<'_>,
+    parameters: &Parameters<'_>,
+) -> Result<RequestRow, AllocError>
+    requires plain { key.now ≡ undeclared key.now.text }
+    requires parameters { parameters.now ≡ parameters_of (question_by question) }
+    ensures { IfOk result (λ made. made ≡ get_request number key.now.text (question_by question.entry)) }
+{
+    Ok(RequestRow {
+        local: true,
+        rid: number,
+        key: into_owned(alloc, key.borrowing_clone())?,
+        parameters: Text::of(alloc, parameters.as_str())?,
+        qos: question.qos,
+        source: question.source,
+        value: sent_value(alloc, question.value)?,
+        attachment: clone_bytes(question.attachment, alloc)?,
+    })
+}
+
+/// The request of a get, with its key in this form.
+pub(super) fn request_of(
+    alloc: Global,
+    default: u64,
+    wire: WireExpr,
+    number: u32,
+    question: Question<'_>,
+    parameters: &Parameters<'_>,
+) -> Result<Request, AllocError>
+    requires { parameters.now ≡ parameters_of (question_by question) }
+    ensures { IfOk result (λ made. made ≡ request_of default wire number (question_by question.entry)) }
+{
+    Ok(Request {
+        rid: number,
+        wire,
+        parameters: Text::of(alloc, parameters.as_str())?,
+        target: question.target,
+        consolidation: mode_of(question),
+        timeout: timeout_of(default, question),
+        value: sent_value(alloc, question.value)?,
+        qos: question.qos,
+        source: question.source,
+        attachment: clone_bytes(question.attachment, alloc)?,
+    })
+}
+
+/// A value as it is sent, where there is one.
+fn sent_value(alloc: Global, value: &Option<Value>) -> Result<Option<Value>, AllocError>
+    ensures { IfOk result (λ sent. sent ≡ option_map sent_value value.now) }
+{
+    match value {
+        Some(value) => Ok(Some(Value {
+            payload: value.payload.try_clone(alloc)?,
+            encoding: text_of_encoding(alloc, &value.encoding)?,
+        })),
+        None => Ok(None),
+    }
+}
