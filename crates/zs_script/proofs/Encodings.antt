@@ -1,6 +1,7 @@
 -- The encoding that a text names.
 use Rattle.std.proofs.Common.{ℕ, ◌≡◌, List, [], ◌∷◌, refl, codes}
 use Rattle.std.specs.Str.{chars}
+use Rattle.std.proofs.lemmas.Str.{chars-nil}
 use Rattle.zs_sample.specs.Encoding.{encoding_of}
 use Rattle.zs_events.specs.Kinds.{default_encoding}
 
@@ -8,6 +9,10 @@ use Rattle.zs_events.specs.Kinds.{default_encoding}
 pub default_chars : chars (codes "zenoh/bytes") ≡ codes "zenoh/bytes"
 unfolding chars
 default_chars = refl
+
+-- no characters
+pub no_chars : chars (codes "") ≡ []
+no_chars = chars-nil
 
 pub encoding-empty : (text : List ℕ) → text ≡ [] → encoding_of text ≡ default_encoding
 encoding-empty [] h = refl

@@ -1,31 +1,33 @@
 -- The definitions at worked examples.
-use Rattle.std.proofs.Common.{◌≡◌, [], ◌∷◌, ◌++◌, Some, None, refl, true, false, codes}
+use Rattle.std.proofs.Common.{◌≡◌, [], ◌∷◌, ◌++◌, Some, None, Ok, Err, refl, true, false, codes}
 use Rattle.std.specs.Str.{chars, is_utf8}
 use Rattle.std.specs.Fmt.{digits}
 use Rattle.hex.proofs.OnLiterals.{hex_on_literals}
 use Rattle.zs_keys.specs.Key.{undeclared}
-use Rattle.zs_wire.specs.declared.message.Message.TheVariants.{DeclareKeyExpr, UndeclareKeyExpr, Push, Close as close_message}
+use Rattle.zs_wire.specs.declared.message.Message.TheVariants.{DeclareKeyExpr, UndeclareKeyExpr, Push, Request, Response, ResponseFinal, Close as close_message}
 use Rattle.zs_wire.specs.declared.quality.CongestionControl.TheVariants.{Drop, Block}
-use Rattle.zs_wire.specs.declared.request.QueryTarget.TheVariants.{All}
+use Rattle.zs_wire.specs.declared.request.ConsolidationMode.TheVariants.{Auto, Latest}
+use Rattle.zs_wire.specs.declared.request.QueryTarget.TheVariants.{BestMatching, All, AllComplete}
+use Rattle.zs_wire.specs.declared.response.Answered.TheVariants.{Reply, Err as error_reply}
 use Rattle.zs_wire.specs.declared.sample_kind.SampleKind.TheVariants.{Put as put_kind, Delete as delete_kind}
 use Rattle.zs_wire.specs.declared.wire_expr.Mapping.TheVariants.{Sender, Receiver}
 use Rattle.zs_sample.specs.declared.quality.Priority.TheVariants.{Data}
 use Rattle.zs_sample.specs.declared.quality.Reliability.TheVariants.{Reliable}
 use Rattle.zs_sample.specs.declared.locality.Locality.TheVariants.{SessionLocal, Remote, Any}
-use Rattle.zs_events.specs.declared.event.BackgroundKind.TheVariants.{Sub as background_sub}
-use Rattle.zs_events.specs.declared.event.EntityKind.TheVariants.{Sub as sub_kind, Pub as pub_kind}
-use Rattle.zs_events.specs.declared.event.Event.TheVariants.{Key, UndeclareKey, Sub, Pub, Undeclare, Background, Put, Delete, PublisherPut, PublisherDelete, Close, Net}
+use Rattle.zs_events.specs.declared.event.BackgroundKind.TheVariants.{Sub as background_sub, Queryable as background_queryable}
+use Rattle.zs_events.specs.declared.event.EntityKind.TheVariants.{Sub as sub_kind, Pub as pub_kind, Queryable as queryable_kind}
+use Rattle.zs_events.specs.declared.event.Event.TheVariants.{Key, UndeclareKey, Sub, Pub, Queryable, Undeclare, Background, Put, Delete, PublisherPut, PublisherDelete, Get as Ask, Reply as reply_event, ReplyDelete, ReplyErr, Share, Finish, Tick, Close, Net}
 use Rattle.zs_events.specs.declared.event.KeyArg.TheVariants.{Text, Number}
 use Rattle.zs_events.specs.declared.turn.Answer.TheVariants.{Ok as accepted, Refused}
 use Rattle.zs_events.specs.declared.turn.Effect.TheVariants.{Hand, End}
-use Rattle.zs_events.specs.declared.turn.HandOver.TheVariants.{Sample}
-use Rattle.zs_events.specs.declared.turn.Kind.TheVariants.{Subscriber}
+use Rattle.zs_events.specs.declared.turn.HandOver.TheVariants.{Sample, Reply as handed_reply, Query as handed_query}
+use Rattle.zs_events.specs.declared.turn.Kind.TheVariants.{Subscriber, Get, LivelinessGet}
 use Rattle.zs_events.specs.declared.turn.Refusal.TheVariants.{NotFound}
 use Rattle.zs_script.specs.Lines.{lines, fields}
-use Rattle.zs_script.specs.Parts.{selector, target, timeout, value, responder, read, form}
-use Rattle.zs_script.specs.Grammar.{undeclare_of, background_of, push_of, net_of, event_of}
+use Rattle.zs_script.specs.Parts.{read, form}
+use Rattle.zs_script.specs.Grammar.{undeclare_of, push_of, response_on, response_of, net_of, event_of}
 use Rattle.zs_script.specs.Pieces.{written}
-use Rattle.zs_script.specs.Printing.{hand_pieces, turn_text}
+use Rattle.zs_script.specs.Printing.{hand_pieces, replied_pieces, queried_pieces, turn_text}
 use Rattle.zs_script.specs.Words.{hex_digits}
 
 -- bytes cut at line feeds, with and without one at the end
@@ -40,99 +42,99 @@ three_fields = refl
 
 -- lines and their events
 a_sub : event_of (codes "sub" ++ 9 ∷ codes "any" ++ 9 ∷ codes "test/k") ≡ Some (Sub Any (Text (codes "test/k")))
-unfolding event_of undeclare_of background_of net_of push_of form read chars is_utf8 hex_on_literals lib.Utf8.encode
+unfolding event_of undeclare_of net_of push_of form read chars is_utf8 hex_on_literals lib.Utf8.encode
 a_sub = refl
 
 a_local_sub : event_of (codes "sub" ++ 9 ∷ codes "local" ++ 9 ∷ codes "") ≡ Some (Sub SessionLocal (Text []))
-unfolding event_of undeclare_of background_of net_of push_of form read chars is_utf8 hex_on_literals lib.Utf8.encode
+unfolding event_of undeclare_of net_of push_of form read chars is_utf8 hex_on_literals lib.Utf8.encode
 a_local_sub = refl
 
 a_put : event_of (codes "put" ++ 9 ∷ codes "any" ++ 9 ∷ codes "test/k" ++ 9 ∷ codes "x7a656e6f68") ≡ Some (Put Any (Text (codes "test/k")) (codes "zenoh" ∷ []) (codes "zenoh/bytes") None (record { priority = 5; congestion = Drop; express = false }) true None None)
-unfolding event_of undeclare_of background_of net_of push_of form read chars is_utf8 hex_on_literals lib.Utf8.encode
+unfolding event_of undeclare_of net_of push_of form read chars is_utf8 hex_on_literals lib.Utf8.encode
 a_put = refl
 
 an_empty_put : event_of (codes "put" ++ 9 ∷ codes "remote" ++ 9 ∷ codes "k" ++ 9 ∷ codes "x") ≡ Some (Put Remote (Text (codes "k")) [] (codes "zenoh/bytes") None (record { priority = 5; congestion = Drop; express = false }) true None None)
-unfolding event_of undeclare_of background_of net_of push_of form read chars is_utf8 hex_on_literals lib.Utf8.encode
+unfolding event_of undeclare_of net_of push_of form read chars is_utf8 hex_on_literals lib.Utf8.encode
 an_empty_put = refl
 
 upper_digits : event_of (codes "put" ++ 9 ∷ codes "any" ++ 9 ∷ codes "k" ++ 9 ∷ codes "xA0Ff") ≡ Some (Put Any (Text (codes "k")) ((160 ∷ 255 ∷ []) ∷ []) (codes "zenoh/bytes") None (record { priority = 5; congestion = Drop; express = false }) true None None)
-unfolding event_of undeclare_of background_of net_of push_of form read chars is_utf8 hex_on_literals lib.Utf8.encode
+unfolding event_of undeclare_of net_of push_of form read chars is_utf8 hex_on_literals lib.Utf8.encode
 upper_digits = refl
 
 all_options : event_of (codes "put" ++ 9 ∷ codes "any" ++ 9 ∷ codes "k" ++ 9 ∷ codes "x01" ++ 9 ∷ codes "enc=text/plain" ++ 9 ∷ codes "ts=5:a" ++ 9 ∷ codes "prio=1" ++ 9 ∷ codes "cc=block" ++ 9 ∷ codes "express=1" ++ 9 ∷ codes "rel=0" ++ 9 ∷ codes "src=7:3:9" ++ 9 ∷ codes "att=xff") ≡ Some (Put Any (Text (codes "k")) ((1 ∷ []) ∷ []) (codes "text/plain") (Some (record { time = 5; id = 10 })) (record { priority = 1; congestion = Block; express = true }) false (Some (record { source_id = record { zid = 7; eid = 3 }; source_sn = 9 })) (Some ((255 ∷ []) ∷ [])))
-unfolding event_of undeclare_of background_of net_of push_of form read chars is_utf8 hex_on_literals lib.Utf8.encode
+unfolding event_of undeclare_of net_of push_of form read chars is_utf8 hex_on_literals lib.Utf8.encode
 all_options = refl
 
 empty_encoding : event_of (codes "put" ++ 9 ∷ codes "any" ++ 9 ∷ codes "k" ++ 9 ∷ codes "x" ++ 9 ∷ codes "enc=") ≡ Some (Put Any (Text (codes "k")) [] (codes "zenoh/bytes") None (record { priority = 5; congestion = Drop; express = false }) true None None)
-unfolding event_of undeclare_of background_of net_of push_of form read chars is_utf8 hex_on_literals lib.Utf8.encode
+unfolding event_of undeclare_of net_of push_of form read chars is_utf8 hex_on_literals lib.Utf8.encode
 empty_encoding = refl
 
 control_priority : event_of (codes "put" ++ 9 ∷ codes "any" ++ 9 ∷ codes "k" ++ 9 ∷ codes "x" ++ 9 ∷ codes "prio=0") ≡ None
-unfolding event_of undeclare_of background_of net_of push_of form read chars is_utf8 hex_on_literals lib.Utf8.encode
+unfolding event_of undeclare_of net_of push_of form read chars is_utf8 hex_on_literals lib.Utf8.encode
 control_priority = refl
 
 other_order : event_of (codes "put" ++ 9 ∷ codes "any" ++ 9 ∷ codes "k" ++ 9 ∷ codes "x" ++ 9 ∷ codes "cc=drop" ++ 9 ∷ codes "prio=1") ≡ None
-unfolding event_of undeclare_of background_of net_of push_of form read chars is_utf8 hex_on_literals lib.Utf8.encode
+unfolding event_of undeclare_of net_of push_of form read chars is_utf8 hex_on_literals lib.Utf8.encode
 other_order = refl
 
 option_twice : event_of (codes "put" ++ 9 ∷ codes "any" ++ 9 ∷ codes "k" ++ 9 ∷ codes "x" ++ 9 ∷ codes "rel=1" ++ 9 ∷ codes "rel=1") ≡ None
-unfolding event_of undeclare_of background_of net_of push_of form read chars is_utf8 hex_on_literals lib.Utf8.encode
+unfolding event_of undeclare_of net_of push_of form read chars is_utf8 hex_on_literals lib.Utf8.encode
 option_twice = refl
 
 bad_flag : event_of (codes "put" ++ 9 ∷ codes "any" ++ 9 ∷ codes "k" ++ 9 ∷ codes "x" ++ 9 ∷ codes "express=2") ≡ None
-unfolding event_of undeclare_of background_of net_of push_of form read chars is_utf8 hex_on_literals lib.Utf8.encode
+unfolding event_of undeclare_of net_of push_of form read chars is_utf8 hex_on_literals lib.Utf8.encode
 bad_flag = refl
 
 bad_source : event_of (codes "put" ++ 9 ∷ codes "any" ++ 9 ∷ codes "k" ++ 9 ∷ codes "x" ++ 9 ∷ codes "src=7:3") ≡ None
-unfolding event_of undeclare_of background_of net_of push_of form read chars is_utf8 hex_on_literals lib.Utf8.encode
+unfolding event_of undeclare_of net_of push_of form read chars is_utf8 hex_on_literals lib.Utf8.encode
 bad_source = refl
 
 a_delete : event_of (codes "delete" ++ 9 ∷ codes "local" ++ 9 ∷ codes "#1" ++ 9 ∷ codes "ts=0:0") ≡ Some (Delete SessionLocal (Number 1 []) (Some (record { time = 0; id = 0 })) (record { priority = 5; congestion = Drop; express = false }) true None None)
-unfolding event_of undeclare_of background_of net_of push_of form read chars is_utf8 hex_on_literals lib.Utf8.encode
+unfolding event_of undeclare_of net_of push_of form read chars is_utf8 hex_on_literals lib.Utf8.encode
 a_delete = refl
 
 no_encoding_of_a_delete : event_of (codes "delete" ++ 9 ∷ codes "any" ++ 9 ∷ codes "k" ++ 9 ∷ codes "enc=a") ≡ None
-unfolding event_of undeclare_of background_of net_of push_of form read chars is_utf8 hex_on_literals lib.Utf8.encode
+unfolding event_of undeclare_of net_of push_of form read chars is_utf8 hex_on_literals lib.Utf8.encode
 no_encoding_of_a_delete = refl
 
 a_pub : event_of (codes "pub" ++ 9 ∷ codes "remote" ++ 9 ∷ codes "k" ++ 9 ∷ codes "enc=a" ++ 9 ∷ codes "prio=7" ++ 9 ∷ codes "rel=0") ≡ Some (Pub Remote (Text (codes "k")) (codes "a") (record { priority = 7; congestion = Drop; express = false }) false)
-unfolding event_of undeclare_of background_of net_of push_of form read chars is_utf8 hex_on_literals lib.Utf8.encode
+unfolding event_of undeclare_of net_of push_of form read chars is_utf8 hex_on_literals lib.Utf8.encode
 a_pub = refl
 
 a_publisher_put : event_of (codes "pput" ++ 9 ∷ codes "2" ++ 9 ∷ codes "x01") ≡ Some (PublisherPut 2 ((1 ∷ []) ∷ []) None None None None)
-unfolding event_of undeclare_of background_of net_of push_of form read chars is_utf8 hex_on_literals lib.Utf8.encode
+unfolding event_of undeclare_of net_of push_of form read chars is_utf8 hex_on_literals lib.Utf8.encode
 a_publisher_put = refl
 
 a_default_named : event_of (codes "pput" ++ 9 ∷ codes "2" ++ 9 ∷ codes "x" ++ 9 ∷ codes "enc=") ≡ Some (PublisherPut 2 [] (Some (codes "zenoh/bytes")) None None None)
-unfolding event_of undeclare_of background_of net_of push_of form read chars is_utf8 hex_on_literals lib.Utf8.encode
+unfolding event_of undeclare_of net_of push_of form read chars is_utf8 hex_on_literals lib.Utf8.encode
 a_default_named = refl
 
 a_publisher_delete : event_of (codes "pdel" ++ 9 ∷ codes "2" ++ 9 ∷ codes "att=x") ≡ Some (PublisherDelete 2 None None (Some []))
-unfolding event_of undeclare_of background_of net_of push_of form read chars is_utf8 hex_on_literals lib.Utf8.encode
+unfolding event_of undeclare_of net_of push_of form read chars is_utf8 hex_on_literals lib.Utf8.encode
 a_publisher_delete = refl
 
 an_undeclare : event_of (codes "undeclare" ++ 9 ∷ codes "sub" ++ 9 ∷ codes "2") ≡ Some (Undeclare sub_kind 2)
-unfolding event_of undeclare_of background_of net_of push_of form read chars is_utf8 hex_on_literals lib.Utf8.encode
+unfolding event_of undeclare_of net_of push_of form read chars is_utf8 hex_on_literals lib.Utf8.encode
 an_undeclare = refl
 
 a_pub_undeclared : event_of (codes "undeclare" ++ 9 ∷ codes "pub" ++ 9 ∷ codes "4294967295") ≡ Some (Undeclare pub_kind 4294967295)
-unfolding event_of undeclare_of background_of net_of push_of form read chars is_utf8 hex_on_literals lib.Utf8.encode
+unfolding event_of undeclare_of net_of push_of form read chars is_utf8 hex_on_literals lib.Utf8.encode
 a_pub_undeclared = refl
 
 too_great : event_of (codes "undeclare" ++ 9 ∷ codes "sub" ++ 9 ∷ codes "4294967296") ≡ None
-unfolding event_of undeclare_of background_of net_of push_of form read chars is_utf8 hex_on_literals lib.Utf8.encode
+unfolding event_of undeclare_of net_of push_of form read chars is_utf8 hex_on_literals lib.Utf8.encode
 too_great = refl
 
 leading_zero : event_of (codes "undeclare" ++ 9 ∷ codes "sub" ++ 9 ∷ codes "02") ≡ None
-unfolding event_of undeclare_of background_of net_of push_of form read chars is_utf8 hex_on_literals lib.Utf8.encode
+unfolding event_of undeclare_of net_of push_of form read chars is_utf8 hex_on_literals lib.Utf8.encode
 leading_zero = refl
 
 a_background : event_of (codes "background" ++ 9 ∷ codes "sub" ++ 9 ∷ codes "2") ≡ Some (Background background_sub 2)
-unfolding event_of undeclare_of background_of net_of push_of form read chars is_utf8 hex_on_literals lib.Utf8.encode
+unfolding event_of undeclare_of net_of push_of form read chars is_utf8 hex_on_literals lib.Utf8.encode
 a_background = refl
 
 no_background : event_of (codes "background" ++ 9 ∷ codes "pub" ++ 9 ∷ codes "2") ≡ None
-unfolding event_of undeclare_of background_of net_of push_of form read chars is_utf8 hex_on_literals lib.Utf8.encode
+unfolding event_of undeclare_of net_of push_of form read chars is_utf8 hex_on_literals lib.Utf8.encode
 no_background = refl
 
 a_push : event_of (codes "net" ++ 9 ∷ codes "push" ++ 9 ∷ codes "s0:k" ++ 9 ∷ codes "put" ++ 9 ∷ codes "x01" ++ 9 ∷ codes "prio=0") ≡ Some (Net (Push (record {
@@ -141,7 +143,7 @@ a_push : event_of (codes "net" ++ 9 ∷ codes "push" ++ 9 ∷ codes "s0:k" ++ 9 
   qos = record { priority = 0; congestion = Drop; express = false };
   reliable = true;
 })))
-unfolding event_of undeclare_of background_of net_of push_of form read chars is_utf8 hex_on_literals lib.Utf8.encode
+unfolding event_of undeclare_of net_of push_of form read chars is_utf8 hex_on_literals lib.Utf8.encode
 a_push = refl
 
 a_push_of_nothing : event_of (codes "net" ++ 9 ∷ codes "push" ++ 9 ∷ codes "r1:" ++ 9 ∷ codes "del" ++ 9 ∷ codes "rel=0") ≡ Some (Net (Push (record {
@@ -150,105 +152,240 @@ a_push_of_nothing : event_of (codes "net" ++ 9 ∷ codes "push" ++ 9 ∷ codes "
   qos = record { priority = 5; congestion = Drop; express = false };
   reliable = false;
 })))
-unfolding event_of undeclare_of background_of net_of push_of form read chars is_utf8 hex_on_literals lib.Utf8.encode
+unfolding event_of undeclare_of net_of push_of form read chars is_utf8 hex_on_literals lib.Utf8.encode
 a_push_of_nothing = refl
 
 a_told_number : event_of (codes "net" ++ 9 ∷ codes "keyexpr" ++ 9 ∷ codes "7" ++ 9 ∷ codes "r1:/b") ≡ Some (Net (DeclareKeyExpr 7 (record { scope = 1; suffix = codes "/b"; mapping = Receiver })))
-unfolding event_of undeclare_of background_of net_of push_of form read chars is_utf8 hex_on_literals lib.Utf8.encode
+unfolding event_of undeclare_of net_of push_of form read chars is_utf8 hex_on_literals lib.Utf8.encode
 a_told_number = refl
 
 a_number_given_up : event_of (codes "net" ++ 9 ∷ codes "unkeyexpr" ++ 9 ∷ codes "7") ≡ Some (Net (UndeclareKeyExpr 7))
-unfolding event_of undeclare_of background_of net_of push_of form read chars is_utf8 hex_on_literals lib.Utf8.encode
+unfolding event_of undeclare_of net_of push_of form read chars is_utf8 hex_on_literals lib.Utf8.encode
 a_number_given_up = refl
 
 a_net_close : event_of (codes "net" ++ 9 ∷ codes "close") ≡ Some (Net close_message)
-unfolding event_of undeclare_of background_of net_of push_of form read chars is_utf8 hex_on_literals lib.Utf8.encode
+unfolding event_of undeclare_of net_of push_of form read chars is_utf8 hex_on_literals lib.Utf8.encode
 a_net_close = refl
 
 no_colon : event_of (codes "net" ++ 9 ∷ codes "keyexpr" ++ 9 ∷ codes "7" ++ 9 ∷ codes "s0") ≡ None
-unfolding event_of undeclare_of background_of net_of push_of form read chars is_utf8 hex_on_literals lib.Utf8.encode
+unfolding event_of undeclare_of net_of push_of form read chars is_utf8 hex_on_literals lib.Utf8.encode
 no_colon = refl
 
 numbered : event_of (codes "sub" ++ 9 ∷ codes "any" ++ 9 ∷ codes "#1") ≡ Some (Sub Any (Number 1 []))
-unfolding event_of undeclare_of background_of net_of push_of form read chars is_utf8 hex_on_literals lib.Utf8.encode
+unfolding event_of undeclare_of net_of push_of form read chars is_utf8 hex_on_literals lib.Utf8.encode
 numbered = refl
 
 numbered_suffix : event_of (codes "sub" ++ 9 ∷ codes "any" ++ 9 ∷ codes "#1:x") ≡ Some (Sub Any (Number 1 (codes "x")))
-unfolding event_of undeclare_of background_of net_of push_of form read chars is_utf8 hex_on_literals lib.Utf8.encode
+unfolding event_of undeclare_of net_of push_of form read chars is_utf8 hex_on_literals lib.Utf8.encode
 numbered_suffix = refl
 
 numbered_colon : event_of (codes "sub" ++ 9 ∷ codes "any" ++ 9 ∷ codes "#1:") ≡ Some (Sub Any (Number 1 []))
-unfolding event_of undeclare_of background_of net_of push_of form read chars is_utf8 hex_on_literals lib.Utf8.encode
+unfolding event_of undeclare_of net_of push_of form read chars is_utf8 hex_on_literals lib.Utf8.encode
 numbered_colon = refl
 
 no_number : event_of (codes "sub" ++ 9 ∷ codes "any" ++ 9 ∷ codes "#x") ≡ Some (Sub Any (Text (codes "#x")))
-unfolding event_of undeclare_of background_of net_of push_of form read chars is_utf8 hex_on_literals lib.Utf8.encode
+unfolding event_of undeclare_of net_of push_of form read chars is_utf8 hex_on_literals lib.Utf8.encode
 no_number = refl
 
 number_too_great : event_of (codes "sub" ++ 9 ∷ codes "any" ++ 9 ∷ codes "#65536") ≡ Some (Sub Any (Text (codes "#65536")))
-unfolding event_of undeclare_of background_of net_of push_of form read chars is_utf8 hex_on_literals lib.Utf8.encode
+unfolding event_of undeclare_of net_of push_of form read chars is_utf8 hex_on_literals lib.Utf8.encode
 number_too_great = refl
 
 number_zero : event_of (codes "sub" ++ 9 ∷ codes "any" ++ 9 ∷ codes "#01") ≡ Some (Sub Any (Text (codes "#01")))
-unfolding event_of undeclare_of background_of net_of push_of form read chars is_utf8 hex_on_literals lib.Utf8.encode
+unfolding event_of undeclare_of net_of push_of form read chars is_utf8 hex_on_literals lib.Utf8.encode
 number_zero = refl
 
 a_key : event_of (codes "key" ++ 9 ∷ codes "#65535:/b:c") ≡ Some (Key (Number 65535 (codes "/b:c")))
-unfolding event_of undeclare_of background_of net_of push_of form read chars is_utf8 hex_on_literals lib.Utf8.encode
+unfolding event_of undeclare_of net_of push_of form read chars is_utf8 hex_on_literals lib.Utf8.encode
 a_key = refl
 
 a_key_given_back : event_of (codes "undeclare" ++ 9 ∷ codes "key" ++ 9 ∷ codes "k") ≡ Some (UndeclareKey (Text (codes "k")))
-unfolding event_of undeclare_of background_of net_of push_of form read chars is_utf8 hex_on_literals lib.Utf8.encode
+unfolding event_of undeclare_of net_of push_of form read chars is_utf8 hex_on_literals lib.Utf8.encode
 a_key_given_back = refl
 
 a_close : event_of (codes "close") ≡ Some Close
-unfolding event_of undeclare_of background_of net_of push_of form read chars is_utf8 hex_on_literals lib.Utf8.encode
+unfolding event_of undeclare_of net_of push_of form read chars is_utf8 hex_on_literals lib.Utf8.encode
 a_close = refl
 
 odd_digits : event_of (codes "put" ++ 9 ∷ codes "any" ++ 9 ∷ codes "k" ++ 9 ∷ codes "x1") ≡ None
-unfolding event_of undeclare_of background_of net_of push_of form read chars is_utf8 hex_on_literals lib.Utf8.encode
+unfolding event_of undeclare_of net_of push_of form read chars is_utf8 hex_on_literals lib.Utf8.encode
 odd_digits = refl
 
 no_place : event_of (codes "sub" ++ 9 ∷ codes "all" ++ 9 ∷ codes "k") ≡ None
-unfolding event_of undeclare_of background_of net_of push_of form read chars is_utf8 hex_on_literals lib.Utf8.encode
+unfolding event_of undeclare_of net_of push_of form read chars is_utf8 hex_on_literals lib.Utf8.encode
 no_place = refl
 
 no_close : event_of (codes "close" ++ 9 ∷ []) ≡ None
-unfolding event_of undeclare_of background_of net_of push_of form read chars is_utf8 hex_on_literals lib.Utf8.encode
+unfolding event_of undeclare_of net_of push_of form read chars is_utf8 hex_on_literals lib.Utf8.encode
 no_close = refl
 
 one_field_more : event_of (codes "sub" ++ 9 ∷ codes "any" ++ 9 ∷ codes "k" ++ 9 ∷ []) ≡ None
-unfolding event_of undeclare_of background_of net_of push_of form read chars is_utf8 hex_on_literals lib.Utf8.encode
+unfolding event_of undeclare_of net_of push_of form read chars is_utf8 hex_on_literals lib.Utf8.encode
 one_field_more = refl
 
 empty_line : event_of [] ≡ None
-unfolding event_of undeclare_of background_of net_of push_of form read chars is_utf8 hex_on_literals lib.Utf8.encode
+unfolding event_of undeclare_of net_of push_of form read chars is_utf8 hex_on_literals lib.Utf8.encode
 empty_line = refl
 
--- parts that no form has yet
-a_selector : read selector (codes "#1:b?x?y" ∷ []) ≡ Some ((Number 1 (codes "b"), codes "x?y"), [])
-unfolding read chars lib.Utf8.encode
-a_selector = refl
+-- gets, moments and responses
+a_get : event_of (codes "get" ++ 9 ∷ codes "any" ++ 9 ∷ codes "k") ≡ Some (Ask Any (Text (codes "k")) [] BestMatching Auto None None (record { priority = 5; congestion = Block; express = false }) None None false)
+unfolding event_of undeclare_of net_of push_of response_of response_on form read chars is_utf8 hex_on_literals lib.Utf8.encode
+a_get = refl
 
-a_target : read target (codes "target=all" ∷ []) ≡ Some (All, [])
-unfolding read
-a_target = refl
+first_question : event_of (codes "get" ++ 9 ∷ codes "local" ++ 9 ∷ codes "#1:b?x?y" ++ 9 ∷ codes "target=all" ++ 9 ∷ codes "cons=latest" ++ 9 ∷ codes "timeout=18446744073709551615" ++ 9 ∷ codes "payload=x01" ++ 9 ∷ codes "cc=drop" ++ 9 ∷ codes "accept=any") ≡ Some (Ask SessionLocal (Number 1 (codes "b")) (codes "x?y") All Latest (Some 18446744073709551615)
+    (Some (record { payload = (1 ∷ []) ∷ []; encoding = codes "zenoh/bytes" })) (record { priority = 5; congestion = Drop; express = false }) None None true)
+unfolding event_of undeclare_of net_of push_of response_of response_on form read chars is_utf8 hex_on_literals lib.Utf8.encode
+first_question = refl
 
-a_timeout : read timeout (codes "timeout=7" ∷ []) ≡ Some (Some 7, [])
-unfolding read
-a_timeout = refl
+empty_value : event_of (codes "get" ++ 9 ∷ codes "remote" ++ 9 ∷ codes "k?" ++ 9 ∷ codes "enc=" ++ 9 ∷ codes "src=7:3:9" ++ 9 ∷ codes "att=x") ≡ Some (Ask Remote (Text (codes "k")) [] BestMatching Auto None (Some (record { payload = []; encoding = codes "zenoh/bytes" }))
+    (record { priority = 5; congestion = Block; express = false }) (Some (record { source_id = record { zid = 7; eid = 3 }; source_sn = 9 })) (Some []) false)
+unfolding event_of undeclare_of net_of push_of response_of response_on form read chars is_utf8 hex_on_literals lib.Utf8.encode
+empty_value = refl
 
-a_value : read value (codes "enc=" ∷ codes "att=x" ∷ []) ≡ Some (Some (record { payload = []; encoding = codes "zenoh/bytes" }), codes "att=x" ∷ [])
-unfolding read chars lib.Utf8.encode
-a_value = refl
+no_match_named : event_of (codes "get" ++ 9 ∷ codes "any" ++ 9 ∷ codes "k" ++ 9 ∷ codes "accept=matching") ≡ None
+unfolding event_of undeclare_of net_of push_of response_of response_on form read chars is_utf8 hex_on_literals lib.Utf8.encode
+no_match_named = refl
 
-no_value : read value (codes "att=x" ∷ []) ≡ Some (None, codes "att=x" ∷ [])
-unfolding read
-no_value = refl
+question_of_a_put : event_of (codes "put" ++ 9 ∷ codes "any" ++ 9 ∷ codes "k?x" ++ 9 ∷ codes "x") ≡ Some (Put Any (Text (codes "k?x")) [] (codes "zenoh/bytes") None (record { priority = 5; congestion = Drop; express = false }) true None None)
+unfolding event_of undeclare_of net_of push_of response_of response_on form read chars is_utf8 hex_on_literals lib.Utf8.encode
+question_of_a_put = refl
 
-a_responder : read responder (codes "by=f:2" ∷ []) ≡ Some (Some (record { zid = 15; eid = 2 }), [])
-unfolding read
-a_responder = refl
+a_tick : event_of (codes "tick" ++ 9 ∷ codes "18446744073709551615") ≡ Some (Tick 18446744073709551615)
+unfolding event_of undeclare_of net_of push_of response_of response_on form read chars is_utf8 hex_on_literals lib.Utf8.encode
+a_tick = refl
+
+no_moment : event_of (codes "tick" ++ 9 ∷ codes "18446744073709551616") ≡ None
+unfolding event_of undeclare_of net_of push_of response_of response_on form read chars is_utf8 hex_on_literals lib.Utf8.encode
+no_moment = refl
+
+a_response : event_of (codes "net" ++ 9 ∷ codes "response" ++ 9 ∷ codes "1" ++ 9 ∷ codes "s0:k" ++ 9 ∷ codes "put" ++ 9 ∷ codes "x01" ++ 9 ∷ codes "enc=a" ++ 9 ∷ codes "ts=5:a" ++ 9 ∷ codes "prio=0" ++ 9 ∷ codes "by=f:2") ≡ Some (Net (Response (record {
+  rid = 1;
+  wire = record { scope = 0; suffix = codes "k"; mapping = Sender };
+  answered = Reply (record { kind = put_kind; payload = (1 ∷ []) ∷ []; encoding = codes "a"; timestamp = Some (record { time = 5; id = 10 }); source = None; attachment = None });
+  qos = record { priority = 0; congestion = Block; express = false };
+  responder = Some (record { zid = 15; eid = 2 });
+})))
+unfolding event_of undeclare_of net_of push_of response_of response_on form read chars is_utf8 hex_on_literals lib.Utf8.encode
+a_response = refl
+
+a_response_of_nothing : event_of (codes "net" ++ 9 ∷ codes "response" ++ 9 ∷ codes "1" ++ 9 ∷ codes "s0:k" ++ 9 ∷ codes "del" ++ 9 ∷ codes "express=1") ≡ Some (Net (Response (record {
+  rid = 1;
+  wire = record { scope = 0; suffix = codes "k"; mapping = Sender };
+  answered = Reply (record { kind = delete_kind; payload = []; encoding = codes "zenoh/bytes"; timestamp = None; source = None; attachment = None });
+  qos = record { priority = 5; congestion = Block; express = true };
+  responder = None;
+})))
+unfolding event_of undeclare_of net_of push_of response_of response_on form read chars is_utf8 hex_on_literals lib.Utf8.encode
+a_response_of_nothing = refl
+
+a_response_of_an_error : event_of (codes "net" ++ 9 ∷ codes "response" ++ 9 ∷ codes "1" ++ 9 ∷ codes "s0:k" ++ 9 ∷ codes "err" ++ 9 ∷ codes "x01" ++ 9 ∷ codes "cc=drop") ≡ Some (Net (Response (record {
+  rid = 1;
+  wire = record { scope = 0; suffix = codes "k"; mapping = Sender };
+  answered = error_reply (record { payload = (1 ∷ []) ∷ []; encoding = codes "zenoh/bytes" });
+  qos = record { priority = 5; congestion = Drop; express = false };
+  responder = None;
+})))
+unfolding event_of undeclare_of net_of push_of response_of response_on form read chars is_utf8 hex_on_literals lib.Utf8.encode
+a_response_of_an_error = refl
+
+no_source_of_an_error : event_of (codes "net" ++ 9 ∷ codes "response" ++ 9 ∷ codes "1" ++ 9 ∷ codes "s0:k" ++ 9 ∷ codes "err" ++ 9 ∷ codes "x01" ++ 9 ∷ codes "src=7:3:9") ≡ None
+unfolding event_of undeclare_of net_of push_of response_of response_on form read chars is_utf8 hex_on_literals lib.Utf8.encode
+no_source_of_an_error = refl
+
+a_final : event_of (codes "net" ++ 9 ∷ codes "responsefinal" ++ 9 ∷ codes "1") ≡ Some (Net (ResponseFinal 1))
+unfolding event_of undeclare_of net_of push_of response_of response_on form read chars is_utf8 hex_on_literals lib.Utf8.encode
+a_final = refl
+
+-- queryables, query values and requests
+a_queryable : event_of (codes "queryable" ++ 9 ∷ codes "any" ++ 9 ∷ codes "complete" ++ 9 ∷ codes "#1:/b") ≡ Some (Queryable Any true (Number 1 (codes "/b")))
+unfolding event_of undeclare_of net_of push_of form read chars is_utf8 hex_on_literals lib.Utf8.encode
+a_queryable = refl
+
+a_partial_queryable : event_of (codes "queryable" ++ 9 ∷ codes "local" ++ 9 ∷ codes "partial" ++ 9 ∷ codes "k") ≡ Some (Queryable SessionLocal false (Text (codes "k")))
+unfolding event_of undeclare_of net_of push_of form read chars is_utf8 hex_on_literals lib.Utf8.encode
+a_partial_queryable = refl
+
+no_completeness : event_of (codes "queryable" ++ 9 ∷ codes "any" ++ 9 ∷ codes "k") ≡ None
+unfolding event_of undeclare_of net_of push_of form read chars is_utf8 hex_on_literals lib.Utf8.encode
+no_completeness = refl
+
+a_queryable_undeclared : event_of (codes "undeclare" ++ 9 ∷ codes "queryable" ++ 9 ∷ codes "2") ≡ Some (Undeclare queryable_kind 2)
+unfolding event_of undeclare_of net_of push_of form read chars is_utf8 hex_on_literals lib.Utf8.encode
+a_queryable_undeclared = refl
+
+a_queryable_in_the_background : event_of (codes "background" ++ 9 ∷ codes "queryable" ++ 9 ∷ codes "2") ≡ Some (Background background_queryable 2)
+unfolding event_of undeclare_of net_of push_of form read chars is_utf8 hex_on_literals lib.Utf8.encode
+a_queryable_in_the_background = refl
+
+a_reply_as_the_query : event_of (codes "reply" ++ 9 ∷ codes "3" ++ 9 ∷ codes "k" ++ 9 ∷ codes "x01") ≡ Some (reply_event 3 (Text (codes "k")) ((1 ∷ []) ∷ []) (codes "zenoh/bytes") None None None None None None)
+unfolding event_of undeclare_of net_of push_of form read chars is_utf8 hex_on_literals lib.Utf8.encode
+a_reply_as_the_query = refl
+
+a_reply_of_its_own : event_of (codes "reply" ++ 9 ∷ codes "3" ++ 9 ∷ codes "#1" ++ 9 ∷ codes "x" ++ 9 ∷ codes "enc=a" ++ 9 ∷ codes "ts=5:a" ++ 9 ∷ codes "prio=1" ++ 9 ∷ codes "cc=drop" ++ 9 ∷ codes "express=0" ++ 9 ∷ codes "src=7:3:9" ++ 9 ∷ codes "att=xff") ≡ Some (reply_event 3 (Number 1 []) [] (codes "a") (Some (record { time = 5; id = 10 })) (Some 1) (Some Drop) (Some false) (Some (record { source_id = record { zid = 7; eid = 3 }; source_sn = 9 })) (Some ((255 ∷ []) ∷ [])))
+unfolding event_of undeclare_of net_of push_of form read chars is_utf8 hex_on_literals lib.Utf8.encode
+a_reply_of_its_own = refl
+
+no_control_reply : event_of (codes "reply" ++ 9 ∷ codes "3" ++ 9 ∷ codes "k" ++ 9 ∷ codes "x" ++ 9 ∷ codes "prio=0") ≡ None
+unfolding event_of undeclare_of net_of push_of form read chars is_utf8 hex_on_literals lib.Utf8.encode
+no_control_reply = refl
+
+no_reliability_of_a_reply : event_of (codes "reply" ++ 9 ∷ codes "3" ++ 9 ∷ codes "k" ++ 9 ∷ codes "x" ++ 9 ∷ codes "rel=1") ≡ None
+unfolding event_of undeclare_of net_of push_of form read chars is_utf8 hex_on_literals lib.Utf8.encode
+no_reliability_of_a_reply = refl
+
+a_reply_of_nothing : event_of (codes "replydel" ++ 9 ∷ codes "3" ++ 9 ∷ codes "k" ++ 9 ∷ codes "cc=block") ≡ Some (ReplyDelete 3 (Text (codes "k")) None None (Some Block) None None None)
+unfolding event_of undeclare_of net_of push_of form read chars is_utf8 hex_on_literals lib.Utf8.encode
+a_reply_of_nothing = refl
+
+an_error : event_of (codes "replyerr" ++ 9 ∷ codes "3" ++ 9 ∷ codes "x01" ++ 9 ∷ codes "enc=") ≡ Some (ReplyErr 3 ((1 ∷ []) ∷ []) (codes "zenoh/bytes"))
+unfolding event_of undeclare_of net_of push_of form read chars is_utf8 hex_on_literals lib.Utf8.encode
+an_error = refl
+
+no_priority_of_an_error : event_of (codes "replyerr" ++ 9 ∷ codes "3" ++ 9 ∷ codes "x01" ++ 9 ∷ codes "prio=1") ≡ None
+unfolding event_of undeclare_of net_of push_of form read chars is_utf8 hex_on_literals lib.Utf8.encode
+no_priority_of_an_error = refl
+
+a_share : event_of (codes "share" ++ 9 ∷ codes "3") ≡ Some (Share 3)
+unfolding event_of undeclare_of net_of push_of form read chars is_utf8 hex_on_literals lib.Utf8.encode
+a_share = refl
+
+a_value_given_back : event_of (codes "finish" ++ 9 ∷ codes "3") ≡ Some (Finish 3)
+unfolding event_of undeclare_of net_of push_of form read chars is_utf8 hex_on_literals lib.Utf8.encode
+a_value_given_back = refl
+
+a_request : event_of (codes "net" ++ 9 ∷ codes "request" ++ 9 ∷ codes "1" ++ 9 ∷ codes "s0:k") ≡ Some (Net (Request (record {
+  rid = 1;
+  wire = record { scope = 0; suffix = codes "k"; mapping = Sender };
+  parameters = [];
+  target = BestMatching;
+  consolidation = Auto;
+  timeout = 10000;
+  value = None;
+  qos = record { priority = 5; congestion = Block; express = false };
+  source = None;
+  attachment = None;
+})))
+unfolding event_of undeclare_of net_of push_of form read chars is_utf8 hex_on_literals lib.Utf8.encode
+a_request = refl
+
+a_request_with_all : event_of (codes "net" ++ 9 ∷ codes "request" ++ 9 ∷ codes "1" ++ 9 ∷ codes "r1:" ++ 9 ∷ codes "params=x;=" ++ 9 ∷ codes "target=allcomplete" ++ 9 ∷ codes "cons=latest" ++ 9 ∷ codes "timeout=0" ++ 9 ∷ codes "payload=x01" ++ 9 ∷ codes "enc=a" ++ 9 ∷ codes "prio=0" ++ 9 ∷ codes "cc=drop" ++ 9 ∷ codes "express=1" ++ 9 ∷ codes "src=7:3:9" ++ 9 ∷ codes "att=x") ≡ Some (Net (Request (record {
+  rid = 1;
+  wire = record { scope = 1; suffix = []; mapping = Receiver };
+  parameters = codes "x;=";
+  target = AllComplete;
+  consolidation = Latest;
+  timeout = 0;
+  value = Some (record { payload = (1 ∷ []) ∷ []; encoding = codes "a" });
+  qos = record { priority = 0; congestion = Drop; express = true };
+  source = Some (record { source_id = record { zid = 7; eid = 3 }; source_sn = 9 });
+  attachment = Some [];
+})))
+unfolding event_of undeclare_of net_of push_of form read chars is_utf8 hex_on_literals lib.Utf8.encode
+a_request_with_all = refl
+
+no_replier_of_a_request : event_of (codes "net" ++ 9 ∷ codes "request" ++ 9 ∷ codes "1" ++ 9 ∷ codes "s0:k" ++ 9 ∷ codes "by=f:2") ≡ None
+unfolding event_of undeclare_of net_of push_of form read chars is_utf8 hex_on_literals lib.Utf8.encode
+no_replier_of_a_request = refl
 
 -- a turn that hands a sample
 a_hand : turn_text 2 (record {
@@ -272,6 +409,64 @@ a_hand : turn_text 2 (record {
     ++ 9 ∷ codes "express=0" ++ 9 ∷ codes "rel=1" ++ 10 ∷ codes "2" ++ 9 ∷ codes "end" ++ 9 ∷ codes "sub" ++ 9 ∷ codes "2" ++ 10 ∷ []
 unfolding hand_pieces written hex_digits lib.Utf8.encode digits
 a_hand = refl
+
+-- a turn that hands replies
+a_reply : turn_text 3 (record {
+  answer = accepted None;
+  effects = Hand (handed_reply Get 1 (record {
+    result = Ok (record {
+      key_expr = undeclared (codes "k");
+      payload = (1 ∷ []) ∷ [];
+      kind = put_kind;
+      encoding = codes "zenoh/bytes";
+      timestamp = None;
+      express = false;
+      priority = Data;
+      congestion_control = Block;
+      reliability = Reliable;
+      source_info = None;
+      attachment = None;
+    });
+    replier = Some (record { zid = 171; eid = 3 });
+  })) ∷ Hand (handed_reply LivelinessGet 2 (record {
+    result = Err (record { payload = codes "Timeout" ∷ []; encoding = codes "zenoh/string" });
+    replier = None;
+  })) ∷ [];
+})
+    ≡ codes "3" ++ 9 ∷ codes "ok" ++ 10 ∷ codes "3" ++ 9 ∷ codes "reply" ++ 9 ∷ codes "get" ++ 9 ∷ codes "1" ++ 9 ∷ codes "put"
+    ++ 9 ∷ codes "k" ++ 9 ∷ codes "x01" ++ 9 ∷ codes "enc=zenoh/bytes" ++ 9 ∷ codes "prio=5" ++ 9 ∷ codes "cc=block" ++ 9 ∷ codes "express=0"
+    ++ 9 ∷ codes "rel=1" ++ 9 ∷ codes "by=ab:3" ++ 10 ∷ codes "3" ++ 9 ∷ codes "reply" ++ 9 ∷ codes "lget" ++ 9 ∷ codes "2" ++ 9 ∷ codes "err"
+    ++ 9 ∷ codes "x54696d656f7574" ++ 9 ∷ codes "enc=zenoh/string" ++ 10 ∷ []
+unfolding replied_pieces written hex_digits lib.Utf8.encode digits
+a_reply = refl
+
+-- a turn that hands a query
+a_query : turn_text 4 (record {
+  answer = accepted None;
+  effects = Hand (handed_query 2 7 (record {
+    key_expr = undeclared (codes "k");
+    parameters = codes "x=1";
+    qos = record { priority = 0; congestion = Block; express = false };
+    source = None;
+    payload = Some ((1 ∷ []) ∷ []);
+    encoding = Some (codes "zenoh/bytes");
+    attachment = Some [];
+  })) ∷ Hand (handed_query 3 8 (record {
+    key_expr = undeclared (codes "k");
+    parameters = [];
+    qos = record { priority = 7; congestion = Drop; express = true };
+    source = Some (record { source_id = record { zid = 7; eid = 3 }; source_sn = 9 });
+    payload = None;
+    encoding = None;
+    attachment = None;
+  })) ∷ [];
+})
+    ≡ codes "4" ++ 9 ∷ codes "ok" ++ 10 ∷ codes "4" ++ 9 ∷ codes "hand" ++ 9 ∷ codes "queryable" ++ 9 ∷ codes "2" ++ 9 ∷ codes "7"
+    ++ 9 ∷ codes "k" ++ 9 ∷ codes "params=x=1" ++ 9 ∷ codes "payload=x01" ++ 9 ∷ codes "enc=zenoh/bytes" ++ 9 ∷ codes "prio=5" ++ 9 ∷ codes "cc=block"
+    ++ 9 ∷ codes "express=0" ++ 9 ∷ codes "att=x" ++ 10 ∷ codes "4" ++ 9 ∷ codes "hand" ++ 9 ∷ codes "queryable" ++ 9 ∷ codes "3" ++ 9 ∷ codes "8"
+    ++ 9 ∷ codes "k" ++ 9 ∷ codes "prio=7" ++ 9 ∷ codes "cc=drop" ++ 9 ∷ codes "express=1" ++ 9 ∷ codes "src=7:3:9" ++ 10 ∷ []
+unfolding queried_pieces written hex_digits lib.Utf8.encode digits
+a_query = refl
 
 a_refusal : turn_text 12 (record { answer = Refused NotFound; effects = [] })
     ≡ codes "12" ++ 9 ∷ codes "refused" ++ 9 ∷ codes "NotFound" ++ 10 ∷ []

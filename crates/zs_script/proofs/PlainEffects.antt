@@ -1,22 +1,24 @@
 -- The printed fields of plain effects and of answers are plain.
-use Rattle.std.proofs.Common.{◌≡◌, true, Some, None, refl, ℕ, ap, ◌∙◌, append_assoc, map, flat_map, List, [], ◌∷◌, ◌++◌, decimal}
+use Rattle.std.proofs.Common.{◌≡◌, true, Some, None, Result, Ok, Err, refl, ℕ, ap, ◌∙◌, append_assoc, map, flat_map, List, [], ◌∷◌, ◌++◌, decimal}
 use Rattle.std.proofs.lemmas.Bool.{and_parts, and_from}
 use Rattle.std.specs.List.{list_all}
 use Rattle.zs_events.specs.declared.turn.Answer.TheVariants.{Ok as accepted, Refused}
 use Rattle.zs_events.specs.declared.turn.Effect.{Effect}
 use Rattle.zs_events.specs.declared.turn.Effect.TheVariants.{Send, Hand, End}
-use Rattle.zs_events.specs.declared.turn.HandOver.TheVariants.{Sample}
+use Rattle.zs_events.specs.declared.turn.HandOver.TheVariants.{Sample, Reply, Query}
 use Rattle.zs_events.specs.declared.turn.Kind.{Kind}
 use Rattle.zs_events.specs.declared.turn.Kind.TheVariants.{Subscriber, LivelinessSubscriber, Publisher, Queryable, Querier, Token, Listener, Get, LivelinessGet}
 use Rattle.zs_events.specs.declared.turn.Refusal.{Refusal}
 use Rattle.zs_events.specs.declared.turn.Refusal.TheVariants.{SessionClosedError, NotFound, UnknownScope, BadKeyExpr, QueryCancelled, ReplyDisjoint, NotDeclared, IdsExhausted, Ignored}
+use Rattle.zs_sample.specs.ErrorFields.{ErrorFields}
+use Rattle.zs_sample.specs.declared.sample_fields.SampleFields.{SampleFields}
 use Rattle.zs_script.specs.Lines.{lines}
 use Rattle.zs_script.specs.Words.{refusal_name, kind_word}
-use Rattle.zs_script.specs.Printing.{line, hand_pieces, effect_pieces, effect_fields, answer_fields}
-use Rattle.zs_script.specs.Plain.{is_plain, is_plain_text, is_plain_effect}
+use Rattle.zs_script.specs.Printing.{line, hand_pieces, outcome_pieces, replied_pieces, queried_pieces, effect_pieces, effect_fields, answer_fields}
+use Rattle.zs_script.specs.Plain.{is_plain, is_plain_text, is_plain_outcome, is_plain_effect}
 use Rattle.zs_script.specs.Laws.{row, AnswersArePlain, EffectsArePlain, TurnsAreFound}
 use Rattle.zs_script.proofs.PlainTexts.{decimal-plain, lines-found}
-use Rattle.zs_script.proofs.PlainPieces.{ArePlain, pieces-plain, sample-plain, message-plain}
+use Rattle.zs_script.proofs.PlainPieces.{ArePlain, pieces-plain, both-plain, sample-plain, asked-plain, message-plain}
 
 refusal-plain : (refusal : Refusal) → is_plain (refusal_name refusal) ≡ true
 refusal-plain SessionClosedError = refl
@@ -45,12 +47,20 @@ answers-plain (accepted None) = refl
 answers-plain (accepted (Some number)) = and_from _ _ (decimal-plain number) refl
 answers-plain (Refused refusal) = and_from _ _ (refusal-plain refusal) refl
 
+outcome-plain : (outcome : Result SampleFields ErrorFields) → is_plain_outcome outcome ≡ true → ArePlain (outcome_pieces outcome)
+outcome-plain (Ok sample) h =
+    let both = and_parts (is_plain sample.key_expr.text) (is_plain_text sample.encoding) h in sample-plain sample both.0 both.1
+outcome-plain (Err e) h = (refl, (tt, (h, tt)))
+
 effect-plain : (effect : Effect) → is_plain_effect effect ≡ true → ArePlain (effect_pieces effect)
-unfolding hand_pieces
+unfolding hand_pieces replied_pieces queried_pieces
 effect-plain (Send message) h = (refl, message-plain message h)
 effect-plain (Hand (Sample kind id sample)) h =
     let both = and_parts (is_plain sample.key_expr.text) (is_plain_text sample.encoding) h in
     (refl, (kind-plain kind, (tt, sample-plain sample both.0 both.1)))
+effect-plain (Hand (Reply kind id reply)) h =
+    (refl, (kind-plain kind, (tt, both-plain (outcome_pieces reply.result) _ (outcome-plain reply.result h) (tt, tt))))
+effect-plain (Hand (Query id count query)) h = (refl, (refl, (tt, (tt, asked-plain query h))))
 effect-plain (End kind id) h = (refl, (kind-plain kind, (tt, tt)))
 
 pub effects-plain : EffectsArePlain

@@ -4,14 +4,18 @@ use Rattle.std.specs.Str.{is_utf8, bytes_eq}
 use Rattle.std.proofs.lemmas.Bool.{and_from}
 use Rattle.std.proofs.lemmas.Str.{IsUtf8-from_is_utf8}
 use Rattle.zs_wire.specs.declared.wire_expr.WireExpr.{WireExpr}
+use Rattle.zs_events.specs.declared.event.EntityKind.{EntityKind}
 use Rattle.zs_events.specs.declared.event.Event.{Event}
+use Rattle.zs_events.specs.declared.event.Event.TheVariants.{Undeclare}
 use Rattle.zs_script.specs.Lines.{fields}
-use Rattle.zs_script.specs.Grammar.{by_word, declare_of, sub_of, pub_of, undeclared_by, undeclare_of, background_by, background_of, put_of, delete_of, publisher_put_of, publisher_delete_of, close_of, key_expr_of, unkey_expr_of, push_put_of, push_delete_of, push_by, push_of, net_close_of, net_by, net_of, event_by, event_of_fields, event_of}
+use Rattle.zs_script.specs.Symbols.{u32_max, entity_kind_of}
+use Rattle.zs_script.specs.Parts.{number, form}
+use Rattle.zs_script.specs.Grammar.{by_word, declare_of, sub_of, pub_of, queryable_of, undeclare_entity_of, undeclared_by, undeclare_of, background_of, put_of, delete_of, publisher_put_of, publisher_delete_of, get_of, reply_of, reply_delete_of, reply_error_of, share_of, finish_of, tick_of, close_of, key_expr_of, unkey_expr_of, push_put_of, push_delete_of, push_by, push_of, request_of, response_put_of, response_delete_of, response_error_of, response_by, response_on, response_of, response_final_of, net_close_of, net_by, net_of, event_by, event_of_fields, event_of}
 use Rattle.zs_script.specs.Plain.{has_no_line_feed}
 use Rattle.zs_script.specs.Laws.{EventsArePlain}
 use Rattle.zs_script.proofs.PlainTexts.{fields-plain}
-use Rattle.zs_script.proofs.PlainSymbols.{PlainWire, on-then, on-choice, fields-utf8, both-texts}
-use Rattle.zs_script.proofs.PlainParts.{AreTexts, PlainEvent, default-plain, wire-read, form-plain}
+use Rattle.zs_script.proofs.PlainSymbols.{PlainWire, on-then, on-any, on-choice, fields-utf8, both-texts}
+use Rattle.zs_script.proofs.PlainParts.{AreTexts, PlainEvent, default-plain, wire-read, number-read, form-plain}
 
 abbrev IsPlainIf : Option Event → Type 0
 IsPlainIf found = IfSome found PlainEvent
@@ -32,15 +36,21 @@ sub-plain = form-plain _ _ (λ _ _ _ k. and_from _ _ k refl)
 pub-plain : (rest : List (List ℕ)) → AreTexts rest → IsPlainIf (pub_of rest)
 pub-plain = form-plain _ _ (λ _ _ _ k _ e _ _ _ _. and_from _ _ k (and_from _ _ e refl))
 
+queryable-plain : (rest : List (List ℕ)) → AreTexts rest → IsPlainIf (queryable_of rest)
+queryable-plain = form-plain _ _ (λ _ _ _ _ _ k. and_from _ _ k refl)
+
+undeclare-entity-plain : (word : List ℕ) (rest : List (List ℕ)) → AreTexts rest → IsPlainIf (undeclare_entity_of word rest)
+undeclare-entity-plain word rest h =
+    on-then {A = EntityKind} {B = Event} (λ kind. form (number u32_max ∷ []) (Undeclare kind) rest) (λ _. Unit {0}) PlainEvent
+    (λ kind _. form-plain _ _ (λ _ _. refl) rest h) (entity_kind_of word) (on-any _)
+
 undeclare-plain : (word : List ℕ) (rest : List (List ℕ)) → AreTexts rest → IsPlainIf (undeclared_by word rest)
 undeclare-plain word rest h =
     on-choice (bytes_eq word (codes "key")) PlainEvent _ _ (form-plain _ _ (λ _ k. and_from _ _ k refl) rest h)
-    (on-choice (bytes_eq word (codes "sub")) PlainEvent _ _ (form-plain _ _ (λ _ _. refl) rest h)
-    (on-choice (bytes_eq word (codes "pub")) PlainEvent _ None (form-plain _ _ (λ _ _. refl) rest h) tt))
+    (undeclare-entity-plain word rest h)
 
-background-plain : (word : List ℕ) (rest : List (List ℕ)) → AreTexts rest → IsPlainIf (background_by word rest)
-background-plain word rest h =
-    on-choice (bytes_eq word (codes "sub")) PlainEvent _ None (form-plain _ _ (λ _ _. refl) rest h) tt
+background-plain : (rest : List (List ℕ)) → AreTexts rest → IsPlainIf (background_of rest)
+background-plain = form-plain _ _ (λ _ _ _ _. refl)
 
 put-plain : (rest : List (List ℕ)) → AreTexts rest → IsPlainIf (put_of rest)
 put-plain = form-plain _ _ (λ _ _ _ k _ _ _ e _ _ _ _ _ _ _ _ _ _. and_from _ _ k (and_from _ _ e refl))
@@ -54,16 +64,33 @@ publisher-put-plain = form-plain _ _ (λ _ _ _ _ _ e _ _ _ _ _ _. e)
 publisher-delete-plain : (rest : List (List ℕ)) → AreTexts rest → IsPlainIf (publisher_delete_of rest)
 publisher-delete-plain = form-plain _ _ (λ _ _ _ _ _ _ _ _. refl)
 
+get-plain : (rest : List (List ℕ)) → AreTexts rest → IsPlainIf (get_of rest)
+get-plain = form-plain _ _ (λ _ _ _ s _ _ _ _ _ _ _ v _ _ _ _ _ _ _ _. and_from _ _ s.0 (and_from _ _ s.1 v))
+
+reply-plain : (rest : List (List ℕ)) → AreTexts rest → IsPlainIf (reply_of rest)
+reply-plain = form-plain _ _ (λ _ _ _ k _ _ _ e _ _ _ _ _ _ _ _ _ _ _ _. and_from _ _ k (and_from _ _ e refl))
+
+reply-delete-plain : (rest : List (List ℕ)) → AreTexts rest → IsPlainIf (reply_delete_of rest)
+reply-delete-plain = form-plain _ _ (λ _ _ _ k _ _ _ _ _ _ _ _ _ _ _ _. and_from _ _ k refl)
+
+reply-error-plain : (rest : List (List ℕ)) → AreTexts rest → IsPlainIf (reply_error_of rest)
+reply-error-plain = form-plain _ _ (λ _ _ _ _ _ e. and_from _ _ e refl)
+
+share-plain : (rest : List (List ℕ)) → AreTexts rest → IsPlainIf (share_of rest)
+share-plain = form-plain _ _ (λ _ _. refl)
+
+finish-plain : (rest : List (List ℕ)) → AreTexts rest → IsPlainIf (finish_of rest)
+finish-plain = form-plain _ _ (λ _ _. refl)
+
+tick-plain : (rest : List (List ℕ)) → AreTexts rest → IsPlainIf (tick_of rest)
+tick-plain = form-plain _ _ (λ _ _. refl)
+
 close-plain : (rest : List (List ℕ)) → AreTexts rest → IsPlainIf (close_of rest)
 close-plain = form-plain _ _ refl
 
 undeclare-event : (rest : List (List ℕ)) → AreTexts rest → IsPlainIf (undeclare_of rest)
 unfolding undeclare_of
 undeclare-event rest h = by-word undeclared_by undeclare-plain rest h
-
-background-event : (rest : List (List ℕ)) → AreTexts rest → IsPlainIf (background_of rest)
-unfolding background_of
-background-event rest h = by-word background_by background-plain rest h
 
 -- messages
 key-expr-plain : (rest : List (List ℕ)) → AreTexts rest → IsPlainIf (key_expr_of rest)
@@ -90,6 +117,40 @@ push-plain rest h =
     (λ found. PlainWire found.0 × AreTexts found.1) PlainEvent
     (λ found k. by-word (push_by found.0) (push-by-plain found.0 k.0) found.1 k.1) _ (wire-read rest h)
 
+request-plain : (rest : List (List ℕ)) → AreTexts rest → IsPlainIf (request_of rest)
+request-plain = form-plain _ _ (λ _ _ _ w _ t _ _ _ _ _ _ _ v _ _ _ _ _ _. and_from _ _ w (and_from _ _ t v))
+
+response-put-plain : (n : ℕ) (wire : WireExpr) → PlainWire wire → (rest : List (List ℕ)) → AreTexts rest → IsPlainIf (response_put_of n wire rest)
+response-put-plain n wire w = form-plain _ _ (λ _ _ _ e _ _ _ _ _ _ _ _ _ _. and_from _ _ w (and_from _ _ e refl))
+
+response-delete-plain : (n : ℕ) (wire : WireExpr) → PlainWire wire → (rest : List (List ℕ)) → AreTexts rest → IsPlainIf (response_delete_of n wire rest)
+response-delete-plain n wire w = form-plain _ _ (λ _ _ _ _ _ _ _ _ _ _. and_from _ _ w (and_from _ _ default-plain refl))
+
+response-error-plain : (n : ℕ) (wire : WireExpr) (rest : List (List ℕ)) → AreTexts rest → IsPlainIf (response_error_of n wire rest)
+response-error-plain n wire = form-plain _ _ (λ _ _ _ e _ _ _ _. and_from _ _ e refl)
+
+response-by-plain : (n : ℕ) (wire : WireExpr) → PlainWire wire → (word : List ℕ) (rest : List (List ℕ)) → AreTexts rest → IsPlainIf (response_by n wire word rest)
+response-by-plain n wire w word rest h =
+    on-choice (bytes_eq word (codes "put")) PlainEvent (response_put_of n wire rest) _ (response-put-plain n wire w rest h)
+    (on-choice (bytes_eq word (codes "del")) PlainEvent (response_delete_of n wire rest) _ (response-delete-plain n wire w rest h)
+    (on-choice (bytes_eq word (codes "err")) PlainEvent (response_error_of n wire rest) None (response-error-plain n wire rest h) tt))
+
+response-on-plain : (n : ℕ) (rest : List (List ℕ)) → AreTexts rest → IsPlainIf (response_on n rest)
+unfolding response_on
+response-on-plain n rest h =
+    on-then {A = WireExpr × List (List ℕ)} {B = Event} (λ found. by_word (response_by n found.0) found.1)
+    (λ found. PlainWire found.0 × AreTexts found.1) PlainEvent
+    (λ found k. by-word (response_by n found.0) (response-by-plain n found.0 k.0) found.1 k.1) _ (wire-read rest h)
+
+response-plain : (rest : List (List ℕ)) → AreTexts rest → IsPlainIf (response_of rest)
+unfolding response_of
+response-plain rest h =
+    on-then {A = ℕ × List (List ℕ)} {B = Event} (λ found. response_on found.0 found.1) (λ found. AreTexts found.1) PlainEvent
+    (λ found k. response-on-plain found.0 found.1 k) _ (number-read u32_max rest h)
+
+response-final-plain : (rest : List (List ℕ)) → AreTexts rest → IsPlainIf (response_final_of rest)
+response-final-plain = form-plain _ _ (λ _ _. refl)
+
 net-close-plain : (rest : List (List ℕ)) → AreTexts rest → IsPlainIf (net_close_of rest)
 net-close-plain = form-plain _ _ refl
 
@@ -98,7 +159,10 @@ net-plain word rest h =
     on-choice (bytes_eq word (codes "keyexpr")) PlainEvent (key_expr_of rest) _ (key-expr-plain rest h)
     (on-choice (bytes_eq word (codes "unkeyexpr")) PlainEvent (unkey_expr_of rest) _ (unkey-expr-plain rest h)
     (on-choice (bytes_eq word (codes "push")) PlainEvent (push_of rest) _ (push-plain rest h)
-    (on-choice (bytes_eq word (codes "close")) PlainEvent (net_close_of rest) None (net-close-plain rest h) tt)))
+    (on-choice (bytes_eq word (codes "request")) PlainEvent (request_of rest) _ (request-plain rest h)
+    (on-choice (bytes_eq word (codes "response")) PlainEvent (response_of rest) _ (response-plain rest h)
+    (on-choice (bytes_eq word (codes "responsefinal")) PlainEvent (response_final_of rest) _ (response-final-plain rest h)
+    (on-choice (bytes_eq word (codes "close")) PlainEvent (net_close_of rest) None (net-close-plain rest h) tt))))))
 
 net-event : (rest : List (List ℕ)) → AreTexts rest → IsPlainIf (net_of rest)
 unfolding net_of
@@ -109,14 +173,22 @@ event-plain word rest h =
     on-choice (bytes_eq word (codes "key")) PlainEvent (declare_of rest) _ (declare-plain rest h)
     (on-choice (bytes_eq word (codes "sub")) PlainEvent (sub_of rest) _ (sub-plain rest h)
     (on-choice (bytes_eq word (codes "pub")) PlainEvent (pub_of rest) _ (pub-plain rest h)
+    (on-choice (bytes_eq word (codes "queryable")) PlainEvent (queryable_of rest) _ (queryable-plain rest h)
     (on-choice (bytes_eq word (codes "undeclare")) PlainEvent (undeclare_of rest) _ (undeclare-event rest h)
-    (on-choice (bytes_eq word (codes "background")) PlainEvent (background_of rest) _ (background-event rest h)
+    (on-choice (bytes_eq word (codes "background")) PlainEvent (background_of rest) _ (background-plain rest h)
     (on-choice (bytes_eq word (codes "put")) PlainEvent (put_of rest) _ (put-plain rest h)
     (on-choice (bytes_eq word (codes "delete")) PlainEvent (delete_of rest) _ (delete-plain rest h)
     (on-choice (bytes_eq word (codes "pput")) PlainEvent (publisher_put_of rest) _ (publisher-put-plain rest h)
     (on-choice (bytes_eq word (codes "pdel")) PlainEvent (publisher_delete_of rest) _ (publisher-delete-plain rest h)
+    (on-choice (bytes_eq word (codes "get")) PlainEvent (get_of rest) _ (get-plain rest h)
+    (on-choice (bytes_eq word (codes "reply")) PlainEvent (reply_of rest) _ (reply-plain rest h)
+    (on-choice (bytes_eq word (codes "replydel")) PlainEvent (reply_delete_of rest) _ (reply-delete-plain rest h)
+    (on-choice (bytes_eq word (codes "replyerr")) PlainEvent (reply_error_of rest) _ (reply-error-plain rest h)
+    (on-choice (bytes_eq word (codes "share")) PlainEvent (share_of rest) _ (share-plain rest h)
+    (on-choice (bytes_eq word (codes "finish")) PlainEvent (finish_of rest) _ (finish-plain rest h)
+    (on-choice (bytes_eq word (codes "tick")) PlainEvent (tick_of rest) _ (tick-plain rest h)
     (on-choice (bytes_eq word (codes "close")) PlainEvent (close_of rest) _ (close-plain rest h)
-    (on-choice (bytes_eq word (codes "net")) PlainEvent (net_of rest) None (net-event rest h) tt))))))))))
+    (on-choice (bytes_eq word (codes "net")) PlainEvent (net_of rest) None (net-event rest h) tt))))))))))))))))))
 
 fields-event : (parts : List (List ℕ)) → AreTexts parts → IsPlainIf (event_of_fields parts)
 fields-event parts h = by-word event_by event-plain parts h

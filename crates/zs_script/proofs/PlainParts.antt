@@ -1,16 +1,17 @@
 -- What the parts of forms read off texts is plain, and so is what a form makes of it.
-use Rattle.std.proofs.Common.{ℕ, ◌≡◌, true, nat_lt, List, [], ◌∷◌, Option, Some, None, IfSome, refl, lit<, codes, option_map, option_and_then}
+use Rattle.std.proofs.Common.{ℕ, ◌≡◌, Bool, true, false, cond, nat_lt, List, [], ◌∷◌, Option, Some, None, IfSome, refl, lit<, codes, option_map, option_and_then}
 use Rattle.std.specs.List.{list_all, AllByRecursion}
 use Rattle.std.specs.Str.{chars}
 use Rattle.std.proofs.lemmas.Bool.{and_from}
 use Rattle.zs_sample.specs.Encoding.{encoding_of}
 use Rattle.zs_wire.specs.declared.quality.CongestionControl.{CongestionControl}
+use Rattle.zs_wire.specs.declared.wire_expr.WireExpr.{WireExpr}
 use Rattle.zs_events.specs.declared.event.Event.{Event}
 use Rattle.zs_events.specs.Kinds.{default_encoding, text_if, value_texts}
-use Rattle.zs_script.specs.Symbols.{number_of, u32_max, u64_max, locality_of, key_of, payload_of, wire_of}
+use Rattle.zs_script.specs.Symbols.{number_of, u32_max, u64_max, locality_of, background_kind_of, complete_of, history_of, key_of, payload_of, wire_of, names_nothing, naming}
 use Rattle.zs_script.specs.Options.{timestamp_of, entity_of, source_of, encoding_text_of, priority_of, congestion_of, flag_of, target_of, consolidation_of, any_key_of, value_of}
-use Rattle.zs_script.specs.Parts.{Part, number, locality, key, selector, wire, payload, parameters, target, consolidation, timeout, value, encoding, own_encoding, timestamp, qos, own_priority, own_congestion, own_express, reliable, source, attachment, responder, any_key, token, interest, Value, behind, first_in, named_in, taken, option_in, maybe_in, qos_in, value_in, selector_of, read, Maker, form}
-use Rattle.zs_script.specs.Plain.{is_field_text, is_plain_event}
+use Rattle.zs_script.specs.Parts.{Part, number, locality, background_kind, complete, history, key, selector, wire, wire_if, payload, parameters, target, consolidation, timeout, value, encoding, own_encoding, timestamp, qos, own_priority, own_congestion, own_express, reliable, source, attachment, responder, any_key, token, interest, Value, first_of, behind, first_in, named_in, taken, option_in, maybe_in, named_wire_in, qos_in, value_in, selector_of, read, Maker, form}
+use Rattle.zs_script.specs.Plain.{is_field_text, is_plain_event, suffix_if}
 use Rattle.zs_script.proofs.PlainSymbols.{IsText, PlainKey, PlainChars, PlainWire, on-map, on-then, on-any, prefix-text, chars-plain, key-plain, wire-plain, before-sign, behind-sign}
 
 abbrev pub AreTexts : List (List ℕ) → Type 0
@@ -86,6 +87,26 @@ own-encoding-plain fields h =
     refl refl (λ text k. and_from _ _ (encoding-plain text k) refl) fields h
 
 -- compound parts
+abbrev PlainWireIf : Option WireExpr → Type 0
+PlainWireIf w = AllPlain (suffix_if w)
+
+first-text : (fields : List (List ℕ)) → AreTexts fields → IfSome (first_of fields) IsText
+first-text [] h = tt
+first-text (field ∷ rest) h = h.0
+
+naming-plain : (w : WireExpr) → PlainWire w → PlainWireIf (naming (Some w))
+naming-plain w h = go (names_nothing w)
+  where
+    go : (b : Bool) → PlainWireIf (cond b None (Some w))
+    go true = refl
+    go false = and_from _ _ h refl
+
+named-wire-plain : (fields : List (List ℕ)) → AreTexts fields → Reads PlainWireIf (named_wire_in fields)
+named-wire-plain fields h =
+    taken-plain None PlainWireIf refl fields h (option_map (λ w. naming (Some w)) (option_and_then wire_of (first_of fields)))
+    (on-map {A = WireExpr} {B = Option WireExpr} (λ w. naming (Some w)) PlainWire PlainWireIf naming-plain (option_and_then wire_of (first_of fields))
+    (on-then {A = List ℕ} {B = WireExpr} wire_of IsText PlainWire wire-plain (first_of fields) (first-text fields h)))
+
 qos-texts : (least : ℕ) (absent : CongestionControl) (fields : List (List ℕ)) → AreTexts fields
     → Reads (λ _. Unit {0}) (qos_in least absent fields)
 qos-texts least absent fields h =
@@ -114,6 +135,7 @@ abbrev pub IsPlainValue : (part : Part) → Value part → Type 0
 IsPlainValue key k = PlainKey k
 IsPlainValue selector s = PlainKey s.0 × PlainChars s.1
 IsPlainValue wire w = PlainWire w
+IsPlainValue wire_if w = PlainWireIf w
 IsPlainValue parameters text = PlainChars text
 IsPlainValue value v = AllPlain (value_texts v)
 IsPlainValue encoding text = PlainChars text
@@ -125,11 +147,15 @@ read-plain : (part : Part) (fields : List (List ℕ)) → AreTexts fields
 unfolding read
 read-plain (number most) fields h = first-any (number_of most) fields h
 read-plain locality fields h = first-any locality_of fields h
+read-plain background_kind fields h = first-any background_kind_of fields h
+read-plain complete fields h = first-any complete_of fields h
+read-plain history fields h = first-any history_of fields h
 read-plain key fields h = first-plain (λ field. Some (key_of field)) PlainKey key-plain fields h
 read-plain selector fields h =
     first-plain (λ field. Some (selector_of field)) (λ s. PlainKey s.0 × PlainChars s.1)
     (λ field k. (key-plain _ (before-sign 63 (lit< tt) field k), chars-plain _ (behind-sign 63 (lit< tt) field k))) fields h
 read-plain wire fields h = first-plain wire_of PlainWire wire-plain fields h
+read-plain wire_if fields h = named-wire-plain fields h
 read-plain payload fields h = first-any payload_of fields h
 read-plain parameters fields h = option-plain (codes "params=") (λ text. Some (chars text)) [] PlainChars refl refl chars-plain fields h
 read-plain target fields h = option-any (codes "target=") target_of _ fields h
@@ -154,6 +180,14 @@ read-plain interest fields h = maybe-any (codes "interest=") (number_of u32_max)
 pub wire-read : (fields : List (List ℕ)) → AreTexts fields
     → IfSome (read wire fields) (λ found. PlainWire found.0 × AreTexts found.1)
 wire-read fields h = read-plain wire fields h
+
+pub number-read : (most : ℕ) (fields : List (List ℕ)) → AreTexts fields
+    → IfSome {T = ℕ × List (List ℕ)} (read (number most) fields) (λ found. AreTexts found.1)
+unfolding read
+number-read most [] h = tt
+number-read most (field ∷ rest) h =
+    on-map {A = ℕ} {B = ℕ × List (List ℕ)} (λ found. (found, rest)) (λ _. Unit {0}) (λ found. AreTexts found.1) (λ _ _. h.1)
+    (number_of most field) (on-any (number_of most field))
 
 -- a maker that makes plain events of plain values
 abbrev pub MakesPlain : (parts : List Part) → Maker parts Event → Type 0

@@ -29,11 +29,13 @@ use Rattle.zs_wire.specs.declared.wire_expr.Mapping.{Mapping}
 use Rattle.zs_wire.specs.declared.wire_expr.Mapping.TheVariants.{Sender, Receiver}
 use Rattle.zs_wire.specs.declared.wire_expr.WireExpr.{WireExpr}
 use Rattle.zs_sample.specs.declared.sample_fields.SampleFields.{SampleFields}
+use Rattle.zs_query.specs.QueryData.{Query}
 use Rattle.zs_script.specs.Words.{sample_word, congestion_word, flag_digit, complete_word, target_word, consolidation_word, mode_word, what_word, hex_text, bytes_text, mapping_letter, wire_text, timestamp_text, entity_text, source_text}
-use Rattle.zs_script.specs.Pieces.{Piece, word, number, wire, wire_if, payload, parameters, target, consolidation, timeout, value, encoding, timestamp, qos, reliable, source, attachment, responder, interest, named, field_if, written, pieces_fields}
-use Rattle.zs_events.specs.Kinds.{value_texts}
-use Rattle.zs_script.specs.Printing.{names_nothing, naming, verb_pieces, sample_pieces, message_pieces, answered_pieces}
-use Rattle.zs_script.specs.Plain.{is_plain, is_plain_text, suffix_if, answered_texts, message_texts}
+use Rattle.zs_script.specs.Pieces.{Piece, word, number, wire, wire_if, payload, parameters, target, consolidation, timeout, value, payload_if, encoding, encoding_if, timestamp, qos, reliable, source, attachment, responder, interest, named, field_if, encoding_field, payload_field, written, pieces_fields}
+use Rattle.zs_events.specs.Kinds.{text_if, value_texts}
+use Rattle.zs_script.specs.Symbols.{names_nothing, naming}
+use Rattle.zs_script.specs.Printing.{verb_pieces, sample_pieces, message_pieces, answered_pieces, asked_pieces}
+use Rattle.zs_script.specs.Plain.{is_plain, is_plain_text, is_plain_query, suffix_if, answered_texts, message_texts}
 use Rattle.zs_script.proofs.PlainTexts.{plain_byte, plain-append, decimal-plain, hex-plain, bytes-plain}
 
 -- words
@@ -106,9 +108,10 @@ abbrev pub IsPlainPiece : Piece → Type 0
 IsPlainPiece (word text) = is_plain text ≡ true
 IsPlainPiece (wire w) = PlainChars w.suffix
 IsPlainPiece (wire_if w) = AllPlain (suffix_if w)
-IsPlainPiece (parameters text) = PlainChars text
+IsPlainPiece (parameters text) = is_plain text ≡ true
 IsPlainPiece (value v) = AllPlain (value_texts v)
 IsPlainPiece (encoding text) = PlainChars text
+IsPlainPiece (encoding_if text) = AllPlain (text_if text)
 IsPlainPiece piece = Unit {0}
 
 one : (text : List ℕ) → is_plain text ≡ true → list_all is_plain (text ∷ []) ≡ true
@@ -123,10 +126,14 @@ wire-if-plain : (w : Option WireExpr) → AllPlain (suffix_if w) → list_all is
 wire-if-plain None h = refl
 wire-if-plain (Some w) h = one (wire_text w) (wire-plain w (and_parts (is_plain_text w.suffix) true h).0)
 
-parameters-plain : (text : List ℕ) → PlainChars text → list_all is_plain (written (parameters text)) ≡ true
+parameters-plain : (text : List ℕ) → is_plain text ≡ true → list_all is_plain (written (parameters text)) ≡ true
 unfolding written
 parameters-plain [] h = refl
-parameters-plain (c ∷ cs) h = one (encode_utf8_all (c ∷ cs)) h
+parameters-plain (b ∷ bs) h = one (b ∷ bs) h
+
+encoding-if-plain : (text : Option (List ℕ)) → AllPlain (text_if text) → list_all is_plain (field_if encoding_field text) ≡ true
+encoding-if-plain None h = refl
+encoding-if-plain (Some text) h = one (encode_utf8_all text) (and_parts (is_plain_text text) true h).0
 
 value-plain : (v : Option Value) → AllPlain (value_texts v) → list_all is_plain (written (value v)) ≡ true
 unfolding written
@@ -150,7 +157,9 @@ written-plain (target t) h = one (target_word t) (target-plain t)
 written-plain (consolidation mode) h = one (consolidation_word mode) (consolidation-plain mode)
 written-plain (timeout n) h = one (decimal n) (decimal-plain n)
 written-plain (value v) h = value-plain v h
+written-plain (payload_if bytes) h = one-if payload_field bytes-plain bytes
 written-plain (encoding text) h = one (encode_utf8_all text) h
+written-plain (encoding_if text) h = encoding-if-plain text h
 written-plain (timestamp time) h = one-if (λ t. named (codes "ts=") (timestamp_text t)) timestamp-plain time
 written-plain (qos q) h = qos-plain q
 written-plain (reliable flag) h = one (flag_digit flag) (flag-plain flag)
@@ -169,13 +178,20 @@ pieces-plain [] h = refl
 pieces-plain (piece ∷ pieces) h =
     list_all-append is_plain (written piece) (pieces_fields pieces) ∙ and_from _ _ (written-plain piece h.0) (pieces-plain pieces h.1)
 
-both-plain : (first more : List Piece) → ArePlain first → ArePlain more → ArePlain (first ++ more)
+pub both-plain : (first more : List Piece) → ArePlain first → ArePlain more → ArePlain (first ++ more)
 both-plain [] more h k = k
 both-plain (piece ∷ first) more h k = (h.0, both-plain first more h.1 k)
 
 -- samples
 pub sample-plain : (s : SampleFields) → is_plain s.key_expr.text ≡ true → is_plain_text s.encoding ≡ true → ArePlain (sample_pieces s)
 sample-plain s key text = (verb-plain s.kind, (key, (tt, (text, (tt, (tt, (tt, (tt, (tt, tt)))))))))
+
+-- queries that are handed out
+pub asked-plain : (q : Query) → is_plain_query q ≡ true → ArePlain (asked_pieces q)
+asked-plain q h =
+    let texts = and_parts (is_plain q.key_expr.text) _ h in
+    let more = and_parts (is_plain q.parameters) _ texts.1 in
+    (texts.0, (more.0, (tt, (more.1, (tt, (tt, (tt, tt)))))))
 
 -- messages
 verb-pieces-plain : (kind : SampleKind) (body : Body) → PlainChars body.encoding → ArePlain (verb_pieces kind body)

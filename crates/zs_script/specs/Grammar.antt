@@ -1,22 +1,23 @@
 -- The event that a line is, if it is one.
-use Rattle.std.specs.Prelude.{ℕ, Bool, List, [], ◌∷◌, Option, None, option_and_then, codes, if◌then◌else◌}
+use Rattle.std.specs.Prelude.{ℕ, Bool, List, [], ◌∷◌, Option, None, option_and_then, unwrap_or, codes, if◌then◌else◌}
 use Rattle.std.specs.Str.{bytes_eq, is_utf8}
-use Rattle.zs_wire.specs.declared.message.Message.TheVariants.{DeclareKeyExpr, UndeclareKeyExpr, Push, Close as close_message}
+use Rattle.zs_wire.specs.declared.message.Message.TheVariants.{DeclareKeyExpr, UndeclareKeyExpr, Push, Request as request_message, Response as response_message, ResponseFinal, Close as close_message}
 use Rattle.zs_wire.specs.declared.body.Body.{Body}
+use Rattle.zs_wire.specs.declared.origin.EntityGlobalId.{EntityGlobalId}
 use Rattle.zs_wire.specs.declared.origin.SourceInfo.{SourceInfo}
 use Rattle.zs_wire.specs.declared.origin.Timestamp.{Timestamp}
-use Rattle.zs_wire.specs.declared.quality.CongestionControl.TheVariants.{Drop}
+use Rattle.zs_wire.specs.declared.quality.CongestionControl.TheVariants.{Drop, Block}
 use Rattle.zs_wire.specs.declared.quality.QoSType.{QoSType}
+use Rattle.zs_wire.specs.declared.response.Answered.{Answered}
+use Rattle.zs_wire.specs.declared.response.Answered.TheVariants.{Reply, Err as error_reply}
 use Rattle.zs_wire.specs.declared.sample_kind.SampleKind.TheVariants.{Put as put_kind}
 use Rattle.zs_wire.specs.declared.wire_expr.WireExpr.{WireExpr}
-use Rattle.zs_events.specs.declared.event.BackgroundKind.TheVariants.{Sub as background_sub}
-use Rattle.zs_events.specs.declared.event.EntityKind.TheVariants.{Sub as sub_kind, Pub as pub_kind}
 use Rattle.zs_events.specs.declared.event.Event.{Event}
-use Rattle.zs_events.specs.declared.event.Event.TheVariants.{Key, UndeclareKey, Sub, Pub, Undeclare, Background, Put, Delete, PublisherPut, PublisherDelete, Close, Net}
+use Rattle.zs_events.specs.declared.event.Event.TheVariants.{Key, UndeclareKey, Sub, Pub, Queryable, Undeclare, Background, Put, Delete, PublisherPut, PublisherDelete, Get, Reply as reply_event, ReplyDelete, ReplyErr, Share, Finish, Tick, Close, Net}
 use Rattle.zs_events.specs.Kinds.{delete_body}
 use Rattle.zs_script.specs.Lines.{fields}
-use Rattle.zs_script.specs.Symbols.{u16_max, u32_max}
-use Rattle.zs_script.specs.Parts.{number, locality, key, wire, payload, encoding, own_encoding, timestamp, qos, reliable, source, attachment, read, form}
+use Rattle.zs_script.specs.Symbols.{u16_max, u32_max, u64_max, entity_kind_of}
+use Rattle.zs_script.specs.Parts.{number, locality, background_kind, complete, key, selector, wire, payload, parameters, target, consolidation, timeout, value, encoding, own_encoding, timestamp, qos, own_priority, own_congestion, own_express, reliable, source, attachment, responder, any_key, read, form}
 
 -- what a choice by the first field makes of the fields behind it
 abbrev pub by_word : (List ℕ → List (List ℕ) → Option Event) → List (List ℕ) → Option Event
@@ -35,23 +36,25 @@ sub_of rest = form (locality ∷ key ∷ []) Sub rest
 abbrev pub pub_of : List (List ℕ) → Option Event
 pub_of rest = form (locality ∷ key ∷ encoding ∷ qos 1 Drop ∷ reliable ∷ []) Pub rest
 
--- `undeclare key KEY`, `undeclare sub N`, `undeclare pub N`
+-- `queryable LOC complete KEY`, `queryable LOC partial KEY`
+abbrev pub queryable_of : List (List ℕ) → Option Event
+queryable_of rest = form (locality ∷ complete ∷ key ∷ []) Queryable rest
+
+-- `N`, behind `undeclare` and a kind
+abbrev pub undeclare_entity_of : List ℕ → List (List ℕ) → Option Event
+undeclare_entity_of word rest = option_and_then (λ kind. form (number u32_max ∷ []) (Undeclare kind) rest) (entity_kind_of word)
+
+-- `undeclare key KEY`, and `undeclare`, a kind and `N`
 abbrev pub undeclared_by : List ℕ → List (List ℕ) → Option Event
 undeclared_by word rest =
-    if bytes_eq word (codes "key") then form (key ∷ []) UndeclareKey rest else
-    if bytes_eq word (codes "sub") then form (number u32_max ∷ []) (Undeclare sub_kind) rest else
-    if bytes_eq word (codes "pub") then form (number u32_max ∷ []) (Undeclare pub_kind) rest else None
+    if bytes_eq word (codes "key") then form (key ∷ []) UndeclareKey rest else undeclare_entity_of word rest
 
 unfoldable pub undeclare_of : List (List ℕ) → Option Event
 undeclare_of rest = by_word undeclared_by rest
 
--- `background sub N`
-abbrev pub background_by : List ℕ → List (List ℕ) → Option Event
-background_by word rest =
-    if bytes_eq word (codes "sub") then form (number u32_max ∷ []) (Background background_sub) rest else None
-
-unfoldable pub background_of : List (List ℕ) → Option Event
-background_of rest = by_word background_by rest
+-- `background`, a kind and `N`
+abbrev pub background_of : List (List ℕ) → Option Event
+background_of rest = form (background_kind ∷ number u32_max ∷ []) Background rest
 
 -- `put LOC KEY BYTES` and its options
 abbrev pub put_of : List (List ℕ) → Option Event
@@ -70,6 +73,39 @@ publisher_put_of rest =
 -- `pdel N` and its options
 abbrev pub publisher_delete_of : List (List ℕ) → Option Event
 publisher_delete_of rest = form (number u32_max ∷ timestamp ∷ source ∷ attachment ∷ []) PublisherDelete rest
+
+-- `get LOC SELECTOR` and its options: the selector is a key and the parameters
+abbrev pub get_of : List (List ℕ) → Option Event
+get_of rest =
+    form (locality ∷ selector ∷ target ∷ consolidation ∷ timeout ∷ value ∷ qos 1 Block ∷ source ∷ attachment ∷ any_key ∷ [])
+    (λ where_to chosen. Get where_to chosen.0 chosen.1) rest
+
+-- `reply N KEY BYTES` and its options: what is not given is as in the query
+abbrev pub reply_of : List (List ℕ) → Option Event
+reply_of rest =
+    form (number u32_max ∷ key ∷ payload ∷ encoding ∷ timestamp ∷ own_priority ∷ own_congestion ∷ own_express ∷ source ∷ attachment ∷ [])
+    reply_event rest
+
+-- `replydel N KEY` and its options
+abbrev pub reply_delete_of : List (List ℕ) → Option Event
+reply_delete_of rest =
+    form (number u32_max ∷ key ∷ timestamp ∷ own_priority ∷ own_congestion ∷ own_express ∷ source ∷ attachment ∷ []) ReplyDelete rest
+
+-- `replyerr N BYTES` and its option
+abbrev pub reply_error_of : List (List ℕ) → Option Event
+reply_error_of rest = form (number u32_max ∷ payload ∷ encoding ∷ []) ReplyErr rest
+
+-- `share N`
+abbrev pub share_of : List (List ℕ) → Option Event
+share_of rest = form (number u32_max ∷ []) Share rest
+
+-- `finish N`
+abbrev pub finish_of : List (List ℕ) → Option Event
+finish_of rest = form (number u32_max ∷ []) Finish rest
+
+-- `tick N`
+abbrev pub tick_of : List (List ℕ) → Option Event
+tick_of rest = form (number u64_max ∷ []) Tick rest
 
 -- `close`
 abbrev pub close_of : List (List ℕ) → Option Event
@@ -120,6 +156,69 @@ push_by w word rest =
 unfoldable pub push_of : List (List ℕ) → Option Event
 push_of rest = option_and_then (λ found. by_word (push_by found.0) found.1) (read wire rest)
 
+-- the timeout of a request that says none
+abbrev pub request_timeout : ℕ
+request_timeout = 10000
+
+-- `request N WIRE` and its options, behind `net`
+abbrev pub request_of : List (List ℕ) → Option Event
+request_of rest =
+    form (number u32_max ∷ wire ∷ parameters ∷ target ∷ consolidation ∷ timeout ∷ value ∷ qos 0 Block ∷ source ∷ attachment ∷ [])
+    (λ n w text whom mode time given quality origin beside. Net (request_message (record {
+      rid = n;
+      wire = w;
+      parameters = text;
+      target = whom;
+      consolidation = mode;
+      timeout = unwrap_or time request_timeout;
+      value = given;
+      qos = quality;
+      source = origin;
+      attachment = beside;
+    }))) rest
+
+-- what a get is told
+abbrev pub responded : ℕ → WireExpr → Answered → QoSType → Option EntityGlobalId → Event
+responded n w answered quality who =
+    Net (response_message (record { rid = n; wire = w; answered = answered; qos = quality; responder = who }))
+
+-- `BYTES` and its options, behind `response N WIRE put`
+abbrev pub response_put_of : ℕ → WireExpr → List (List ℕ) → Option Event
+response_put_of n w rest =
+    form (payload ∷ encoding ∷ timestamp ∷ qos 0 Block ∷ source ∷ attachment ∷ responder ∷ [])
+    (λ bytes text time quality origin beside who. responded n w (Reply (value_body bytes text time origin beside)) quality who) rest
+
+-- the options behind `response N WIRE del`
+abbrev pub response_delete_of : ℕ → WireExpr → List (List ℕ) → Option Event
+response_delete_of n w rest =
+    form (timestamp ∷ qos 0 Block ∷ source ∷ attachment ∷ responder ∷ [])
+    (λ time quality origin beside who. responded n w (Reply (delete_body time origin beside)) quality who) rest
+
+-- `BYTES` and its options, behind `response N WIRE err`
+abbrev pub response_error_of : ℕ → WireExpr → List (List ℕ) → Option Event
+response_error_of n w rest =
+    form (payload ∷ encoding ∷ qos 0 Block ∷ responder ∷ [])
+    (λ bytes text quality who. responded n w (error_reply (record { payload = bytes; encoding = text })) quality who) rest
+
+-- `put`, `del` or `err` and what follows, behind `response N WIRE`
+abbrev pub response_by : ℕ → WireExpr → List ℕ → List (List ℕ) → Option Event
+response_by n w word rest =
+    if bytes_eq word (codes "put") then response_put_of n w rest else
+    if bytes_eq word (codes "del") then response_delete_of n w rest else
+    if bytes_eq word (codes "err") then response_error_of n w rest else None
+
+-- `WIRE` and what follows, behind `response N`
+unfoldable pub response_on : ℕ → List (List ℕ) → Option Event
+response_on n rest = option_and_then (λ found. by_word (response_by n found.0) found.1) (read wire rest)
+
+-- `response N WIRE put BYTES`, `response N WIRE del` and `response N WIRE err BYTES`, behind `net`
+unfoldable pub response_of : List (List ℕ) → Option Event
+response_of rest = option_and_then (λ found. response_on found.0 found.1) (read (number u32_max) rest)
+
+-- `responsefinal N`, behind `net`
+abbrev pub response_final_of : List (List ℕ) → Option Event
+response_final_of rest = form (number u32_max ∷ []) (λ n. Net (ResponseFinal n)) rest
+
 -- `close`, behind `net`
 abbrev pub net_close_of : List (List ℕ) → Option Event
 net_close_of rest = form [] (Net close_message) rest
@@ -130,6 +229,9 @@ net_by word rest =
     if bytes_eq word (codes "keyexpr") then key_expr_of rest else
     if bytes_eq word (codes "unkeyexpr") then unkey_expr_of rest else
     if bytes_eq word (codes "push") then push_of rest else
+    if bytes_eq word (codes "request") then request_of rest else
+    if bytes_eq word (codes "response") then response_of rest else
+    if bytes_eq word (codes "responsefinal") then response_final_of rest else
     if bytes_eq word (codes "close") then net_close_of rest else None
 
 unfoldable pub net_of : List (List ℕ) → Option Event
@@ -141,12 +243,20 @@ event_by word rest =
     if bytes_eq word (codes "key") then declare_of rest else
     if bytes_eq word (codes "sub") then sub_of rest else
     if bytes_eq word (codes "pub") then pub_of rest else
+    if bytes_eq word (codes "queryable") then queryable_of rest else
     if bytes_eq word (codes "undeclare") then undeclare_of rest else
     if bytes_eq word (codes "background") then background_of rest else
     if bytes_eq word (codes "put") then put_of rest else
     if bytes_eq word (codes "delete") then delete_of rest else
     if bytes_eq word (codes "pput") then publisher_put_of rest else
     if bytes_eq word (codes "pdel") then publisher_delete_of rest else
+    if bytes_eq word (codes "get") then get_of rest else
+    if bytes_eq word (codes "reply") then reply_of rest else
+    if bytes_eq word (codes "replydel") then reply_delete_of rest else
+    if bytes_eq word (codes "replyerr") then reply_error_of rest else
+    if bytes_eq word (codes "share") then share_of rest else
+    if bytes_eq word (codes "finish") then finish_of rest else
+    if bytes_eq word (codes "tick") then tick_of rest else
     if bytes_eq word (codes "close") then close_of rest else
     if bytes_eq word (codes "net") then net_of rest else None
 

@@ -14,18 +14,23 @@ use Rattle.zs_wire.specs.declared.request.ConsolidationMode.TheVariants.{Auto}
 use Rattle.zs_wire.specs.declared.request.QueryTarget.{QueryTarget}
 use Rattle.zs_wire.specs.declared.request.QueryTarget.TheVariants.{BestMatching}
 use Rattle.zs_wire.specs.declared.wire_expr.WireExpr.{WireExpr}
+use Rattle.zs_events.specs.declared.event.BackgroundKind.{BackgroundKind}
 use Rattle.zs_events.specs.declared.event.KeyArg.{KeyArg}
 use Rattle.zs_events.specs.Kinds.{default_encoding}
-use Rattle.zs_script.specs.Symbols.{number_of, u32_max, u64_max, locality_of, key_of, payload_of, after_prefix, wire_of}
+use Rattle.zs_script.specs.Symbols.{number_of, u32_max, u64_max, locality_of, background_kind_of, complete_of, history_of, key_of, payload_of, after_prefix, wire_of, naming}
 use Rattle.zs_script.specs.Options.{timestamp_of, entity_of, source_of, encoding_text_of, priority_of, congestion_of, flag_of, target_of, consolidation_of, any_key_of, value_of}
 
 -- fields that have to be there, and then options, each with what it is where it is absent
 pub data Part : Type 0 where
   number : (most : ℕ) → Part
   locality : Part
+  background_kind : Part
+  complete : Part
+  history : Part
   key : Part
   selector : Part
   wire : Part
+  wire_if : Part
   payload : Part
   -- options of queries
   parameters : Part
@@ -53,9 +58,13 @@ pub data Part : Type 0 where
 abbrev pub Value : Part → Type 0
 Value (number most) = ℕ
 Value locality = Locality
+Value background_kind = BackgroundKind
+Value complete = Bool
+Value history = Bool
 Value key = KeyArg
 Value selector = KeyArg × List ℕ
 Value wire = WireExpr
+Value wire_if = Option WireExpr
 Value payload = List (List ℕ)
 Value parameters = List ℕ
 Value target = QueryTarget
@@ -109,6 +118,10 @@ option_in name symbol absent fields = taken absent fields (option_and_then symbo
 abbrev pub maybe_in : {A : Type 0} → List ℕ → (List ℕ → Option A) → List (List ℕ) → Option A × List (List ℕ)
 maybe_in name symbol fields = option_in name (λ text. option_map Some (symbol text)) None fields
 
+-- a wire expression that may be left out: one that names nothing is like none
+abbrev pub named_wire_in : List (List ℕ) → Option WireExpr × List (List ℕ)
+named_wire_in fields = taken None fields (option_map (λ w. naming (Some w)) (option_and_then wire_of (first_of fields)))
+
 -- quality of service: three options
 abbrev pub qos_in : ℕ → CongestionControl → List (List ℕ) → QoSType × List (List ℕ)
 qos_in least absent fields =
@@ -132,9 +145,13 @@ selector_of field = (key_of (before_first (λ b. b == 63) field), chars (after_f
 unfoldable pub read : (part : Part) → List (List ℕ) → Option (Value part × List (List ℕ))
 read (number most) fields = first_in (number_of most) fields
 read locality fields = first_in locality_of fields
+read background_kind fields = first_in background_kind_of fields
+read complete fields = first_in complete_of fields
+read history fields = first_in history_of fields
 read key fields = first_in (λ field. Some (key_of field)) fields
 read selector fields = first_in (λ field. Some (selector_of field)) fields
 read wire fields = first_in wire_of fields
+read wire_if fields = Some (named_wire_in fields)
 read payload fields = first_in payload_of fields
 read parameters fields = Some (option_in (codes "params=") (λ text. Some (chars text)) [] fields)
 read target fields = Some (option_in (codes "target=") target_of BestMatching fields)

@@ -22,7 +22,9 @@ pub data Piece : Type 0 where
   consolidation : ConsolidationMode → Piece
   timeout : ℕ → Piece
   value : Option Value → Piece
+  payload_if : Option (List (List ℕ)) → Piece
   encoding : List ℕ → Piece
+  encoding_if : Option (List ℕ) → Piece
   timestamp : Option Timestamp → Piece
   qos : QoSType → Piece
   reliable : Bool → Piece
@@ -40,19 +42,23 @@ abbrev pub field_if : {A : Type 0} → (A → List ℕ) → Option A → List (L
 field_if text None = []
 field_if text (Some a) = text a ∷ []
 
--- parameters, where there are any
+-- the bytes of parameters, where there are any
 abbrev pub parameter_fields : List ℕ → List (List ℕ)
 parameter_fields [] = []
-parameter_fields (c ∷ cs) = named (codes "params=") (encode_utf8_all (c ∷ cs)) ∷ []
+parameter_fields (b ∷ bs) = named (codes "params=") (b ∷ bs) ∷ []
 
 -- an encoding
 abbrev pub encoding_field : List ℕ → List ℕ
 encoding_field text = named (codes "enc=") (encode_utf8_all text)
 
+-- the payload of a value
+abbrev pub payload_field : List (List ℕ) → List ℕ
+payload_field bytes = named (codes "payload=") (bytes_text bytes)
+
 -- a value, if there is one: its payload and its encoding
 abbrev pub value_fields : Option Value → List (List ℕ)
 value_fields None = []
-value_fields (Some v) = named (codes "payload=") (bytes_text v.payload) ∷ encoding_field v.encoding ∷ []
+value_fields (Some v) = payload_field v.payload ∷ encoding_field v.encoding ∷ []
 
 -- the fields of a piece
 unfoldable pub written : Piece → List (List ℕ)
@@ -66,7 +72,9 @@ written (target t) = named (codes "target=") (target_word t) ∷ []
 written (consolidation mode) = named (codes "cons=") (consolidation_word mode) ∷ []
 written (timeout n) = named (codes "timeout=") (decimal n) ∷ []
 written (value v) = value_fields v
+written (payload_if bytes) = field_if payload_field bytes
 written (encoding text) = encoding_field text ∷ []
+written (encoding_if text) = field_if encoding_field text
 written (timestamp time) = field_if (λ t. named (codes "ts=") (timestamp_text t)) time
 written (qos q) =
     named (codes "prio=") (decimal q.priority)

@@ -1,7 +1,10 @@
 -- Texts that can stand in a field of a line: without a tab and without a line feed.
-use Rattle.std.specs.Prelude.{ℕ, Bool, true, ◌==◌, not, ◌&&◌, List, [], ◌∷◌, Option, Some, None, encode_utf8_all}
+use Rattle.std.specs.Prelude.{ℕ, Bool, true, ◌==◌, not, ◌&&◌, List, [], ◌∷◌, Option, Some, None, Result, Ok, Err, encode_utf8_all}
 use Rattle.std.specs.List.{list_all}
 use Rattle.std.specs.Str.{all_scalars}
+use Rattle.zs_sample.specs.ErrorFields.{ErrorFields}
+use Rattle.zs_sample.specs.declared.sample_fields.SampleFields.{SampleFields}
+use Rattle.zs_query.specs.QueryData.{Query}
 use Rattle.zs_wire.specs.declared.message.Message.{Message}
 use Rattle.zs_wire.specs.declared.message.Message.TheVariants.{DeclareKeyExpr, UndeclareKeyExpr, DeclareSubscriber, UndeclareSubscriber, DeclareQueryable, UndeclareQueryable, DeclareToken, UndeclareToken, DeclareFinal, Interest, Push, Request, Response, ResponseFinal, Close}
 use Rattle.zs_wire.specs.declared.response.Answered.{Answered}
@@ -10,10 +13,10 @@ use Rattle.zs_wire.specs.declared.wire_expr.WireExpr.{WireExpr}
 use Rattle.zs_events.specs.declared.event.KeyArg.{KeyArg}
 use Rattle.zs_events.specs.declared.event.KeyArg.TheVariants.{Text, Number, Declared}
 use Rattle.zs_events.specs.declared.event.Event.{Event}
-use Rattle.zs_events.specs.Kinds.{NamedKey, NoKey, OwnKey, PublisherKey, WireKey, value_texts, row_of}
+use Rattle.zs_events.specs.Kinds.{NamedKey, NoKey, OwnKey, PublisherKey, WireKey, text_if, value_texts, row_of}
 use Rattle.zs_events.specs.declared.turn.Effect.{Effect}
 use Rattle.zs_events.specs.declared.turn.Effect.TheVariants.{Send, Hand, End}
-use Rattle.zs_events.specs.declared.turn.HandOver.TheVariants.{Sample}
+use Rattle.zs_events.specs.declared.turn.HandOver.TheVariants.{Sample, Reply as handed_reply, Query as handed_query}
 
 -- no tab and no line feed
 abbrev pub is_plain : List ℕ → Bool
@@ -76,8 +79,22 @@ message_texts (Response response) = response.wire.suffix ∷ answered_texts resp
 message_texts (ResponseFinal rid) = []
 message_texts Close = []
 
+-- a sample and an error whose texts have no tab and no line feed
+abbrev pub is_plain_sample : SampleFields → Bool
+is_plain_sample sample = is_plain sample.key_expr.text && is_plain_text sample.encoding
+
+abbrev pub is_plain_outcome : Result SampleFields ErrorFields → Bool
+is_plain_outcome (Ok sample) = is_plain_sample sample
+is_plain_outcome (Err e) = is_plain_text e.encoding
+
+-- the same of what a queryable is handed of a query
+abbrev pub is_plain_query : Query → Bool
+is_plain_query query = is_plain query.key_expr.text && (is_plain query.parameters && list_all is_plain_text (text_if query.encoding))
+
 -- an effect all of whose texts have no tab and no line feed
 abbrev pub is_plain_effect : Effect → Bool
 is_plain_effect (Send message) = list_all is_plain_text (message_texts message)
-is_plain_effect (Hand (Sample kind id sample)) = is_plain sample.key_expr.text && is_plain_text sample.encoding
+is_plain_effect (Hand (Sample kind id sample)) = is_plain_sample sample
+is_plain_effect (Hand (handed_reply kind id reply)) = is_plain_outcome reply.result
+is_plain_effect (Hand (handed_query id count query)) = is_plain_query query
 is_plain_effect (End kind id) = true

@@ -1,5 +1,5 @@
 -- The printed text of a turn.
-use Rattle.std.specs.Prelude.{ℕ, ◌==◌, ◌&&◌, Bool, List, [], ◌∷◌, ◌++◌, Option, Some, None, codes, decimal, if◌then◌else◌}
+use Rattle.std.specs.Prelude.{ℕ, List, [], ◌∷◌, ◌++◌, Some, None, Result, Ok, Err, codes, decimal, encode_utf8_all}
 use Rattle.std.specs.List.{flat_map}
 use Rattle.zs_wire.specs.declared.body.Body.{Body}
 use Rattle.zs_wire.specs.declared.body.Value.{Value}
@@ -13,19 +13,22 @@ use Rattle.zs_wire.specs.declared.response.Answered.TheVariants.{Reply, Err as e
 use Rattle.zs_wire.specs.declared.response.Response.{Response}
 use Rattle.zs_wire.specs.declared.sample_kind.SampleKind.{SampleKind}
 use Rattle.zs_wire.specs.declared.sample_kind.SampleKind.TheVariants.{Put, Delete}
-use Rattle.zs_wire.specs.declared.wire_expr.WireExpr.{WireExpr}
-use Rattle.zs_sample.specs.Quality.{number_of}
+use Rattle.zs_sample.specs.Quality.{number_of, priority_of}
+use Rattle.zs_sample.specs.ErrorFields.{ErrorFields}
+use Rattle.zs_sample.specs.Reply.{Replied}
 use Rattle.zs_sample.specs.declared.sample_fields.SampleFields.{SampleFields}
-use Rattle.zs_events.specs.Kinds.{is_nothing}
+use Rattle.zs_query.specs.QueryData.{Query}
 use Rattle.zs_events.specs.declared.turn.Answer.{Answer}
 use Rattle.zs_events.specs.declared.turn.Answer.TheVariants.{Ok as accepted, Refused}
 use Rattle.zs_events.specs.declared.turn.Effect.{Effect}
 use Rattle.zs_events.specs.declared.turn.Effect.TheVariants.{Send, Hand, End}
-use Rattle.zs_events.specs.declared.turn.HandOver.TheVariants.{Sample}
+use Rattle.zs_events.specs.declared.turn.HandOver.TheVariants.{Sample, Reply as handed_reply, Query as handed_query}
 use Rattle.zs_events.specs.declared.turn.Kind.{Kind}
+use Rattle.zs_events.specs.declared.turn.Kind.TheVariants.{Queryable}
 use Rattle.zs_events.specs.declared.turn.Turn.{Turn}
+use Rattle.zs_script.specs.Symbols.{naming}
 use Rattle.zs_script.specs.Words.{refusal_name, kind_word, sample_word, is_reliable, complete_word, mode_word, what_word}
-use Rattle.zs_script.specs.Pieces.{Piece, word, number, wire, wire_if, payload, parameters, target, consolidation, timeout, value, encoding, timestamp, qos, reliable, source, attachment, responder, interest, pieces_fields}
+use Rattle.zs_script.specs.Pieces.{Piece, word, number, wire, wire_if, payload, parameters, target, consolidation, timeout, value, payload_if, encoding, encoding_if, timestamp, qos, reliable, source, attachment, responder, interest, pieces_fields}
 
 -- these fields, each behind a tab, and the line feed
 abbrev pub tabbed : List (List ℕ) → List ℕ
@@ -42,15 +45,6 @@ answer_fields (accepted None) = codes "ok" ∷ []
 answer_fields (accepted (Some drawn)) = codes "ok" ∷ decimal drawn ∷ []
 answer_fields (Refused refusal) = codes "refused" ∷ refusal_name refusal ∷ []
 
--- no scope and no suffix: it names no key
-abbrev pub names_nothing : WireExpr → Bool
-names_nothing w = w.scope == 0 && is_nothing w.suffix
-
--- a wire expression that names something
-abbrev pub naming : Option WireExpr → Option WireExpr
-naming None = None
-naming (Some w) = if names_nothing w then None else Some w
-
 -- the verb of a body, with the value of a put
 abbrev pub verb_pieces : SampleKind → Body → List Piece
 verb_pieces Put body = word (codes "put") ∷ payload body.payload ∷ encoding body.encoding ∷ []
@@ -66,7 +60,7 @@ push_pieces p = word (codes "push") ∷ wire p.wire ∷ (verb_pieces p.body.kind
 
 -- a query
 abbrev pub query_pieces : Request → List Piece
-query_pieces r = parameters r.parameters ∷ target r.target ∷ consolidation r.consolidation ∷ timeout r.timeout ∷ []
+query_pieces r = parameters (encode_utf8_all r.parameters) ∷ target r.target ∷ consolidation r.consolidation ∷ timeout r.timeout ∷ []
 
 abbrev pub query_options : Request → List Piece
 query_options r = value r.value ∷ qos r.qos ∷ source r.source ∷ attachment r.attachment ∷ []
@@ -130,10 +124,44 @@ sample_pieces s = sample_head s ++ sample_options s
 unfoldable pub hand_pieces : Kind → ℕ → SampleFields → List Piece
 hand_pieces kind id sample = word (codes "hand") ∷ word (kind_word kind) ∷ number id ∷ sample_pieces sample
 
+-- what a reply brings: a sample, or an error with what it is
+abbrev pub error_pieces : ErrorFields → List Piece
+error_pieces e = word (codes "err") ∷ payload e.payload ∷ encoding e.encoding ∷ []
+
+abbrev pub outcome_pieces : Result SampleFields ErrorFields → List Piece
+outcome_pieces (Ok sample) = sample_pieces sample
+outcome_pieces (Err e) = error_pieces e
+
+-- a reply that is handed to the get which the number names, and who sent it
+unfoldable pub replied_pieces : Kind → ℕ → Replied → List Piece
+replied_pieces kind id reply =
+    word (codes "reply") ∷ word (kind_word kind) ∷ number id ∷ (outcome_pieces reply.result ++ responder reply.replier ∷ [])
+
+-- the quality of service of a query that is handed out
+abbrev pub asked_qos : Query → QoSType
+asked_qos q = record { priority = number_of (priority_of q.qos.priority); congestion = q.qos.congestion; express = q.qos.express }
+
+-- such a query: its key, its parameters, its value and its options
+abbrev pub asked_head : Query → List Piece
+asked_head q = word q.key_expr.text ∷ parameters q.parameters ∷ payload_if q.payload ∷ encoding_if q.encoding ∷ []
+
+abbrev pub asked_options : Query → List Piece
+asked_options q = qos (asked_qos q) ∷ source q.source ∷ attachment q.attachment ∷ []
+
+abbrev pub asked_pieces : Query → List Piece
+asked_pieces q = asked_head q ++ asked_options q
+
+-- a query that is handed to the queryable which the number names, with the number under which it is answered
+unfoldable pub queried_pieces : ℕ → ℕ → Query → List Piece
+queried_pieces id count query =
+    word (codes "hand") ∷ word (kind_word Queryable) ∷ number id ∷ number count ∷ asked_pieces query
+
 -- an effect, behind the event's number
 abbrev pub effect_pieces : Effect → List Piece
 effect_pieces (Send message) = word (codes "send") ∷ message_pieces message
 effect_pieces (Hand (Sample kind id sample)) = hand_pieces kind id sample
+effect_pieces (Hand (handed_reply kind id reply)) = replied_pieces kind id reply
+effect_pieces (Hand (handed_query id count query)) = queried_pieces id count query
 effect_pieces (End kind id) = word (codes "end") ∷ word (kind_word kind) ∷ number id ∷ []
 
 abbrev pub effect_fields : Effect → List (List ℕ)

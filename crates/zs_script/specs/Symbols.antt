@@ -1,5 +1,5 @@
 -- The symbols that the forms of lines are made of, each read from one field.
-use Rattle.std.specs.Prelude.{ℕ, ◌+◌, ◌*◌, ◌-◌, Bool, nat_le, ◌==◌, ◌&&◌, List, [], ◌∷◌, take, drop, Option, Some, None, option_map, option_and_then, unwrap_or, codes, if◌then◌else◌}
+use Rattle.std.specs.Prelude.{ℕ, ◌+◌, ◌*◌, ◌-◌, Bool, true, false, nat_le, ◌==◌, ◌&&◌, List, [], ◌∷◌, take, drop, Option, Some, None, option_map, option_and_then, unwrap_or, codes, if◌then◌else◌}
 use Rattle.std.specs.List.{position, before_first, after_first}
 use Rattle.std.specs.Str.{bytes_eq, chars}
 use Rattle.std.specs.Result.{result_ok}
@@ -10,8 +10,13 @@ use Rattle.zs_sample.specs.declared.locality.Locality.TheVariants.{SessionLocal,
 use Rattle.zs_wire.specs.declared.wire_expr.Mapping.{Mapping}
 use Rattle.zs_wire.specs.declared.wire_expr.Mapping.TheVariants.{Sender, Receiver}
 use Rattle.zs_wire.specs.declared.wire_expr.WireExpr.{WireExpr}
+use Rattle.zs_events.specs.declared.event.BackgroundKind.{BackgroundKind}
+use Rattle.zs_events.specs.declared.event.BackgroundKind.TheVariants.{Sub as background_sub, Queryable as background_queryable}
+use Rattle.zs_events.specs.declared.event.EntityKind.{EntityKind}
+use Rattle.zs_events.specs.declared.event.EntityKind.TheVariants.{Sub as sub_kind, Pub as pub_kind, Queryable as queryable_kind}
 use Rattle.zs_events.specs.declared.event.KeyArg.{KeyArg}
 use Rattle.zs_events.specs.declared.event.KeyArg.TheVariants.{Text, Number}
+use Rattle.zs_events.specs.Kinds.{is_nothing}
 
 -- a decimal digit
 abbrev pub is_digit : ℕ → Bool
@@ -44,6 +49,31 @@ locality_of field =
     if bytes_eq field (codes "any") then Some Any else
     if bytes_eq field (codes "local") then Some SessionLocal else
     if bytes_eq field (codes "remote") then Some Remote else None
+
+-- a word for what can be undeclared by its number
+abbrev pub entity_kind_of : List ℕ → Option EntityKind
+entity_kind_of field =
+    if bytes_eq field (codes "sub") then Some sub_kind else
+    if bytes_eq field (codes "pub") then Some pub_kind else
+    if bytes_eq field (codes "queryable") then Some queryable_kind else None
+
+-- a word for what can be left to itself
+abbrev pub background_kind_of : List ℕ → Option BackgroundKind
+background_kind_of field =
+    if bytes_eq field (codes "sub") then Some background_sub else
+    if bytes_eq field (codes "queryable") then Some background_queryable else None
+
+-- a word for whether a queryable has all that is there
+abbrev pub complete_of : List ℕ → Option Bool
+complete_of field =
+    if bytes_eq field (codes "complete") then Some true else
+    if bytes_eq field (codes "partial") then Some false else None
+
+-- a word for whether a liveliness subscriber is told of what lives already
+abbrev pub history_of : List ℕ → Option Bool
+history_of field =
+    if bytes_eq field (codes "history") then Some true else
+    if bytes_eq field (codes "live") then Some false else None
 
 -- what stands behind a prefix
 abbrev pub after_prefix : List ℕ → List ℕ → Option (List ℕ)
@@ -85,3 +115,12 @@ scoped_in mapping (Some rest) other = scoped_of mapping rest
 abbrev pub wire_of : List ℕ → Option WireExpr
 wire_of field =
     scoped_in Sender (after_prefix (codes "s") field) (scoped_in Receiver (after_prefix (codes "r") field) None)
+
+-- no scope and no suffix: it names no key
+abbrev pub names_nothing : WireExpr → Bool
+names_nothing w = w.scope == 0 && is_nothing w.suffix
+
+-- a wire expression that names something
+abbrev pub naming : Option WireExpr → Option WireExpr
+naming None = None
+naming (Some w) = if names_nothing w then None else Some w

@@ -1,18 +1,21 @@
 //! The forms of lines, each read from the fields behind its word.
 
 ghost use Rattle.std.specs.Prelude.{◌≡◌, [], ◌∷◌, IfOk};
-ghost use Rattle.zs_events.specs.declared.event.Event.TheVariants.{UndeclareKey, Undeclare};
-ghost use Rattle.zs_script.specs.Grammar.{event_of, event_of_fields, declare_of, sub_of, pub_of, undeclare_of, background_of, put_of, delete_of, publisher_put_of, publisher_delete_of, close_of};
+ghost use Rattle.zs_events.specs.declared.event.Event.TheVariants.{UndeclareKey};
+ghost use Rattle.zs_script.specs.Grammar.{event_of, event_of_fields, declare_of, sub_of, pub_of, queryable_of, undeclare_entity_of, undeclare_of, background_of, put_of, delete_of, publisher_put_of, publisher_delete_of, get_of, tick_of, close_of};
 ghost use Rattle.zs_script.specs.Lines.{fields};
 ghost use Rattle.zs_script.specs.Fields.{texts};
-ghost use Rattle.zs_script.specs.Parts.{key, number, form};
-ghost use Rattle.zs_script.specs.Symbols.{u32_max};
+ghost use Rattle.zs_script.specs.Parts.{key, form};
 
 use crate::messages::parse_net;
 use crate::parts::Fields;
 use crate::reader::Line;
+use crate::replies::{
+    parse_finish, parse_reply, parse_reply_delete, parse_reply_error, parse_share,
+};
+use crate::symbols::parse_entity_kind;
 use std::alloc::{AllocError, Global};
-use zs_events::{BackgroundKind, EntityKind, Event};
+use zs_events::Event;
 use zs_wire::CongestionControl;
 
 /// The event of a line, if its form is one of the script language's.
@@ -44,12 +47,20 @@ fn parse_fields(alloc: Global, fields: &mut Fields<'_>) -> Result<Option<Event>,
         "key" => parse_declare(alloc, fields),
         "sub" => parse_sub(alloc, fields),
         "pub" => parse_pub(alloc, fields),
+        "queryable" => parse_queryable(alloc, fields),
         "undeclare" => parse_undeclare(alloc, fields),
         "background" => Ok(parse_background(fields)),
         "put" => parse_put(alloc, fields),
         "delete" => parse_delete(alloc, fields),
         "pput" => parse_publisher_put(alloc, fields),
         "pdel" => parse_publisher_delete(alloc, fields),
+        "get" => parse_get(alloc, fields),
+        "reply" => parse_reply(alloc, fields),
+        "replydel" => parse_reply_delete(alloc, fields),
+        "replyerr" => parse_reply_error(alloc, fields),
+        "share" => Ok(parse_share(fields)),
+        "finish" => Ok(parse_finish(fields)),
+        "tick" => Ok(parse_tick(fields)),
         "close" => Ok(parse_close(fields)),
         "net" => parse_net(alloc, fields),
         _ => Ok(None),
@@ -102,8 +113,29 @@ fn parse_pub(alloc: Global, fields: &mut Fields<'_>) -> Result<Option<Event>, Al
     Ok(fields.finish(event))
 }
 
-/// `undeclare key KEY`, `undeclare sub N`, `undeclare pub N`
-#[tactic(auto, unfolding(crate::specs::Parts::form, crate::specs::Grammar::undeclare_of))]
+/// `queryable LOC complete KEY`, `queryable LOC partial KEY`
+#[tactic(auto, unfolding(crate::specs::Parts::form))]
+fn parse_queryable(alloc: Global, fields: &mut Fields<'_>) -> Result<Option<Event>, AllocError>
+    ensures { IfOk result (λ found. found ≡ queryable_of fields.old) }
+{
+    let Some(origin) = fields.locality() else {
+        return Ok(None);
+    };
+    let Some(complete) = fields.complete() else {
+        return Ok(None);
+    };
+    let Some(key) = fields.key(alloc)? else {
+        return Ok(None);
+    };
+    Ok(fields.finish(Event::Queryable {
+        origin,
+        complete,
+        key,
+    }))
+}
+
+/// `undeclare key KEY`, and `undeclare`, a kind and `N`
+#[tactic(auto, unfolding(crate::specs::Grammar::undeclare_of))]
 fn parse_undeclare(alloc: Global, fields: &mut Fields<'_>) -> Result<Option<Event>, AllocError>
     ensures { IfOk result (λ found. found ≡ undeclare_of fields.old) }
 {
@@ -112,9 +144,7 @@ fn parse_undeclare(alloc: Global, fields: &mut Fields<'_>) -> Result<Option<Even
     };
     match word {
         "key" => parse_undeclare_key(alloc, fields),
-        "sub" => Ok(parse_undeclare_entity(EntityKind::Sub, fields)),
-        "pub" => Ok(parse_undeclare_entity(EntityKind::Pub, fields)),
-        _ => Ok(None),
+        _ => Ok(parse_undeclare_entity(word, fields)),
     }
 }
 
@@ -131,22 +161,20 @@ fn parse_undeclare_key(alloc: Global, fields: &mut Fields<'_>) -> Result<Option<
 
 /// `N`, behind `undeclare` and a kind
 #[tactic(auto, unfolding(crate::specs::Parts::form))]
-fn parse_undeclare_entity(kind: EntityKind, fields: &mut Fields<'_>) -> Option<Event>
-    ensures { result ≡ form (number u32_max ∷ []) (Undeclare kind) fields.old }
+fn parse_undeclare_entity(word: &str, fields: &mut Fields<'_>) -> Option<Event>
+    ensures { result ≡ undeclare_entity_of word.now fields.old }
 {
+    let kind = parse_entity_kind(word)?;
     let id = fields.id()?;
     fields.finish(Event::Undeclare { kind, id })
 }
 
-/// `background sub N`
-#[tactic(auto, unfolding(crate::specs::Parts::form, crate::specs::Grammar::background_of))]
+/// `background`, a kind and `N`
+#[tactic(auto, unfolding(crate::specs::Parts::form))]
 fn parse_background(fields: &mut Fields<'_>) -> Option<Event>
     ensures { result ≡ background_of fields.old }
 {
-    let kind = match fields.next()? {
-        "sub" => BackgroundKind::Sub,
-        _ => return None,
-    };
+    let kind = fields.background_kind()?;
     let id = fields.id()?;
     fields.finish(Event::Background { kind, id })
 }
@@ -242,6 +270,42 @@ fn parse_publisher_delete(
         attachment: fields.attachment(alloc)?,
     };
     Ok(fields.finish(event))
+}
+
+/// `get LOC SELECTOR` and its options
+#[tactic(auto, unfolding(crate::specs::Parts::form))]
+fn parse_get(alloc: Global, fields: &mut Fields<'_>) -> Result<Option<Event>, AllocError>
+    ensures { IfOk result (λ found. found ≡ get_of fields.old) }
+{
+    let Some(destination) = fields.locality() else {
+        return Ok(None);
+    };
+    let Some((key, parameters)) = fields.selector(alloc)? else {
+        return Ok(None);
+    };
+    let event = Event::Get {
+        destination,
+        key,
+        parameters,
+        target: fields.target(),
+        consolidation: fields.consolidation(),
+        timeout: fields.timeout(),
+        value: fields.value(alloc)?,
+        qos: fields.qos(1, CongestionControl::Block),
+        source: fields.source(),
+        attachment: fields.attachment(alloc)?,
+        any_key: fields.any_key(),
+    };
+    Ok(fields.finish(event))
+}
+
+/// `tick N`
+#[tactic(auto, unfolding(crate::specs::Parts::form))]
+fn parse_tick(fields: &mut Fields<'_>) -> Option<Event>
+    ensures { result ≡ tick_of fields.old }
+{
+    let now = fields.moment()?;
+    fields.finish(Event::Tick { now })
 }
 
 /// `close`

@@ -4,7 +4,8 @@ ghost use Rattle.std.specs.Prelude.{◌≡◌, [], ◌∷◌, ◌++◌, OnOk, op
 ghost use Rattle.std.specs.String.{string_bytes};
 ghost use Rattle.zs_wire.specs.declared.message.Message.TheVariants.{DeclareKeyExpr, DeclareSubscriber, DeclareQueryable, DeclareToken, UndeclareToken, Interest};
 ghost use Rattle.zs_script.specs.Pieces.{word, number, wire, payload, encoding, source, attachment, interest, pieces_text};
-ghost use Rattle.zs_script.specs.Printing.{naming, verb_pieces, push_options, push_pieces, query_pieces, query_options, request_pieces, reply_pieces, reply_error_pieces, answered_pieces, response_pieces, message_pieces};
+ghost use Rattle.zs_script.specs.Symbols.{naming};
+ghost use Rattle.zs_script.specs.Printing.{verb_pieces, push_options, push_pieces, query_pieces, query_options, request_pieces, reply_pieces, reply_error_pieces, answered_pieces, response_pieces, message_pieces};
 
 use crate::piece_printing::{
     append_attachment, append_consolidation, append_encoding, append_interest, append_number,
@@ -228,7 +229,7 @@ fn append_request(out: &mut String, request: &Request) -> Result<(), AllocError>
 fn append_query(out: &mut String, request: &Request) -> Result<(), AllocError>
     ensures { OnOk result (string_bytes out.new ≡ string_bytes out.old ++ pieces_text (query_pieces request.now)) }
 {
-    append_parameters(out, &request.parameters)?;
+    append_parameters(out, request.parameters.as_str())?;
     append_target(out, request.target)?;
     append_consolidation(out, request.consolidation)?;
     append_timeout(out, request.timeout)

@@ -5,6 +5,8 @@ ghost use Rattle.zs_script.specs.Grammar.{net_of, net_close_of, key_expr_of, unk
 
 use crate::options::default_encoding;
 use crate::parts::Fields;
+use crate::requests::parse_request;
+use crate::responses::{parse_response, parse_response_final};
 use std::alloc::{AllocError, Global};
 use zs_events::Event;
 use zs_sample::{SampleKind, ZBytes};
@@ -22,6 +24,9 @@ pub(crate) fn parse_net(alloc: Global, fields: &mut Fields<'_>) -> Result<Option
         "keyexpr" => parse_key_expr(alloc, fields),
         "unkeyexpr" => Ok(parse_unkey_expr(fields)),
         "push" => parse_push(alloc, fields),
+        "request" => parse_request(alloc, fields),
+        "response" => parse_response(alloc, fields),
+        "responsefinal" => Ok(parse_response_final(fields)),
         "close" => Ok(parse_net_close(fields)),
         _ => Ok(None),
     }

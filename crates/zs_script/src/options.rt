@@ -1,14 +1,14 @@
 //! The values of options, each read from the text behind its name.
 
-ghost use Rattle.std.specs.Prelude.{◌≡◌, IfOk, Some};
+ghost use Rattle.std.specs.Prelude.{◌≡◌, [], IfOk, Some};
 ghost use Rattle.zs_events.specs.Kinds.{default_encoding};
-ghost use Rattle.zs_script.specs.Options.{timestamp_of, two_numbers_of, source_of, encoding_text_of, priority_of, congestion_of, flag_of};
+ghost use Rattle.zs_script.specs.Options.{timestamp_of, entity_of, two_numbers_of, source_of, encoding_text_of, priority_of, congestion_of, flag_of, target_of, consolidation_of, any_key_of, value_of};
 
 use crate::numbers::{parse_hex, parse_number};
 use crate::symbols::parse_id;
 use std::alloc::{AllocError, Global};
-use zs_sample::Text;
-use zs_wire::{CongestionControl, EntityGlobalId, SourceInfo, Timestamp};
+use zs_sample::{ConsolidationMode, QueryTarget, Text, ZBytes};
+use zs_wire::{CongestionControl, EntityGlobalId, SourceInfo, Timestamp, Value};
 
 /// `N:HEX`, a time and who took it.
 pub(crate) fn parse_timestamp(text: &str) -> Option<Timestamp>
@@ -18,6 +18,16 @@ pub(crate) fn parse_timestamp(text: &str) -> Option<Timestamp>
     let time = parse_number(u64::MAX, time.as_bytes())?;
     let id = parse_hex(id.as_bytes())?;
     Some(Timestamp { time, id })
+}
+
+/// `HEX:N`, a session and an entity of it.
+pub(crate) fn parse_entity(text: &str) -> Option<EntityGlobalId>
+    ensures { result ≡ entity_of text.now }
+{
+    let (zid, eid) = text.split_once(':')?;
+    let zid = parse_hex(zid.as_bytes())?;
+    let eid = parse_id(eid)?;
+    Some(EntityGlobalId { zid, eid })
 }
 
 /// `N:N`
@@ -48,6 +58,13 @@ pub(crate) fn default_encoding() -> Text
     ensures { result ≡ default_encoding }
 {
     Text::fixed("zenoh/bytes")
+}
+
+/// A text without a character.
+pub(crate) fn empty_text() -> Text
+    ensures { result ≡ [] }
+{
+    Text::fixed("")
 }
 
 /// An encoding: the empty text is the default.
@@ -92,5 +109,58 @@ pub(crate) fn parse_flag(text: &str) -> Option<bool>
         "0" => Some(false),
         "1" => Some(true),
         _ => None,
+    }
+}
+
+/// A word for whom a query reaches.
+pub(crate) fn parse_target(text: &str) -> Option<QueryTarget>
+    ensures { result ≡ target_of text.now }
+{
+    match text {
+        "best" => Some(QueryTarget::BestMatching),
+        "all" => Some(QueryTarget::All),
+        "allcomplete" => Some(QueryTarget::AllComplete),
+        _ => None,
+    }
+}
+
+/// A word for which replies of a query are kept.
+pub(crate) fn parse_consolidation(text: &str) -> Option<ConsolidationMode>
+    ensures { result ≡ consolidation_of text.now }
+{
+    match text {
+        "auto" => Some(ConsolidationMode::Auto),
+        "none" => Some(ConsolidationMode::None),
+        "monotonic" => Some(ConsolidationMode::Monotonic),
+        "latest" => Some(ConsolidationMode::Latest),
+        _ => None,
+    }
+}
+
+/// The word by which a query takes replies on any key.
+pub(crate) fn parse_any_key(text: &str) -> Option<bool>
+    ensures { result ≡ any_key_of text.now }
+{
+    match text {
+        "any" => Some(true),
+        _ => None,
+    }
+}
+
+/// A value, where its payload or its encoding is given: the other is then empty or the default.
+pub(crate) fn value_of(payload: Option<ZBytes>, encoding: Option<Text>) -> Option<Value>
+    ensures { result ≡ value_of payload encoding }
+{
+    match (payload, encoding) {
+        (None, None) => None,
+        (None, Some(encoding)) => Some(Value {
+            payload: ZBytes::new(),
+            encoding,
+        }),
+        (Some(payload), None) => Some(Value {
+            payload,
+            encoding: default_encoding(),
+        }),
+        (Some(payload), Some(encoding)) => Some(Value { payload, encoding }),
     }
 }

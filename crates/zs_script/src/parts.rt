@@ -1,22 +1,25 @@
 //! The parts that the forms of lines are made of, each read off the front of a line's fields.
 
 ghost use Rattle.std.specs.Prelude.{◌≡◌, [], Some, IfOk, option_map, codes};
-ghost use Rattle.zs_script.specs.Options.{priority_of, congestion_of, flag_of};
-ghost use Rattle.zs_script.specs.Symbols.{u16_max, u32_max};
-ghost use Rattle.zs_script.specs.Parts.{first_of, behind, named_in, option_in, number, locality, key, wire, payload, encoding, own_encoding, timestamp, qos, reliable, source, attachment, read, form};
+ghost use Rattle.zs_script.specs.Options.{encoding_text_of, priority_of, congestion_of, flag_of};
+ghost use Rattle.zs_script.specs.Symbols.{u16_max, u32_max, u64_max, payload_of};
+ghost use Rattle.zs_script.specs.Parts.{first_of, behind, named_in, option_in, maybe_in, number, locality, background_kind, complete, key, selector, wire, payload, parameters, target, consolidation, timeout, value as given, encoding, own_encoding, timestamp, qos, own_priority, own_congestion, own_express, reliable, source, attachment, responder, any_key, read, form};
 
+use crate::numbers::parse_number;
 use crate::options::{
-    default_encoding, parse_congestion, parse_encoding, parse_flag, parse_priority, parse_source,
-    parse_timestamp,
+    default_encoding, empty_text, parse_any_key, parse_congestion, parse_consolidation,
+    parse_encoding, parse_entity, parse_flag, parse_priority, parse_source, parse_target,
+    parse_timestamp, value_of,
 };
 use crate::symbols::{
-    after_prefix, parse_id, parse_key, parse_key_number, parse_locality, parse_payload, parse_wire,
+    after_prefix, parse_background_kind, parse_complete, parse_id, parse_key, parse_key_number,
+    parse_locality, parse_payload, parse_selector, parse_wire,
 };
 use std::alloc::{AllocError, Global};
 use std::marker::Model;
-use zs_events::{Event, KeyArg};
-use zs_sample::{Locality, Text, ZBytes};
-use zs_wire::{CongestionControl, QoSType, SourceInfo, Timestamp, WireExpr};
+use zs_events::{BackgroundKind, Event, KeyArg};
+use zs_sample::{ConsolidationMode, Locality, QueryTarget, Text, ZBytes};
+use zs_wire::{CongestionControl, EntityGlobalId, QoSType, SourceInfo, Timestamp, Value, WireExpr};
 
 /// The fields of a line that are left. Contracts see their texts.
 #[derive(Drop)]
@@ -102,11 +105,36 @@ impl<'a> Fields<'a> {
     }
 
     #[tactic(auto, unfolding(crate::specs::Parts::read))]
+    pub(crate) fn moment(&mut self) -> Option<u64>
+        ensures { read (number u64_max) self.old ≡ option_map (λ value. (value, self.new)) result }
+    {
+        let field = self.next()?;
+        parse_number(u64::MAX, field.as_bytes())
+    }
+
+    #[tactic(auto, unfolding(crate::specs::Parts::read))]
     pub(crate) fn locality(&mut self) -> Option<Locality>
         ensures { read locality self.old ≡ option_map (λ value. (value, self.new)) result }
     {
         let field = self.next()?;
         parse_locality(field)
+    }
+
+    #[tactic(auto, unfolding(crate::specs::Parts::read))]
+    pub(crate) fn background_kind(&mut self) -> Option<BackgroundKind>
+        ensures { read background_kind self.old ≡ option_map (λ value. (value, self.new)) result }
+    {
+        let field = self.next()?;
+        parse_background_kind(field)
+    }
+
+    /// Whether a queryable has all that is there.
+    #[tactic(auto, unfolding(crate::specs::Parts::read))]
+    pub(crate) fn complete(&mut self) -> Option<bool>
+        ensures { read complete self.old ≡ option_map (λ value. (value, self.new)) result }
+    {
+        let field = self.next()?;
+        parse_complete(field)
     }
 
     #[tactic(auto, unfolding(crate::specs::Parts::read))]
@@ -117,6 +145,17 @@ impl<'a> Fields<'a> {
             return Ok(None);
         };
         Ok(Some(parse_key(alloc, field)?))
+    }
+
+    /// A key and the parameters behind it.
+    #[tactic(auto, unfolding(crate::specs::Parts::read))]
+    pub(crate) fn selector(&mut self, alloc: Global) -> Result<Option<(KeyArg, Text)>, AllocError>
+        ensures { IfOk result (λ found. read selector self.old ≡ option_map (λ value. (value, self.new)) found) }
+    {
+        let Some(field) = self.next() else {
+            return Ok(None);
+        };
+        Ok(Some(parse_selector(alloc, field)?))
     }
 
     #[tactic(auto, unfolding(crate::specs::Parts::read))]
@@ -157,6 +196,12 @@ impl<'a> Fields<'a> {
     #[tactic(auto, unfolding(crate::specs::Parts::read))]
     pub(crate) fn own_encoding(&mut self, alloc: Global) -> Result<Option<Text>, AllocError>
         ensures { IfOk result (λ value. read own_encoding self.old ≡ Some (value, self.new)) }
+    {
+        self.encoding_if(alloc)
+    }
+
+    fn encoding_if(&mut self, alloc: Global) -> Result<Option<Text>, AllocError>
+        ensures { IfOk result (λ value. maybe_in (codes "enc=") encoding_text_of self.old ≡ (value, self.new)) }
     {
         let Some(text) = self.named("enc=") else {
             return Ok(None);
@@ -246,7 +291,13 @@ impl<'a> Fields<'a> {
     pub(crate) fn attachment(&mut self, alloc: Global) -> Result<Option<ZBytes>, AllocError>
         ensures { IfOk result (λ value. read attachment self.old ≡ Some (value, self.new)) }
     {
-        let Some(text) = self.named("att=") else {
+        self.bytes(alloc, "att=")
+    }
+
+    fn bytes(&mut self, alloc: Global, name: &str) -> Result<Option<ZBytes>, AllocError>
+        ensures { IfOk result (λ value. maybe_in name.now payload_of self.old ≡ (value, self.new)) }
+    {
+        let Some(text) = self.named(name) else {
             return Ok(None);
         };
         let Some(found) = parse_payload(alloc, text)? else {
@@ -254,5 +305,120 @@ impl<'a> Fields<'a> {
         };
         self.skip();
         Ok(Some(found))
+    }
+}
+
+/// Options of queries and of what they are answered.
+impl<'a> Fields<'a> {
+    #[tactic(auto, unfolding(crate::specs::Parts::read))]
+    pub(crate) fn parameters(&mut self, alloc: Global) -> Result<Text, AllocError>
+        ensures { IfOk result (λ value. read parameters self.old ≡ Some (value, self.new)) }
+    {
+        let Some(text) = self.named("params=") else {
+            return Ok(empty_text());
+        };
+        let found = Text::of(alloc, text)?;
+        self.skip();
+        Ok(found)
+    }
+
+    #[tactic(auto, unfolding(crate::specs::Parts::read))]
+    pub(crate) fn target(&mut self) -> QueryTarget
+        ensures { read target self.old ≡ Some (result, self.new) }
+    {
+        let Some(text) = self.named("target=") else {
+            return QueryTarget::BestMatching;
+        };
+        let Some(found) = parse_target(text) else {
+            return QueryTarget::BestMatching;
+        };
+        self.skip();
+        found
+    }
+
+    #[tactic(auto, unfolding(crate::specs::Parts::read))]
+    pub(crate) fn consolidation(&mut self) -> ConsolidationMode
+        ensures { read consolidation self.old ≡ Some (result, self.new) }
+    {
+        let Some(text) = self.named("cons=") else {
+            return ConsolidationMode::Auto;
+        };
+        let Some(found) = parse_consolidation(text) else {
+            return ConsolidationMode::Auto;
+        };
+        self.skip();
+        found
+    }
+
+    #[tactic(auto, unfolding(crate::specs::Parts::read))]
+    pub(crate) fn timeout(&mut self) -> Option<u64>
+        ensures { read timeout self.old ≡ Some (result, self.new) }
+    {
+        let found = parse_number(u64::MAX, self.named("timeout=")?.as_bytes())?;
+        self.skip();
+        Some(found)
+    }
+
+    /// A value: its payload and its encoding, of which one alone is enough.
+    #[tactic(auto, unfolding(crate::specs::Parts::read))]
+    pub(crate) fn value(&mut self, alloc: Global) -> Result<Option<Value>, AllocError>
+        ensures { IfOk result (λ value. read given self.old ≡ Some (value, self.new)) }
+    {
+        let payload = self.bytes(alloc, "payload=")?;
+        let encoding = self.encoding_if(alloc)?;
+        Ok(value_of(payload, encoding))
+    }
+
+    /// A priority of its own, if it is given.
+    #[tactic(auto, unfolding(crate::specs::Parts::read))]
+    pub(crate) fn own_priority(&mut self) -> Option<u8>
+        ensures { read own_priority self.old ≡ Some (result, self.new) }
+    {
+        let found = parse_priority(1, self.named("prio=")?)?;
+        self.skip();
+        Some(found)
+    }
+
+    #[tactic(auto, unfolding(crate::specs::Parts::read))]
+    pub(crate) fn own_congestion(&mut self) -> Option<CongestionControl>
+        ensures { read own_congestion self.old ≡ Some (result, self.new) }
+    {
+        let found = parse_congestion(self.named("cc=")?)?;
+        self.skip();
+        Some(found)
+    }
+
+    #[tactic(auto, unfolding(crate::specs::Parts::read))]
+    pub(crate) fn own_express(&mut self) -> Option<bool>
+        ensures { read own_express self.old ≡ Some (result, self.new) }
+    {
+        let found = parse_flag(self.named("express=")?)?;
+        self.skip();
+        Some(found)
+    }
+
+    /// Who replied.
+    #[tactic(auto, unfolding(crate::specs::Parts::read))]
+    pub(crate) fn responder(&mut self) -> Option<EntityGlobalId>
+        ensures { read responder self.old ≡ Some (result, self.new) }
+    {
+        let found = parse_entity(self.named("by=")?)?;
+        self.skip();
+        Some(found)
+    }
+
+    /// Whether replies are taken on any key.
+    #[tactic(auto, unfolding(crate::specs::Parts::read))]
+    pub(crate) fn any_key(&mut self) -> bool
+        ensures { read any_key self.old ≡ Some (result, self.new) }
+    {
+        let Some(text) = self.named("accept=") else {
+            return false;
+        };
+        let Some(found) = parse_any_key(text) else {
+            return false;
+        };
+        self.skip();
+        found
     }
 }

@@ -4,7 +4,7 @@ ghost use Rattle.std.specs.Prelude.{◌≡◌, ◌++◌, OnOk};
 ghost use Rattle.std.specs.Option.{option_copied};
 ghost use Rattle.std.specs.String.{string_bytes};
 ghost use Rattle.zs_script.specs.Words.{wire_text, entity_text};
-ghost use Rattle.zs_script.specs.Pieces.{piece_text, word, number, wire, wire_if, payload, parameters, target, consolidation, timeout, value, encoding, timestamp, qos, reliable, source, attachment, responder, interest};
+ghost use Rattle.zs_script.specs.Pieces.{piece_text, word, number, wire, wire_if, payload, parameters, target, consolidation, timeout, value, payload_if, encoding, encoding_if, timestamp, qos, reliable, source, attachment, responder, interest};
 
 use crate::digits::{append_bytes, append_hex};
 use crate::words::{congestion_word, consolidation_word, flag_digit, target_word};
@@ -70,13 +70,12 @@ pub(crate) fn append_payload(out: &mut String, bytes: &ZBytes) -> Result<(), All
 }
 
 #[tactic(auto, unfolding(crate::specs::Pieces::written, crate::specs::Pieces::piece_text))]
-pub(crate) fn append_parameters(out: &mut String, text: &Text) -> Result<(), AllocError>
+pub(crate) fn append_parameters(out: &mut String, text: &str) -> Result<(), AllocError>
     ensures { OnOk result (string_bytes out.new ≡ string_bytes out.old ++ piece_text (parameters text.now)) }
 {
     if text.is_empty() {
         return Ok(());
     }
-    let text = text.as_str();
     write!(out, "\tparams={text}")
 }
 
@@ -127,7 +126,34 @@ pub(crate) fn append_encoding(out: &mut String, text: &Text) -> Result<(), Alloc
     out.push_str(text.as_str())
 }
 
-/// The encoding of a sample.
+/// The payload of a value, if there is one.
+#[tactic(auto, using(crate::proofs::Joining::joining), unfolding(crate::specs::Pieces::written, crate::specs::Pieces::piece_text))]
+pub(crate) fn append_payload_if(out: &mut String, bytes: Option<&ZBytes>) -> Result<(), AllocError>
+    ensures { OnOk result (string_bytes out.new ≡ string_bytes out.old ++ piece_text (payload_if (option_copied bytes.entry))) }
+{
+    let Some(bytes) = bytes else {
+        return Ok(());
+    };
+    write!(out, "\tpayload=")?;
+    append_bytes(out, bytes)
+}
+
+/// The encoding of a value, if there is one.
+#[tactic(auto, using(crate::proofs::Joining::joining), unfolding(crate::specs::Pieces::written, crate::specs::Pieces::piece_text))]
+pub(crate) fn append_encoding_if(
+    out: &mut String,
+    name: Option<&Encoding>,
+) -> Result<(), AllocError>
+    ensures { OnOk result (string_bytes out.new ≡ string_bytes out.old ++ piece_text (encoding_if (option_copied name.entry))) }
+{
+    let Some(name) = name else {
+        return Ok(());
+    };
+    out.push_str("\tenc=")?;
+    out.push_str(name.as_str())
+}
+
+/// The encoding of a sample, or of an error.
 #[tactic(auto, using(crate::proofs::Joining::joining), unfolding(crate::specs::Pieces::written, crate::specs::Pieces::piece_text))]
 pub(crate) fn append_sample_encoding(out: &mut String, name: &Encoding) -> Result<(), AllocError>
     ensures { OnOk result (string_bytes out.new ≡ string_bytes out.old ++ piece_text (encoding name.now)) }

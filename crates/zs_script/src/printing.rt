@@ -2,20 +2,22 @@
 
 ghost use Rattle.std.specs.Prelude.{◌≡◌, [], ◌∷◌, ◌++◌, IfOk, OnOk, flat_map, encode_utf8_all};
 ghost use Rattle.std.specs.String.{string_bytes};
-ghost use Rattle.zs_script.specs.Pieces.{word, number, pieces_text};
+ghost use Rattle.zs_script.specs.Pieces.{word, number, responder, pieces_text};
 ghost use Rattle.zs_events.specs.declared.turn.Effect.TheVariants.{Send, Hand};
-ghost use Rattle.zs_script.specs.Printing.{line, turn_text, answer_fields, effect_fields, effect_pieces, sample_qos, sample_head, sample_options, sample_pieces, hand_pieces};
+ghost use Rattle.zs_script.specs.Printing.{line, turn_text, answer_fields, effect_fields, effect_pieces, sample_qos, sample_head, sample_options, sample_pieces, hand_pieces, error_pieces, replied_pieces, asked_qos, asked_head, asked_options, queried_pieces};
 ghost use Rattle.zs_script.specs.Words.{kind_word};
 
 use crate::message_printing::append_message;
 use crate::piece_printing::{
-    append_attachment, append_number, append_payload, append_qos, append_reliable,
-    append_sample_encoding, append_source, append_timestamp, append_word,
+    append_attachment, append_encoding_if, append_number, append_parameters, append_payload,
+    append_payload_if, append_qos, append_reliable, append_responder, append_sample_encoding,
+    append_source, append_timestamp, append_word,
 };
 use crate::words::{is_reliable, kind_word, refusal_name, sample_word};
 use std::alloc::{AllocError, Global};
 use zs_events::{Answer, Effect, HandOver, Kind, Turn};
-use zs_sample::{QoSType, Sample, Text};
+use zs_query::QueryData;
+use zs_sample::{QoSType, Reply, ReplyError, Sample, Text};
 use zs_wire::Message;
 
 /// The output lines of a turn: the answer, and each effect. `number` is the event's, from 1.
@@ -85,6 +87,8 @@ fn append_hand_over(out: &mut String, hand: &HandOver) -> Result<(), AllocError>
 {
     match hand {
         HandOver::Sample { kind, id, sample } => append_hand(out, *kind, *id, sample),
+        HandOver::Reply { kind, id, reply } => append_replied(out, *kind, *id, reply),
+        HandOver::Query { id, value, query } => append_queried(out, *id, *value, query),
     }
 }
 
@@ -114,6 +118,29 @@ fn append_hand(out: &mut String, kind: Kind, id: u32, sample: &Sample) -> Result
 {
     append_of(out, "hand", kind, id)?;
     append_sample(out, sample)
+}
+
+/// A reply that a get is handed, and who sent it.
+#[tactic(auto, using(crate::proofs::Joining::joining), unfolding(crate::specs::Printing::replied_pieces))]
+fn append_replied(out: &mut String, kind: Kind, id: u32, reply: &Reply) -> Result<(), AllocError>
+    ensures { OnOk result (string_bytes out.new
+        ≡ string_bytes out.old ++ pieces_text (replied_pieces kind id reply.now)) }
+{
+    append_of(out, "reply", kind, id)?;
+    match reply.result() {
+        Ok(sample) => append_sample(out, sample)?,
+        Err(error) => append_error(out, error)?,
+    }
+    append_responder(out, reply.replier_id())
+}
+
+#[tactic(auto, using(crate::proofs::Joining::joining))]
+fn append_error(out: &mut String, error: &ReplyError) -> Result<(), AllocError>
+    ensures { OnOk result (string_bytes out.new ≡ string_bytes out.old ++ pieces_text (error_pieces error.now)) }
+{
+    append_word(out, "err")?;
+    append_payload(out, error.payload())?;
+    append_sample_encoding(out, error.encoding())
 }
 
 #[tactic(auto, using(crate::proofs::Joining::joining))]
@@ -153,5 +180,52 @@ fn sample_qos(sample: &Sample) -> QoSType
         priority: sample.priority().number(),
         congestion: sample.congestion_control(),
         express: sample.express(),
+    }
+}
+
+/// A query that a queryable is handed, with the number under which it is answered.
+#[tactic(auto, using(crate::proofs::Joining::joining), unfolding(crate::specs::Printing::queried_pieces))]
+fn append_queried(
+    out: &mut String,
+    id: u32,
+    count: u32,
+    query: &QueryData,
+) -> Result<(), AllocError>
+    ensures { OnOk result (string_bytes out.new
+        ≡ string_bytes out.old ++ pieces_text (queried_pieces id count query.now)) }
+{
+    append_of(out, "hand", Kind::Queryable, id)?;
+    append_number(out, count)?;
+    append_asked_head(out, query)?;
+    append_asked_options(out, query)
+}
+
+#[tactic(auto, using(crate::proofs::Joining::joining))]
+fn append_asked_head(out: &mut String, query: &QueryData) -> Result<(), AllocError>
+    ensures { OnOk result (string_bytes out.new ≡ string_bytes out.old ++ pieces_text (asked_head query.now)) }
+{
+    append_word(out, query.key_expr().as_str())?;
+    append_parameters(out, query.parameters().as_str())?;
+    append_payload_if(out, query.payload())?;
+    append_encoding_if(out, query.encoding())
+}
+
+#[tactic(auto, using(crate::proofs::Joining::joining))]
+fn append_asked_options(out: &mut String, query: &QueryData) -> Result<(), AllocError>
+    ensures { OnOk result (string_bytes out.new ≡ string_bytes out.old ++ pieces_text (asked_options query.now)) }
+{
+    append_qos(out, asked_qos(query))?;
+    append_source(out, query.source_info().copied())?;
+    append_attachment(out, query.attachment())
+}
+
+/// The quality of service of a query.
+fn asked_qos(query: &QueryData) -> QoSType
+    ensures { result ≡ asked_qos query.now }
+{
+    QoSType {
+        priority: query.priority().number(),
+        congestion: query.congestion_control(),
+        express: query.express(),
     }
 }

@@ -1,13 +1,14 @@
 //! The symbols that the forms of lines are made of, each read from one field.
 
-ghost use Rattle.std.specs.Prelude.{◌≡◌, IfOk, option_map};
+ghost use Rattle.std.specs.Prelude.{◌≡◌, ◌==◌, IfOk, option_map};
 ghost use Rattle.std.specs.List.{before_first, after_first};
-ghost use Rattle.zs_script.specs.Symbols.{number_of, u16_max, u32_max, locality_of, is_colon, numbered_of, key_of, payload_of, after_prefix, scoped_of, wire_of};
+ghost use Rattle.zs_script.specs.Parts.{selector_of};
+ghost use Rattle.zs_script.specs.Symbols.{number_of, u16_max, u32_max, locality_of, entity_kind_of, background_kind_of, complete_of, is_colon, numbered_of, key_of, payload_of, after_prefix, scoped_of, wire_of};
 
 use crate::numbers::parse_number;
 use hex::FromHexError;
 use std::alloc::{AllocError, Global};
-use zs_events::KeyArg;
+use zs_events::{BackgroundKind, EntityKind, KeyArg};
 use zs_sample::{Locality, Text, ZBytes};
 use zs_wire::{Mapping, WireExpr};
 
@@ -51,6 +52,40 @@ pub(crate) fn parse_locality(field: &str) -> Option<Locality>
     }
 }
 
+/// A word for what can be undeclared by its number.
+pub(crate) fn parse_entity_kind(field: &str) -> Option<EntityKind>
+    ensures { result ≡ entity_kind_of field.now }
+{
+    match field {
+        "sub" => Some(EntityKind::Sub),
+        "pub" => Some(EntityKind::Pub),
+        "queryable" => Some(EntityKind::Queryable),
+        _ => None,
+    }
+}
+
+/// A word for what can be left to itself.
+pub(crate) fn parse_background_kind(field: &str) -> Option<BackgroundKind>
+    ensures { result ≡ background_kind_of field.now }
+{
+    match field {
+        "sub" => Some(BackgroundKind::Sub),
+        "queryable" => Some(BackgroundKind::Queryable),
+        _ => None,
+    }
+}
+
+/// A word for whether a queryable has all that is there.
+pub(crate) fn parse_complete(field: &str) -> Option<bool>
+    ensures { result ≡ complete_of field.now }
+{
+    match field {
+        "complete" => Some(true),
+        "partial" => Some(false),
+        _ => None,
+    }
+}
+
 /// A key: a declared number where the field has that form, and else a text.
 pub(crate) fn parse_key(alloc: Global, field: &str) -> Result<KeyArg, AllocError>
     ensures { IfOk result (λ key. key ≡ key_of field.now) }
@@ -59,6 +94,26 @@ pub(crate) fn parse_key(alloc: Global, field: &str) -> Result<KeyArg, AllocError
         return Ok(key);
     }
     Ok(KeyArg::Text(Text::of(alloc, field)?))
+}
+
+/// A key, and the parameters behind its first `?`.
+pub(crate) fn parse_selector(alloc: Global, field: &str) -> Result<(KeyArg, Text), AllocError>
+    ensures { IfOk result (λ found. found ≡ selector_of field.now) }
+{
+    let (key, parameters) = cut_at_question(field);
+    let key = parse_key(alloc, key)?;
+    Ok((key, Text::of(alloc, parameters)?))
+}
+
+/// What stands before the first `?`, and what behind it; all and nothing where there is none.
+fn cut_at_question(text: &str) -> (&str, &str)
+    ensures before { result.0.now ≡ before_first (λ b. b == 63) text.now }
+    ensures behind { result.1.now ≡ after_first (λ b. b == 63) text.now }
+{
+    match text.split_once('?') {
+        Some((before, behind)) => (before, behind),
+        None => (text, ""),
+    }
 }
 
 /// `#N` or `#N:TEXT`

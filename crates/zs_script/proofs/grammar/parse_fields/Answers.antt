@@ -8,3 +8,8 @@ pub returns-in-undeclare : goal.returns-in-undeclare
 returns-in-undeclare c =
     let first : first_of c.args.fields.now ≡ Some (codes "undeclare") = sym c.in-Some.ensures.first ∙ ap Some c.in-undeclare.is in
     rw (by-first event_by c.args.fields.now (codes "undeclare") first) (rw c.next.ensures.rest at c.parse_undeclare.ensures)
+
+pub returns-in-queryable : goal.returns-in-queryable
+returns-in-queryable c =
+    let first : first_of c.args.fields.now ≡ Some (codes "queryable") = sym c.in-Some.ensures.first ∙ ap Some c.in-queryable.is in
+    rw (by-first event_by c.args.fields.now (codes "queryable") first) (rw c.next.ensures.rest at c.parse_queryable.ensures)

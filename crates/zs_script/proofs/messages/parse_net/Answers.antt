@@ -9,3 +9,15 @@ unfolding net_of
 returns-in-push c =
     let first : first_of c.args.fields.now ≡ Some (codes "push") = sym c.in-Some.ensures.first ∙ ap Some c.in-push.is in
     rw (by-first net_by c.args.fields.now (codes "push") first) (rw c.next.ensures.rest at c.parse_push.ensures)
+
+pub returns-in-response : goal.returns-in-response
+unfolding net_of
+returns-in-response c =
+    let first : first_of c.args.fields.now ≡ Some (codes "response") = sym c.in-Some.ensures.first ∙ ap Some c.in-response.is in
+    rw (by-first net_by c.args.fields.now (codes "response") first) (rw c.next.ensures.rest at c.parse_response.ensures)
+
+pub returns-in-request : goal.returns-in-request
+unfolding net_of
+returns-in-request c =
+    let first : first_of c.args.fields.now ≡ Some (codes "request") = sym c.in-Some.ensures.first ∙ ap Some c.in-request.is in
+    rw (by-first net_by c.args.fields.now (codes "request") first) (rw c.next.ensures.rest at c.parse_request.ensures)
