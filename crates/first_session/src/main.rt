@@ -44,6 +44,17 @@ fn act(rt: &impl Print, effect: &Effect) -> Result<()> {
             let size = sample.payload().len();
             println!(rt; "subscriber {id} is handed {size} bytes on {key}")?;
         }
+        Effect::Hand(HandOver::Reply { id, reply, .. }) => match reply.result() {
+            Ok(sample) => {
+                let key = sample.key_expr().as_str();
+                println!(rt; "get {id} has a value on {key}")?;
+            }
+            Err(_) => println!(rt; "get {id} has an error")?,
+        },
+        Effect::Hand(HandOver::Query { id, query, .. }) => {
+            let key = query.key_expr().as_str();
+            println!(rt; "queryable {id} is asked for {key}")?;
+        }
         Effect::End { id, .. } => println!(rt; "{id} has ended")?,
     }
     Ok(())

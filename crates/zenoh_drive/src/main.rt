@@ -16,6 +16,10 @@ const NO_MEMORY: u8 = 8;
 
 const USAGE: &str = "\
 usage: zenoh_drive [drive [SETTING]..]  drives a session by the script on standard input
+       zenoh_drive soak SEED N          drives one in memory by a script of N puts that
+                                        SEED makes, and prints how many events it had, and
+                                        how many samples were handed, messages sent and
+                                        events refused: SEED up to 65536, N up to 100000
        zenoh_drive --help               prints this
        zenoh_drive --version            prints the version
 
@@ -26,6 +30,9 @@ their order among themselves. In brackets: what it is without.
                 up to 18446744073709551615 (1)
   entity=N      the number before that of the first entity: up to 4294967294 (1)
   key=N         the number of the first declared key: 1 to 65535 (1)
+  query=N       the number of the first get: up to 4294967295 (0)
+  timeout=N     after how many milliseconds a get ends that doesn't say it itself:
+                up to 18446744073709551615 (10000)
   line=N        the most bytes of a line: 1 to 1048576 (65536)
   turns=N       the most reads of the input: 1 to 18446744073709551615 (4294967296)
   aggsub=KEY    a key expression: subscribers on keys that it includes are told to
@@ -45,16 +52,36 @@ A script line is one event. A tab stands between its fields:
   delete LOC KEY [OPTION]..     deletes a value: ts prio cc express rel src att
   pput N BYTES [OPTION]..       a publisher puts: enc ts src att
   pdel N [OPTION]..             a publisher deletes: ts src att
+  get LOC SELECTOR [OPTION]..   asks for values, and answers the get's number:
+                                target cons timeout payload enc prio cc express src
+                                att accept
+  queryable LOC complete KEY    declares a queryable that knows all values of its key
+  queryable LOC partial KEY     declares one that need not
+  undeclare queryable N         ends it; background queryable N leaves it to itself
+  reply N KEY BYTES [OPTION]..  answers the query handed out under number N:
+                                enc ts prio cc express src att
+  replydel N KEY [OPTION]..     answers that a value is deleted: all but enc
+  replyerr N BYTES [enc=TEXT]   answers with an error
+  share N, finish N             draws one more number for the query; gives one back
+  tick N                        tells the moment, in milliseconds
   close                         closes the session, as the end of input does
   net keyexpr N WIRE            the network tells what its number N stands for
   net unkeyexpr N               it gives the number back, which changes nothing
   net push WIRE put BYTES [..]  a put comes in from the network, options as put's
   net push WIRE del [OPTION]..  a deletion comes in, options as delete's
+  net request N WIRE [OPTION]..             a query comes in: params target cons timeout
+                                payload enc prio cc express src att
+  net response N WIRE put BYTES [OPTION]..  a value for get N: enc ts prio cc express
+                                src att by
+  net response N WIRE del [OPTION]..        a deletion for it: all but enc
+  net response N WIRE err BYTES [OPTION]..  an error for it: enc prio cc express by
+  net responsefinal N           the network has no more for get N
   net close                     the other side closed, which changes nothing
 LOC is any, local or remote. KEY is a key expression, or #N or #N:TEXT for the
-declared key N with a text behind it. WIRE is s0:TEXT, or sN:TEXT for a number of
-the network, or rN:TEXT for one of this session. BYTES is x and hexadecimal
-digits, two for each byte.
+declared key N with a text behind it. SELECTOR is KEY, or KEY?TEXT with parameters
+behind the first ?. WIRE is s0:TEXT, or sN:TEXT for a number of the network, or
+rN:TEXT for one of this session. BYTES is x and hexadecimal digits, two for each
+byte.
 
 An option is a field NAME=VALUE. Options stand behind the other fields, in the order
 given, each at most once:
@@ -63,6 +90,13 @@ given, each at most once:
   express=N  0 or 1                 rel=N         0 or 1
   src=HEX:N:N  the session, the entity and a number in its sequence
   att=BYTES  bytes beside the payload
+  params=TEXT  what a selector has behind its first ?
+  target=WORD  which queryables are asked: best, all or allcomplete
+  cons=WORD    which replies on one key are handed out: auto, none, monotonic or latest
+  timeout=N    after how many milliseconds the get ends
+  payload=BYTES  what is sent with the get
+  accept=any   replies are taken on any key
+  by=HEX:N     who replies: the session and the entity
 
 Status: 0 the end was reached; 2 bad words; 3 a line is no event; 4 a line is too
 long; 5 too many reads; 6 the input failed; 7 the output failed; 8 no memory.

@@ -1,8 +1,13 @@
 pub mod Cutting
 pub mod PlainKeys
+pub mod PlainParameters
 pub mod PlainSends
+pub mod PlainValues
+pub mod PlainGets
+pub mod PlainAnswers
 pub mod Telling
 pub mod Scripts
+pub mod Soaking
 pub mod Progress
 pub mod Exits
 pub mod Completing

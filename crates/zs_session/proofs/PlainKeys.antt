@@ -14,6 +14,7 @@ use Rattle.zs_events.specs.declared.turn.Kind.TheVariants.{Publisher}
 use Rattle.zs_events.specs.declared.turn.Refusal.{Refusal}
 use Rattle.zs_sample.specs.Encoding.{encoding_of}
 use Rattle.zs_wire.specs.declared.message.Message.TheVariants.{Push}
+use Rattle.zs_wire.specs.declared.sample_kind.SampleKind.{SampleKind}
 use Rattle.zs_wire.specs.declared.sample_kind.SampleKind.TheVariants.{Put as put_kind, Delete as delete_kind}
 use Rattle.zs_wire.specs.declared.wire_expr.Mapping.{Mapping}
 use Rattle.zs_wire.specs.declared.wire_expr.Mapping.TheVariants.{Sender, Receiver}
@@ -25,6 +26,7 @@ use Rattle.zs_core.specs.Held.{declares_number, tells_number, is_held, drawn_tex
 use Rattle.zs_core.specs.Causes.{refusal_of}
 use Rattle.zs_core.specs.declared.publisher.PubRow.{PubRow}
 use Rattle.zs_core.specs.Live.{appended, declared, is_live, live_pubs}
+use Rattle.zs_core.specs.Publications.{handed_encoding}
 use Rattle.zs_core.specs.Publishers.{pub_row, pub_at, content_of, resolved}
 use Rattle.zs_session.proofs.Cutting.{all_append}
 use Rattle.zs_core.specs.Past.{entry_of, with_entry, past_of}
@@ -52,8 +54,14 @@ last_plain key text plain = field_plain text (and_parts (is_field_text text) tru
 pub joined_text : (text more : List ℕ) → IsText text → IsText more → IsText (text ++ more)
 joined_text text more a b = (plain-append text more a.0 b.0, IsUtf8-append text more a.1 b.1)
 
-abbrev AllPlain : List (List ℕ) → Type 0
+abbrev pub AllPlain : List (List ℕ) → Type 0
 AllPlain texts = AllByRecursion (λ text. is_plain_text text ≡ true) texts
+
+pub texts_plain : (texts : List (List ℕ)) → list_all is_field_text texts ≡ true → AllPlain texts
+texts_plain [] plain = tt
+texts_plain (text ∷ texts) plain =
+    let parts = and_parts (is_field_text text) (list_all is_field_text texts) plain in
+    (field_plain text parts.0, texts_plain texts parts.1)
 
 -- the encoding that an event names, if it names one
 named_encoding : (encoding : Option (List ℕ)) → list_all is_field_text (text_if encoding) ≡ true → AllPlain (text_if encoding)
@@ -71,6 +79,11 @@ unfolding lib.Utf8.encode
 plain_encoding [] plain = refl
 plain_encoding (c ∷ cs) plain = plain
 
+-- and so is the one that is handed out
+pub plain_handed : (kind : SampleKind) (encoding : List ℕ) → is_plain_text encoding ≡ true → is_plain_text (handed_encoding kind encoding) ≡ true
+plain_handed put_kind encoding plain = plain_encoding encoding plain
+plain_handed delete_kind encoding plain = default_plain
+
 -- the text that was resolved for an event is plain, and so are its own
 abbrev pub PlainEntry : Entry → Type 0
 PlainEntry x = IfSome x.text IsText × (is_plain_event x.event ≡ true)
@@ -80,7 +93,7 @@ abbrev pub PlainPast : List Entry → Type 0
 PlainPast past = AllByRecursion PlainEntry past
 
 -- what holds of all elements holds of those that pass a test, and of the first one that does
-filter_all : {X : Type 0} (P : X → Type 0) (f : X → Bool) (xs : List X) → AllByRecursion P xs → AllByRecursion P (filter f xs)
+pub filter_all : {X : Type 0} (P : X → Type 0) (f : X → Bool) (xs : List X) → AllByRecursion P xs → AllByRecursion P (filter f xs)
 filter_all P f [] all = tt
 filter_all P f (x ∷ xs) all = go (f x) (filter_all P f xs all.1)
   where

@@ -1,4 +1,4 @@
--- What is sent tells of no refusal and no hand-over, and its texts are plain.
+-- What is sent tells of no refusal and no sample handed to a subscriber, and its texts are plain.
 use Rattle.std.proofs.Common.{◌≡◌, ℕ, zero, suc, ◌==◌, ◌≤◌, ◌++◌, List, [], ◌∷◌, length, take, drop, map, filter, Bool, true, false, not, ◌&&◌, Option, Some, None, IfSome, refl, ◌∙◌, ap, subst, arith}
 use Rattle.std.specs.Prelude.{chars, if◌then◌else◌, is_some, nat_le, option_map, unwrap_or}
 use Rattle.std.specs.List.{AllByRecursion, list_all, starts_with}
@@ -9,65 +9,77 @@ use Rattle.std.proofs.lemmas.List.{length-take}
 use Rattle.std.proofs.lemmas.Str.{IsUtf8-drop, IsCharBoundary-from_take, encodes-chars}
 use Rattle.zs_keys.specs.declared.declaration.Declared.{Declared}
 use Rattle.zs_wire.specs.declared.message.Message.{Message}
-use Rattle.zs_wire.specs.declared.message.Message.TheVariants.{DeclareKeyExpr, UndeclareKeyExpr, DeclareSubscriber, Interest}
+use Rattle.zs_wire.specs.declared.message.Message.TheVariants.{DeclareKeyExpr, UndeclareKeyExpr, DeclareSubscriber, DeclareQueryable, UndeclareQueryable, Interest}
 use Rattle.zs_wire.specs.declared.interest.InterestMode.TheVariants.{CurrentFuture}
 use Rattle.zs_wire.specs.declared.interest.InterestWhat.TheVariants.{Subscribers as of_subscribers}
 use Rattle.zs_wire.specs.declared.wire_expr.WireExpr.{WireExpr}
 use Rattle.zs_tables.specs.declared.group_kind.GroupKind.{GroupKind}
 use Rattle.zs_tables.specs.declared.group_kind.GroupKind.TheVariants.{Subscribers, Publishers}
 use Rattle.zs_tables.specs.Recipients.{has_network}
+use Rattle.zs_tables.specs.declared.queryable.QueryableRow.{QueryableRow}
 use Rattle.zs_keys.specs.Key.{Key as a_key}
 use Rattle.zs_keys.specs.Matching.{includes}
 use Rattle.zs_events.specs.declared.event.Event.{Event}
-use Rattle.zs_events.specs.declared.event.Event.TheVariants.{Key, UndeclareKey, Sub, Pub, Undeclare, Close}
-use Rattle.zs_events.specs.declared.event.EntityKind.TheVariants.{Sub as sub_kind, Pub as pub_kind}
+use Rattle.zs_events.specs.declared.event.Event.TheVariants.{Key, UndeclareKey, Sub, Pub, Queryable, Undeclare, Close}
+use Rattle.zs_events.specs.declared.event.EntityKind.TheVariants.{Sub as sub_kind, Pub as pub_kind, Queryable as queryable_kind}
 use Rattle.zs_events.specs.declared.event.KeyArg.{KeyArg}
 use Rattle.zs_events.specs.declared.event.KeyArg.TheVariants.{Text, Number, Declared as declared_text}
 use Rattle.zs_events.specs.declared.turn.Effect.{Effect}
-use Rattle.zs_events.specs.declared.turn.Effect.TheVariants.{Send}
+use Rattle.zs_events.specs.declared.turn.Effect.TheVariants.{Send, Hand, End}
+use Rattle.zs_events.specs.declared.turn.HandOver.TheVariants.{Sample, Reply, Query}
 use Rattle.zs_events.specs.Kinds.{NamedKey, Publishes, NoContent, OwnContent, ByPublisher, row_of}
 use Rattle.zs_core.specs.declared.publisher.PubRow.{PubRow}
-use Rattle.zs_core.specs.Groups.{Company, Shared, aggregate_of, sub_shared, pub_shared, joins_first, last_number, first_sends, last_sends, leaving, subscriber_end, interest_end}
+use Rattle.zs_core.specs.Groups.{Company, Shared, aggregate_of, sub_shared, pub_shared, joins_first, last_number, sends_if, last_sends, leaving, subscriber_end, interest_end}
 use Rattle.zs_core.specs.Publishers.{pub_at, resolved}
 use Rattle.zs_core.specs.Subscribers.{sub_at}
-use Rattle.zs_core.specs.Effects.{Known, key_wire, group_sends}
+use Rattle.zs_core.specs.Queryables.{queryable_at}
+use Rattle.zs_core.specs.Effects.{Known, key_wire, queryable_leaves, entity_sends}
 use Rattle.zs_core.specs.Sends.{OwnKeys, group_wire, declared_by, has_front, goes_by_number, full_wire, number_wire, wire_form, declaration_of, key_sends, return_sends, return_sends_of, is_sent, push_with, publication_sends, sends_of}
 use Rattle.zs_script.specs.Pieces.{written}
-use Rattle.zs_script.specs.Printing.{effect_fields}
-use Rattle.zs_script.specs.Plain.{is_plain, is_plain_text, is_plain_effect, message_texts}
+use Rattle.zs_script.specs.Printing.{replied_pieces, queried_pieces, effect_fields}
+use Rattle.zs_script.specs.Plain.{is_plain, is_plain_text, is_plain_outcome, is_plain_query, is_plain_effect, message_texts}
 use Rattle.zs_session.specs.Telling.{are_plain_keys, tells}
 use Rattle.zs_session.proofs.Cutting.{all_append}
 use Rattle.zs_session.proofs.PlainKeys.{IsText, PlainContent, found_all}
 
--- a message with plain texts
-abbrev pub IsPlainSend : Effect → Type 0
-IsPlainSend (Send message) = list_all is_plain_text (message_texts message) ≡ true
-IsPlainSend effect = ⊥
+-- an effect that hands out no sample, with plain texts
+abbrev pub IsQuiet : Effect → Type 0
+IsQuiet (Send message) = list_all is_plain_text (message_texts message) ≡ true
+IsQuiet (Hand (Sample kind id sample)) = ⊥
+IsQuiet (Hand (Reply kind id reply)) = is_plain_outcome reply.result ≡ true
+IsQuiet (Hand (Query id value query)) = is_plain_query query ≡ true
+IsQuiet (End kind id) = Unit {0}
 
-abbrev pub PlainSends : List Effect → Type 0
-PlainSends fx = AllByRecursion IsPlainSend fx
+abbrev pub AreQuiet : List Effect → Type 0
+AreQuiet fx = AllByRecursion IsQuiet fx
 
 -- none of them tells
-send_quiet : (f : Effect) → IsPlainSend f → tells (effect_fields f) ≡ false
-unfolding written
-send_quiet (Send message) plain = refl
-send_quiet f plain = absurd plain
+quiet_one : (f : Effect) → IsQuiet f → tells (effect_fields f) ≡ false
+unfolding written replied_pieces queried_pieces
+quiet_one (Send message) plain = refl
+quiet_one (Hand (Sample kind id sample)) plain = absurd plain
+quiet_one (Hand (Reply kind id reply)) plain = refl
+quiet_one (Hand (Query id value query)) plain = refl
+quiet_one (End kind id) plain = refl
 
-pub sends_quiet : (fx : List Effect) → PlainSends fx → filter tells (map effect_fields fx) ≡ []
-sends_quiet [] all = refl
-sends_quiet (f ∷ fx) all = rw (send_quiet f all.0) (sends_quiet fx all.1)
+pub quiet_tell : (fx : List Effect) → AreQuiet fx → filter tells (map effect_fields fx) ≡ []
+quiet_tell [] all = refl
+quiet_tell (f ∷ fx) all = rw (quiet_one f all.0) (quiet_tell fx all.1)
 
 -- and all are plain
-send_plain : (f : Effect) → IsPlainSend f → is_plain_effect f ≡ true
-send_plain (Send message) plain = plain
-send_plain f plain = absurd plain
+quiet_plain : (f : Effect) → IsQuiet f → is_plain_effect f ≡ true
+quiet_plain (Send message) plain = plain
+quiet_plain (Hand (Sample kind id sample)) plain = absurd plain
+quiet_plain (Hand (Reply kind id reply)) plain = plain
+quiet_plain (Hand (Query id value query)) plain = plain
+quiet_plain (End kind id) plain = refl
 
-pub sends_plain : (fx : List Effect) → PlainSends fx → AllByRecursion (λ f. is_plain_effect f ≡ true) fx
-sends_plain [] all = tt
-sends_plain (f ∷ fx) all = (send_plain f all.0, sends_plain fx all.1)
+pub all_plain : (fx : List Effect) → AreQuiet fx → AllByRecursion (λ f. is_plain_effect f ≡ true) fx
+all_plain [] all = tt
+all_plain (f ∷ fx) all = (quiet_plain f all.0, all_plain fx all.1)
 
 -- the characters of a text are plain
-chars_plain : (text : List ℕ) → IsText text → is_plain_text (chars text) ≡ true
+pub chars_plain : (text : List ℕ) → IsText text → is_plain_text (chars text) ≡ true
 chars_plain text t = ap is_plain (encodes-chars text t.1) ∙ t.0
 
 plain_behind : (n : ℕ) (text : List ℕ) → is_plain text ≡ true → is_plain (drop n text) ≡ true
@@ -105,28 +117,28 @@ wire_plain k text (Some d) all t = go (goes_by_number k text d) refl
         chars_plain (drop d.prefix_len text) (fronted (k.text_of d.number) (all d.number) last)
 
 -- what is sent under a condition
-one_of : (b : Bool) (xs ys : List Effect) → PlainSends xs → PlainSends ys → PlainSends (if b then xs else ys)
+one_of : (b : Bool) (xs ys : List Effect) → AreQuiet xs → AreQuiet ys → AreQuiet (if b then xs else ys)
 one_of true xs ys first second = first
 one_of false xs ys first second = second
 
 -- what keys, their returns and publications send
-key_sent : (k : OwnKeys) (number : Option ℕ) (text : Option (List ℕ)) → IfSome text IsText → PlainSends (key_sends k number text)
+key_sent : (k : OwnKeys) (number : Option ℕ) (text : Option (List ℕ)) → IfSome text IsText → AreQuiet (key_sends k number text)
 key_sent k number None named = tt
 key_sent k None (Some text) named = tt
 key_sent k (Some number) (Some text) named =
     one_of (is_some (k.number_of text)) [] (Send (DeclareKeyExpr number (full_wire text)) ∷ []) tt
     (and_from (is_plain_text (chars text)) true (chars_plain text named) refl, tt)
 
-return_sent : (k : OwnKeys) (number : ℕ) → PlainSends (return_sends k number)
+return_sent : (k : OwnKeys) (number : ℕ) → AreQuiet (return_sends k number)
 return_sent k number = one_of (nat_le (k.count_of number) 1) (Send (UndeclareKeyExpr number) ∷ []) [] (refl, tt) tt
 
-return_sent_of : (k : OwnKeys) (key : KeyArg) → PlainSends (return_sends_of k key)
+return_sent_of : (k : OwnKeys) (key : KeyArg) → AreQuiet (return_sends_of k key)
 return_sent_of k (Text text) = tt
 return_sent_of k (Number number suffix) = return_sent k number
 return_sent_of k (declared_text text number prefix_len) = return_sent k number
 
 publication_sent : (k : OwnKeys) (key : NamedKey) (text : Option (List ℕ)) (p : Publishes) → AreTexts k → IfSome text IsText → PlainContent p
-    → PlainSends (publication_sends k key text p)
+    → AreQuiet (publication_sends k key text p)
 publication_sent k key text NoContent all named plain = tt
 publication_sent k key None (OwnContent c) all named plain = tt
 publication_sent k key text (ByPublisher id c) all named plain = tt
@@ -140,7 +152,7 @@ publication_sent k key (Some text) (OwnContent c) all named plain =
 
 -- what an event sends by itself
 event_sent : (k : OwnKeys) (pubs : List PubRow) (number : Option ℕ) (text : Option (List ℕ)) (e : Event) → AreTexts k → IfSome text IsText
-    → PlainContent (resolved pubs (row_of e).publishes) → PlainSends (sends_of k pubs number text e)
+    → PlainContent (resolved pubs (row_of e).publishes) → AreQuiet (sends_of k pubs number text e)
 event_sent k pubs number text (Key key) all named plain = key_sent k number text named
 event_sent k pubs number text (UndeclareKey key) all named plain = return_sent_of k key
 event_sent k pubs number text Close all named plain = (refl, tt)
@@ -167,54 +179,63 @@ group_plain keys text own all plain =
 abbrev pub ArePlainGroups : (GroupKind → Company) → Type 0
 ArePlainGroups company = (kind : GroupKind) → are_plain_keys (company kind).aggregates ≡ true
 
--- what a group's declaration, and its end, send
-first_sent : (b : Bool) (message : Message) → list_all is_plain_text (message_texts message) ≡ true → PlainSends (first_sends b message)
-first_sent true message plain = (plain, tt)
-first_sent false message plain = tt
+-- a declaration that is sent under a condition, and what is sent where an entity ends
+sent_if : (b : Bool) (message : Message) → list_all is_plain_text (message_texts message) ≡ true → AreQuiet (sends_if b message)
+sent_if true message plain = (plain, tt)
+sent_if false message plain = tt
 
-subscriber_left : (c : Company) (o : Option Shared) → PlainSends (leaving c subscriber_end o)
+subscriber_left : (c : Company) (o : Option Shared) → AreQuiet (leaving c subscriber_end o)
 subscriber_left c None = tt
 subscriber_left c (Some x) = go (last_number c x)
   where
-    go : (o : Option ℕ) → PlainSends (last_sends subscriber_end o)
+    go : (o : Option ℕ) → AreQuiet (last_sends subscriber_end o)
     go None = tt
     go (Some number) = (refl, tt)
 
-publisher_left : (c : Company) (o : Option Shared) → PlainSends (leaving c interest_end o)
+publisher_left : (c : Company) (o : Option Shared) → AreQuiet (leaving c interest_end o)
 publisher_left c None = tt
 publisher_left c (Some x) = go (last_number c x)
   where
-    go : (o : Option ℕ) → PlainSends (last_sends interest_end o)
+    go : (o : Option ℕ) → AreQuiet (last_sends interest_end o)
     go None = tt
     go (Some number) = (refl, tt)
 
-group_sent : (known : Known) (e : Event) (number : Option ℕ) (text : Option (List ℕ)) → AreTexts known.keys → ArePlainGroups known.company → IfSome text IsText
-    → PlainSends (group_sends known e number text)
-group_sent known (Sub origin key) (Some id) (Some text) all shared named =
+queryable_left : (o : Option QueryableRow) → AreQuiet (queryable_leaves o)
+queryable_left None = tt
+queryable_left (Some row) = sent_if (has_network row.origin) (UndeclareQueryable row.id) refl
+
+entity_sent : (known : Known) (e : Event) (number : Option ℕ) (text : Option (List ℕ)) → AreTexts known.keys → ArePlainGroups known.company → IfSome text IsText
+    → AreQuiet (entity_sends known e number text)
+entity_sent known (Sub origin key) (Some id) (Some text) all shared named =
     let own = key_wire known.keys text key in
     let wire = group_wire (known.company Subscribers).aggregates text own in
-    first_sent (joins_first (known.company Subscribers) (record { id = id; told = has_network origin; text = text })) (DeclareSubscriber id wire)
+    sent_if (joins_first (known.company Subscribers) (record { id = id; told = has_network origin; text = text })) (DeclareSubscriber id wire)
     (and_from (is_plain_text wire.suffix) true
     (group_plain (known.company Subscribers).aggregates text own (shared Subscribers) (wire_plain known.keys text (declared_by known.keys text key) all named)) refl)
-group_sent known (Pub destination key encoding qos reliable) (Some id) (Some text) all shared named =
+entity_sent known (Pub destination key encoding qos reliable) (Some id) (Some text) all shared named =
     let own = key_wire known.keys text key in
     let wire = group_wire (known.company Publishers).aggregates text own in
-    first_sent (joins_first (known.company Publishers) (record { id = id; told = has_network destination; text = text }))
+    sent_if (joins_first (known.company Publishers) (record { id = id; told = has_network destination; text = text }))
     (Interest id CurrentFuture of_subscribers (Some wire))
     (and_from (is_plain_text wire.suffix) true
     (group_plain (known.company Publishers).aggregates text own (shared Publishers) (wire_plain known.keys text (declared_by known.keys text key) all named)) refl)
-group_sent known (Undeclare sub_kind id) number text all shared named =
+entity_sent known (Undeclare sub_kind id) number text all shared named =
     subscriber_left (known.company Subscribers) (option_map sub_shared (sub_at id known.subs))
-group_sent known (Undeclare pub_kind id) number text all shared named =
+entity_sent known (Undeclare pub_kind id) number text all shared named =
     publisher_left (known.company Publishers) (option_map pub_shared (pub_at id known.pubs))
-group_sent known e number text all shared named = tt
+entity_sent known (Queryable origin complete key) (Some id) (Some text) all shared named =
+    let wire = key_wire known.keys text key in
+    sent_if (has_network origin) (DeclareQueryable id complete wire)
+    (and_from (is_plain_text wire.suffix) true (wire_plain known.keys text (declared_by known.keys text key) all named) refl)
+entity_sent known (Undeclare queryable_kind id) number text all shared named = queryable_left (queryable_at id known.queryables)
+entity_sent known e number text all shared named = tt
 
 -- all that an event sends
 abbrev pub sent_by : Known → Option ℕ → Option (List ℕ) → Event → List Effect
-sent_by known number text e = sends_of known.keys known.pubs number text e ++ group_sends known e number text
+sent_by known number text e = sends_of known.keys known.pubs number text e ++ entity_sends known e number text
 
 pub all_sent : (known : Known) (number : Option ℕ) (text : Option (List ℕ)) (e : Event) → AreTexts known.keys → ArePlainGroups known.company → IfSome text IsText
-    → PlainContent (resolved known.pubs (row_of e).publishes) → PlainSends (sent_by known number text e)
+    → PlainContent (resolved known.pubs (row_of e).publishes) → AreQuiet (sent_by known number text e)
 all_sent known number text e all shared named plain =
-    all_append IsPlainSend (sends_of known.keys known.pubs number text e) (group_sends known e number text)
-    (event_sent known.keys known.pubs number text e all named plain) (group_sent known e number text all shared named)
+    all_append IsQuiet (sends_of known.keys known.pubs number text e) (entity_sends known e number text)
+    (event_sent known.keys known.pubs number text e all named plain) (entity_sent known e number text all shared named)

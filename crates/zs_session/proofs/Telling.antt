@@ -7,11 +7,9 @@ use Rattle.std.proofs.lemmas.List.{append-nil, map-append}
 use Rattle.std.proofs.lemmas.List.Elements.{filter-append}
 use Rattle.zs_events.specs.declared.event.Event.{Event}
 use Rattle.zs_events.specs.declared.event.Event.TheVariants.{Undeclare, Put, Delete, PublisherPut, PublisherDelete, Close, Net}
-use Rattle.zs_events.specs.declared.event.EntityKind.TheVariants.{Sub as sub_kind, Pub as pub_kind}
+use Rattle.zs_events.specs.declared.event.EntityKind.TheVariants.{Sub as sub_kind, Pub as pub_kind, Queryable as queryable_kind}
 use Rattle.zs_tables.specs.declared.group_kind.GroupKind.TheVariants.{Subscribers, Publishers, Queriers}
 use Rattle.zs_wire.specs.declared.message.Message.TheVariants.{Push}
-use Rattle.zs_wire.specs.declared.sample_kind.SampleKind.{SampleKind}
-use Rattle.zs_wire.specs.declared.sample_kind.SampleKind.TheVariants.{Put as put_kind, Delete as delete_kind}
 use Rattle.zs_core.specs.declared.settings.Settings.{Settings}
 use Rattle.zs_events.specs.declared.turn.Answer.TheVariants.{Ok as accepted, Refused}
 use Rattle.zs_events.specs.declared.turn.Effect.{Effect}
@@ -21,19 +19,25 @@ use Rattle.zs_events.specs.declared.turn.Kind.TheVariants.{Subscriber}
 use Rattle.zs_events.specs.declared.turn.Refusal.{Refusal}
 use Rattle.zs_events.specs.declared.turn.Turn.{Turn}
 use Rattle.zs_tables.specs.declared.subscriber.SubRow.{SubRow}
+use Rattle.zs_tables.specs.declared.queryable.QueryableRow.{QueryableRow}
 use Rattle.zs_events.specs.Turn.{answered}
-use Rattle.zs_events.specs.Kinds.{Content, Publishes, NoContent, OwnContent, ByPublisher, row_of}
+use Rattle.zs_events.specs.Kinds.{Content, Publishes, NoContent, OwnContent, ByPublisher, ToGets, NoGet, Asks, Answers, EndsSide, Reaches, EndsAll, ToValues, NoValue, Requested, AnswersBy, AnswersError, SharesValue, GivesBack, row_of}
 use Rattle.zs_core.specs.Entry.{Entry, is_closed}
 use Rattle.zs_core.specs.Held.{named_text}
-use Rattle.zs_core.specs.Live.{live_subs, live_pubs}
+use Rattle.zs_core.specs.Live.{live_subs, live_pubs, live_queryables}
 use Rattle.zs_core.specs.Subscribers.{sub_ends}
-use Rattle.zs_core.specs.Publications.{Publication, allows, handed_encoding, sample_on}
+use Rattle.zs_core.specs.Queryables.{queryable_ends}
+use Rattle.zs_core.specs.Publications.{Publication, allows, sample_on}
 use Rattle.zs_core.specs.Seen.{Sight}
 use Rattle.zs_core.specs.Causes.{past_sight, holds, in_order, first_that, refusal_of}
 use Rattle.zs_core.specs.Past.{entry_of, past_of}
 use Rattle.zs_core.specs.Groups.{company_of}
 use Rattle.zs_core.specs.Publishers.{resolved}
-use Rattle.zs_core.specs.Effects.{publication_on, hands_for, hands_of, ends_of, known_of, effects_on, turn_of, effects}
+use Rattle.zs_core.specs.Effects.{publication_on, hands_for, hands_of, ends_of, draws_of, answering, own_keys_of, known_of, turn_of, effects}
+use Rattle.zs_core.specs.ValueEffects.{value_effects, with_values}
+use Rattle.zs_query.specs.declared.query_value.QueryValue.{QueryValue}
+use Rattle.zs_core.specs.Gets.{open_now}
+use Rattle.zs_core.specs.GetEffects.{request_effects, told_effects, with_gets}
 use Rattle.zs_script.specs.Lines.{lines}
 use Rattle.zs_script.specs.Pieces.{written}
 use Rattle.zs_script.specs.Printing.{hand_pieces, line, turn_text, answer_fields, effect_fields}
@@ -42,8 +46,11 @@ use Rattle.zs_script.proofs.PlainTexts.{fields-found}
 use Rattle.zs_script.proofs.PlainEffects.{answers-plain, effects-plain}
 use Rattle.zs_session.specs.Script.{text_after}
 use Rattle.zs_session.specs.Telling.{are_plain_keys, has_plain_aggregates, plain_line, tells, tells_behind, is_telling, told, published, hand_lines, refusal_or, event_lines, lines_after}
-use Rattle.zs_session.proofs.PlainKeys.{IsText, PlainPast, PlainEvents, PlainContent, default_plain, plain_encoding, content_plain, pubs_plain, held_plain, text_plain, past_plain}
-use Rattle.zs_session.proofs.PlainSends.{PlainSends, ArePlainGroups, sent_by, sends_quiet, sends_plain, all_sent}
+use Rattle.zs_session.proofs.PlainKeys.{IsText, PlainPast, PlainEvents, PlainContent, plain_handed, content_plain, pubs_plain, held_plain, text_plain, past_plain}
+use Rattle.zs_session.proofs.PlainSends.{IsQuiet, AreQuiet, ArePlainGroups, sent_by, quiet_tell, all_plain, all_sent}
+use Rattle.zs_session.proofs.PlainValues.{gets_plain, does_plain, drawn_plain, values_plain}
+use Rattle.zs_session.proofs.PlainGets.{open_plain, told_quiet, request_quiet}
+use Rattle.zs_session.proofs.PlainAnswers.{value_quiet}
 use Rattle.zs_session.proofs.Cutting.{ArePlain, all_append, lines_all}
 
 -- the fields of each line of a turn
@@ -84,46 +91,152 @@ unfolding written hand_pieces
 hands_tell n p [] = refl
 hands_tell n p (row ∷ rows) = ap (λ more. plain_line n (effect_fields (Hand (Sample Subscriber row.id p.sample))) ∷ more) (hands_tell n p rows)
 
--- no end tells
-ends_tell : (rows : List SubRow) → filter tells (map effect_fields (sub_ends rows)) ≡ []
-unfolding written
-ends_tell [] = refl
-ends_tell (row ∷ rows) = ends_tell rows
-
 publication_told : (past : List Entry) (n : ℕ) (o : Option Publication)
     → map (plain_line n) (filter tells (map effect_fields (hands_for (live_subs past) o))) ≡ hand_lines past n o
 publication_told past n None = refl
 publication_told past n (Some p) = hands_tell n p (filter (allows p) (live_subs past))
 
-ends_quiet : (rows : List SubRow) (e : Event) → telling (ends_of rows e) ≡ []
-unfolding written
-ends_quiet rows (Undeclare sub_kind id) = refl
-ends_quiet rows (Undeclare pub_kind id) = refl
-ends_quiet rows Close = ends_tell rows
-ends_quiet rows e = refl
+-- all ends are quiet
+sub_ends_quiet : (rows : List SubRow) → AreQuiet (sub_ends rows)
+sub_ends_quiet [] = tt
+sub_ends_quiet (row ∷ rows) = (tt, sub_ends_quiet rows)
+
+queryable_ends_quiet : (rows : List QueryableRow) → AreQuiet (queryable_ends rows)
+queryable_ends_quiet [] = tt
+queryable_ends_quiet (row ∷ rows) = (tt, queryable_ends_quiet rows)
+
+ends_quiet : (queryables : List QueryableRow) (rows : List SubRow) (e : Event) → AreQuiet (ends_of queryables rows e)
+ends_quiet queryables rows (Undeclare sub_kind id) = (tt, tt)
+ends_quiet queryables rows (Undeclare pub_kind id) = tt
+ends_quiet queryables rows (Undeclare queryable_kind id) = (tt, tt)
+ends_quiet queryables rows Close =
+    all_append IsQuiet (queryable_ends queryables) (sub_ends rows) (queryable_ends_quiet queryables) (sub_ends_quiet rows)
+ends_quiet queryables rows e = tt
 
 -- what an event sends behind a past, given the number that it is answered
 abbrev sent : Settings → List Entry → Option ℕ → Event → List Effect
 sent s past number e = sent_by (known_of s past) number (named_text past e) e
 
+-- what an event brings about beside what gets and query values do
+abbrev beside : Settings → List Entry → Option ℕ → Event → List Effect
+beside s past number e = sent s past number e ++ hands_of (live_subs past) (live_pubs past) (named_text past e) e ++ ends_of (live_queryables past) (live_subs past) e
+
+-- the query values that it draws, what it does with query values, what it asks, and what it tells the open gets
+abbrev draws : Settings → List Entry → Option ℕ → Event → List QueryValue
+draws s past number e = draws_of (known_of s past) number (named_text past e) e
+
+abbrev valued : Settings → List Entry → Option ℕ → Event → List Effect
+valued s past number e = value_effects (answering (known_of s past)) (row_of e).key (draws s past number e) (named_text past e) (row_of e).to_values
+
+abbrev others : Settings → List Entry → Option ℕ → Event → List Effect
+others s past number e = with_values (row_of e).to_values (beside s past number e) (valued s past number e)
+
+abbrev requested : Settings → List Entry → Option ℕ → Event → List Effect
+requested s past number e =
+    request_effects s.default_timeout (own_keys_of s past) (row_of e).key (draws s past number e) number (named_text past e) (row_of e).to_gets
+
+abbrev answers : Settings → List Entry → Event → List Effect
+answers s past e = told_effects (open_now s past) (named_text past e) (row_of e).to_gets
+
 -- what an accepted event brings about
 abbrev brought : Settings → List Entry → Option ℕ → Event → List Effect
-brought s past number e = effects_on (known_of s past) number (named_text past e) e
+brought s past number e = with_gets (row_of e).to_gets (others s past number e) (requested s past number e) (answers s past e)
 
--- the effects of an accepted event tell its hand-overs
-effects_told : (s : Settings) (past : List Entry) (n : ℕ) (number : Option ℕ) (e : Event) → PlainSends (sent s past number e)
-    → map (plain_line n) (telling (brought s past number e)) ≡ hand_lines past n (published past e)
-effects_told s past n number e plain =
+-- all that an event brings about but its samples and the ends of subscribers is quiet
+record IsQuietBut (s : Settings) (past : List Entry) (number : Option ℕ) (e : Event) : Type 0 where
+  sends : AreQuiet (sent s past number e)
+  values : AreQuiet (valued s past number e)
+  asks : AreQuiet (requested s past number e)
+  tells : AreQuiet (answers s past e)
+
+-- what stands beside them tells the hand-overs
+beside_told : (s : Settings) (past : List Entry) (n : ℕ) (number : Option ℕ) (e : Event) → AreQuiet (sent s past number e)
+    → map (plain_line n) (telling (beside s past number e)) ≡ hand_lines past n (published past e)
+beside_told s past n number e plain =
     let sends = sent s past number e in
     let hands = hands_of (live_subs past) (live_pubs past) (named_text past e) e in
-    let ends = ends_of (live_subs past) e in
+    let ends = ends_of (live_queryables past) (live_subs past) e in
     ap (map (plain_line n))
     (telling-append (sends ++ hands) ends
-    ∙ ap (λ (more : List (List (List ℕ))). telling (sends ++ hands) ++ more) (ends_quiet (live_subs past) e)
+    ∙ ap (λ (more : List (List (List ℕ))). telling (sends ++ hands) ++ more) (quiet_tell ends (ends_quiet (live_queryables past) (live_subs past) e))
     ∙ append-nil (telling (sends ++ hands))
     ∙ telling-append sends hands
-    ∙ ap (λ (front : List (List (List ℕ))). front ++ telling hands) (sends_quiet sends plain))
+    ∙ ap (λ (front : List (List (List ℕ))). front ++ telling hands) (quiet_tell sends plain))
     ∙ publication_told past n (published past e)
+
+-- an event that does something with query values
+abbrev has_values : ToValues → Bool
+has_values NoValue = false
+has_values (Requested request) = true
+has_values (AnswersBy value body quality) = true
+has_values (AnswersError value error) = true
+has_values (SharesValue value) = true
+has_values (GivesBack value) = true
+
+-- publishes nothing
+values_quiet : (past : List Entry) (n : ℕ) (e : Event) → has_values (row_of e).to_values ≡ true → hand_lines past n (published past e) ≡ []
+values_quiet past n (Put destination key payload encoding timestamp qos reliable source attachment) h = cc
+values_quiet past n (Delete destination key timestamp qos reliable source attachment) h = cc
+values_quiet past n (PublisherPut id payload encoding timestamp source attachment) h = cc
+values_quiet past n (PublisherDelete id timestamp source attachment) h = cc
+values_quiet past n (Net (Push push)) h = cc
+values_quiet past n e h = refl
+
+-- what it brings about has no line that tells
+with_values_told : (n : ℕ) (does : ToValues) (rest values : List Effect) (all : List (List ℕ)) → map (plain_line n) (telling rest) ≡ all
+    → (has_values does ≡ true → all ≡ []) → AreQuiet values → map (plain_line n) (telling (with_values does rest values)) ≡ all
+with_values_told n NoValue rest values all told alone quiet = told
+with_values_told n (Requested request) rest values all told alone quiet = ap (map (plain_line n)) (quiet_tell values quiet) ∙ sym (alone refl)
+with_values_told n (AnswersBy value body quality) rest values all told alone quiet = ap (map (plain_line n)) (quiet_tell values quiet) ∙ sym (alone refl)
+with_values_told n (AnswersError value error) rest values all told alone quiet = ap (map (plain_line n)) (quiet_tell values quiet) ∙ sym (alone refl)
+with_values_told n (SharesValue value) rest values all told alone quiet = ap (map (plain_line n)) (quiet_tell values quiet) ∙ sym (alone refl)
+with_values_told n (GivesBack value) rest values all told alone quiet = ap (map (plain_line n)) (quiet_tell values quiet) ∙ sym (alone refl)
+
+others_told : (s : Settings) (past : List Entry) (n : ℕ) (number : Option ℕ) (e : Event) → IsQuietBut s past number e
+    → map (plain_line n) (telling (others s past number e)) ≡ hand_lines past n (published past e)
+others_told s past n number e quiet =
+    with_values_told n (row_of e).to_values (beside s past number e) (valued s past number e) (hand_lines past n (published past e))
+    (beside_told s past n number e quiet.sends) (values_quiet past n e) quiet.values
+
+-- an event that is for gets alone
+abbrev is_for_gets : ToGets → Bool
+is_for_gets NoGet = false
+is_for_gets (Asks question) = true
+is_for_gets (Answers response) = true
+is_for_gets (EndsSide number) = true
+is_for_gets (Reaches moment) = true
+is_for_gets EndsAll = false
+
+-- publishes nothing
+gets_quiet : (past : List Entry) (n : ℕ) (e : Event) → is_for_gets (row_of e).to_gets ≡ true → hand_lines past n (published past e) ≡ []
+gets_quiet past n (Put destination key payload encoding timestamp qos reliable source attachment) h = cc
+gets_quiet past n (Delete destination key timestamp qos reliable source attachment) h = cc
+gets_quiet past n (PublisherPut id payload encoding timestamp source attachment) h = cc
+gets_quiet past n (PublisherDelete id timestamp source attachment) h = cc
+gets_quiet past n (Net (Push push)) h = cc
+gets_quiet past n e h = refl
+
+-- what gets bring about adds no line that tells
+with_gets_told : (n : ℕ) (to : ToGets) (beside asks tells : List Effect) (all : List (List ℕ)) → map (plain_line n) (telling beside) ≡ all
+    → (is_for_gets to ≡ true → all ≡ []) → AreQuiet asks → AreQuiet tells → map (plain_line n) (telling (with_gets to beside asks tells)) ≡ all
+with_gets_told n NoGet beside asks tells all told alone a t = told
+with_gets_told n (Asks question) beside asks tells all told alone a t = ap (map (plain_line n)) (quiet_tell asks a) ∙ sym (alone refl)
+with_gets_told n (Answers response) beside asks tells all told alone a t = ap (map (plain_line n)) (quiet_tell tells t) ∙ sym (alone refl)
+with_gets_told n (EndsSide number) beside asks tells all told alone a t = ap (map (plain_line n)) (quiet_tell tells t) ∙ sym (alone refl)
+with_gets_told n (Reaches moment) beside asks tells all told alone a t = ap (map (plain_line n)) (quiet_tell tells t) ∙ sym (alone refl)
+with_gets_told n EndsAll beside asks tells all told alone a t =
+    ap (map (plain_line n))
+    (telling-append beside tells
+    ∙ ap (λ (more : List (List (List ℕ))). telling beside ++ more) (quiet_tell tells t)
+    ∙ append-nil (telling beside))
+    ∙ told
+
+-- the effects of an accepted event tell its hand-overs
+effects_told : (s : Settings) (past : List Entry) (n : ℕ) (number : Option ℕ) (e : Event) → IsQuietBut s past number e
+    → map (plain_line n) (telling (brought s past number e)) ≡ hand_lines past n (published past e)
+effects_told s past n number e quiet =
+    with_gets_told n (row_of e).to_gets (others s past number e) (requested s past number e) (answers s past e) (hand_lines past n (published past e))
+    (others_told s past n number e quiet) (gets_quiet past n e) quiet.asks quiet.tells
 
 -- a closed session that accepts an event publishes nothing
 shut_quiet : (past : List Entry) (n : ℕ) (seen : Sight) (e : Event) → first_that (holds true (row_of e) seen) in_order ≡ None → hand_lines past n (published past e) ≡ []
@@ -140,7 +253,7 @@ answer_quiet : (n : ℕ) (number : Option ℕ) (fx : List Effect)
 answer_quiet n None fx = refl
 answer_quiet n (Some number) fx = refl
 
-event_told : (s : Settings) (past : List Entry) (n : ℕ) (e : Event) → ((number : Option ℕ) → PlainSends (sent s past number e))
+event_told : (s : Settings) (past : List Entry) (n : ℕ) (e : Event) → ((number : Option ℕ) → IsQuietBut s past number e)
     → map (plain_line n) (filter tells (turn_rows (turn_of s past e))) ≡ event_lines s past n e
 event_told s past n e plain = go (is_closed past)
   where
@@ -176,14 +289,6 @@ plain_hands p [] key encoding = tt
 plain_hands p (row ∷ rows) key encoding =
     (and_from (is_plain p.sample.key_expr.text) (is_plain_text p.sample.encoding) key encoding, plain_hands p rows key encoding)
 
-plain_ends : (rows : List SubRow) → PlainEffects (sub_ends rows)
-plain_ends [] = tt
-plain_ends (row ∷ rows) = (refl, plain_ends rows)
-
-plain_handed : (kind : SampleKind) (encoding : List ℕ) → is_plain_text encoding ≡ true → is_plain_text (handed_encoding kind encoding) ≡ true
-plain_handed put_kind encoding plain = plain_encoding encoding plain
-plain_handed delete_kind encoding plain = default_plain
-
 -- a publication on a text
 abbrev on_text : List ℕ → Content → Publication
 on_text text c = record {
@@ -201,37 +306,66 @@ plain_publication rows text (ByPublisher id c) key plain = tt
 plain_publication rows (Some text) (OwnContent c) key plain =
     plain_hands (on_text text c) (filter (allows (on_text text c)) rows) key.0 (plain_handed c.body.kind c.body.encoding plain)
 
-plain_ends_of : (rows : List SubRow) (e : Event) → PlainEffects (ends_of rows e)
-plain_ends_of rows (Undeclare sub_kind id) = (refl, tt)
-plain_ends_of rows (Undeclare pub_kind id) = tt
-plain_ends_of rows Close = plain_ends rows
-plain_ends_of rows e = tt
-
 -- the aggregates that groups see are those of the settings
 shared_plain : (s : Settings) (past : List Entry) → has_plain_aggregates s ≡ true → ArePlainGroups (λ kind. company_of s kind past)
 shared_plain s past shared Subscribers = (and_parts (are_plain_keys s.aggregated_subscribers) (are_plain_keys s.aggregated_publishers) shared).0
 shared_plain s past shared Publishers = (and_parts (are_plain_keys s.aggregated_subscribers) (are_plain_keys s.aggregated_publishers) shared).1
 shared_plain s past shared Queriers = refl
 
--- what a plain event sends is plain
-plain_sent : (s : Settings) → has_plain_aggregates s ≡ true → (past : List Entry) (e : Event) → PlainPast past → is_plain_event e ≡ true → (number : Option ℕ)
-    → PlainSends (sent s past number e)
-plain_sent s shared past e all plain number =
-    all_sent (known_of s past) number (named_text past e) e (λ n. held_plain n past all) (shared_plain s past shared) (text_plain past e all plain)
-    (content_plain (live_pubs past) e (pubs_plain past all) plain)
+-- what a plain event brings about is quiet, and plain
+quiet_but : (s : Settings) → has_plain_aggregates s ≡ true → (past : List Entry) (e : Event) → PlainPast past → is_plain_event e ≡ true → (number : Option ℕ)
+    → IsQuietBut s past number e
+quiet_but s shared past e all plain number =
+    let named = text_plain past e all plain in
+    let to = gets_plain e plain in
+    let known = known_of s past in
+    let does = does_plain e plain in
+    let gets = open_plain s past all in
+    let values = values_plain past all in
+    let drew = drawn_plain known.queryables known.handing (row_of e).to_gets (row_of e).to_values number (named_text past e) values named to does in
+    record {
+      sends = all_sent (known_of s past) number (named_text past e) e (λ n. held_plain n past all) (shared_plain s past shared) named
+          (content_plain (live_pubs past) e (pubs_plain past all) plain);
+      values = value_quiet (answering known) (row_of e).key (draws s past number e) (named_text past e) (row_of e).to_values (λ n. held_plain n past all) gets values drew named does;
+      asks = request_quiet s.default_timeout (own_keys_of s past) (row_of e).key (draws s past number e) number (named_text past e) (row_of e).to_gets
+          (λ n. held_plain n past all) named to drew;
+      tells = told_quiet (open_now s past) (named_text past e) (row_of e).to_gets gets named to;
+    }
+
+plain_with_gets : (to : ToGets) (beside asks tells : List Effect) → PlainEffects beside → PlainEffects asks → PlainEffects tells
+    → PlainEffects (with_gets to beside asks tells)
+plain_with_gets NoGet beside asks tells b a t = b
+plain_with_gets (Asks question) beside asks tells b a t = a
+plain_with_gets (Answers response) beside asks tells b a t = t
+plain_with_gets (EndsSide number) beside asks tells b a t = t
+plain_with_gets (Reaches moment) beside asks tells b a t = t
+plain_with_gets EndsAll beside asks tells b a t = all_append (λ f. is_plain_effect f ≡ true) beside tells b t
+
+plain_with_values : (does : ToValues) (rest values : List Effect) → PlainEffects rest → PlainEffects values → PlainEffects (with_values does rest values)
+plain_with_values NoValue rest values r v = r
+plain_with_values (Requested request) rest values r v = v
+plain_with_values (AnswersBy value body quality) rest values r v = v
+plain_with_values (AnswersError value error) rest values r v = v
+plain_with_values (SharesValue value) rest values r v = v
+plain_with_values (GivesBack value) rest values r v = v
 
 plain_effects : (s : Settings) → has_plain_aggregates s ≡ true → (past : List Entry) (number : Option ℕ) (e : Event) → PlainPast past → is_plain_event e ≡ true
     → PlainEffects (brought s past number e)
 plain_effects s shared past number e all plain =
     let P : Effect → Type 0 = λ f. is_plain_effect f ≡ true in
+    let quiet = quiet_but s shared past e all plain number in
     let sends = sent s past number e in
     let hands = hands_of (live_subs past) (live_pubs past) (named_text past e) e in
-    let ends = ends_of (live_subs past) e in
-    all_append P (sends ++ hands) ends
-    (all_append P sends hands (sends_plain sends (plain_sent s shared past e all plain number))
+    let ends = ends_of (live_queryables past) (live_subs past) e in
+    plain_with_gets (row_of e).to_gets (others s past number e) (requested s past number e) (answers s past e)
+    (plain_with_values (row_of e).to_values (beside s past number e) (valued s past number e)
+    (all_append P (sends ++ hands) ends
+    (all_append P sends hands (all_plain sends quiet.sends)
     (plain_publication (live_subs past) (named_text past e) (resolved (live_pubs past) (row_of e).publishes) (text_plain past e all plain)
     (content_plain (live_pubs past) e (pubs_plain past all) plain)))
-    (plain_ends_of (live_subs past) e)
+    (all_plain ends (ends_quiet (live_queryables past) (live_subs past) e)))
+    (all_plain (valued s past number e) quiet.values))
+    (all_plain (requested s past number e) quiet.asks) (all_plain (answers s past e) quiet.tells)
 
 -- the texts of the turn of a plain event are plain
 plain_turn : (s : Settings) → has_plain_aggregates s ≡ true → (past : List Entry) (e : Event) → PlainPast past → is_plain_event e ≡ true → AllByRecursion ArePlain (turn_rows (turn_of s past e))
@@ -264,5 +398,5 @@ text_told s shared h (e ∷ es) past all =
     let n = length h + 1 in
     told_turn n (effects s h e) (text_after s (e ∷ h) es) (plain_turn s shared (past_of s h) e (past_plain s h past) all.0)
     ∙ ap (λ (here : List (List ℕ)). here ++ told (text_after s (e ∷ h) es))
-    (event_told s (past_of s h) n e (plain_sent s shared (past_of s h) e (past_plain s h past) all.0))
+    (event_told s (past_of s h) n e (quiet_but s shared (past_of s h) e (past_plain s h past) all.0))
     ∙ ap (λ (later : List (List ℕ)). event_lines s (past_of s h) n e ++ later) (text_told s shared (e ∷ h) es (all.0, past) all.1)

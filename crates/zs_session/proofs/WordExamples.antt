@@ -13,14 +13,16 @@ pub mode_alone : settings_of (codes "drive" ∷ []) ≡ Some default_settings
 mode_alone = refl
 
 -- all settings, in another order than their fields
-all_settings : settings_of (codes "drive" ∷ codes "turns=9" ∷ codes "line=100" ∷ codes "key=7" ∷ codes "entity=0" ∷ codes "tag=0" ∷ codes "zid=fF" ∷ [])
+all_settings : settings_of (codes "drive" ∷ codes "turns=9" ∷ codes "timeout=25" ∷ codes "line=100" ∷ codes "key=7" ∷ codes "query=3" ∷ codes "entity=0" ∷ codes "tag=0" ∷ codes "zid=fF" ∷ [])
     ≡ Some (record {
       zid = 255;
       tag = 0;
       entity_start = 0;
       key_start = 7;
+      query_start = 3;
       aggregated_subscribers = [];
       aggregated_publishers = [];
+      default_timeout = 25;
       line_max = 100;
       turns = 9;
     })

@@ -1,5 +1,5 @@
 -- What a run of the program says: its status stands for an answer of the drive, and its complaint is the one for it.
-use Rattle.std.specs.Prelude.{◌≡◌, ℕ, List, Result, Ok, Err, codes}
+use Rattle.std.specs.Prelude.{◌≡◌, ◌⊎◌, ◌≤◌, ℕ, List, Result, Ok, Err, codes}
 use Rattle.zs_keys.specs.Stream.{HasRisen, PutsOn}
 use Rattle.zs_core.specs.declared.settings.Settings.{Settings}
 use Rattle.zs_script.specs.Writing.{PutsFrontOn}
@@ -7,6 +7,8 @@ use Rattle.zs_session.specs.declared.driving.Driven.{Driven}
 use Rattle.zs_session.specs.declared.errors.DriveError.{DriveError}
 use Rattle.zs_session.specs.Driving.{Completes, Drives, Outlet, Supply}
 use Rattle.zs_session.specs.Errors.{status_of, complaint_of}
+use Rattle.zs_session.specs.Soak.{soak_report}
+use Rattle.zs_session.specs.declared.soak.Soak.{Soak}
 
 -- the complaint about words that are none of the program's
 abbrev pub bad_words : List ℕ
@@ -33,3 +35,12 @@ pub record Runs (s : Settings) (status : ℕ) (before after : Supply) (from to h
   pub drives : Drives s answer before after from to (λ output. PutsOn from.written output to.written)
   pub completes : Completes s answer before after from to
   pub complains : ComplainsOf answer heard heard'
+
+-- a status of the mode that makes its script: 0 where its report was written, and else 7 or 8, with a front of it
+pub record Soaks (soak : Soak) (status : ℕ) (from to heard heard' : Outlet) : Type 0 where
+  pub is_one : (status ≡ 0) ⊎ ((status ≡ 7) ⊎ (status ≡ 8))
+  pub whole : status ≡ 0 → PutsOn from.written (soak_report soak) to.written
+  pub front : PutsFrontOn from.written (soak_report soak) to.written
+  pub write_fault : status ≡ 7 → HasRisen from.faults to.faults
+  pub sink_later : from.faults ≤ to.faults
+  pub complains : (error : DriveError) → status ≡ status_of error → Complains heard heard' (complaint_of error)

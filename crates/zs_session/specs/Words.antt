@@ -17,11 +17,19 @@ None >>= f = None
 Some x >>= f = f x
 
 -- A setting is a word of a name, `=` and a value. No name has an `=`, so a word is cut at its first one.
-abbrev pub gives_number : List ℕ → Bool
-gives_number word =
+abbrev pub gives_start : List ℕ → Bool
+gives_start word =
     is_some (after_prefix (codes "zid=") word) || is_some (after_prefix (codes "tag=") word)
     || is_some (after_prefix (codes "entity=") word) || is_some (after_prefix (codes "key=") word)
-    || is_some (after_prefix (codes "line=") word) || is_some (after_prefix (codes "turns=") word)
+    || is_some (after_prefix (codes "query=") word)
+
+abbrev pub gives_limit : List ℕ → Bool
+gives_limit word =
+    is_some (after_prefix (codes "timeout=") word) || is_some (after_prefix (codes "line=") word)
+    || is_some (after_prefix (codes "turns=") word)
+
+abbrev pub gives_number : List ℕ → Bool
+gives_number word = gives_start word || gives_limit word
 
 abbrev pub gives_aggregate : List ℕ → Bool
 gives_aggregate word = is_some (after_prefix (codes "aggsub=") word) || is_some (after_prefix (codes "aggpub=") word)
@@ -60,6 +68,8 @@ given words = do
   tag ← setting (number_of u64_max) default_settings.tag (values (codes "tag=") words)
   entity ← setting (number_of u32_max) default_settings.entity_start (values (codes "entity=") words)
   key ← setting (number_of u16_max) default_settings.key_start (values (codes "key=") words)
+  query ← setting (number_of u32_max) default_settings.query_start (values (codes "query=") words)
+  timeout ← setting (number_of u64_max) default_settings.default_timeout (values (codes "timeout=") words)
   line ← setting (number_of u32_max) default_settings.line_max (values (codes "line=") words)
   turns ← setting (number_of u64_max) default_settings.turns (values (codes "turns=") words)
   Some (record {
@@ -67,8 +77,10 @@ given words = do
     tag = tag;
     entity_start = entity;
     key_start = key;
+    query_start = query;
     aggregated_subscribers = [];
     aggregated_publishers = [];
+    default_timeout = timeout;
     line_max = line;
     turns = turns;
   })

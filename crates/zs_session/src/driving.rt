@@ -4,7 +4,7 @@ ghost use Rattle.zs_events.specs.declared.event.Event.{Event};
 ghost use Rattle.zs_core.specs.declared.settings.Settings.{Settings};
 ghost use Rattle.zs_core.specs.Settings.{is_valid};
 ghost use Rattle.zs_core.specs.Effects.{effects};
-ghost use Rattle.zs_core.specs.Stands.{Stands};
+ghost use Rattle.zs_core.specs.Stands.{Stands, world_after};
 ghost use Rattle.zs_script.specs.Printing.{turn_text};
 ghost use Rattle.zs_script.specs.Writing.{PutsFrontOn};
 ghost use Rattle.zs_session.specs.Driving.{Drives, Completes, PutsWaiting};
@@ -35,7 +35,9 @@ fn take_event(
     ensures stands { OnOk result ((s : Settings) (h : List Event) → Stands state.old s h → Stands state.new s (event ∷ h)) }
     ensures err { OnErr result (transcript.new ≡ transcript.old) }
 {
-    take_turn(state, &event, number, transcript)
+    let taken = take_turn(state, &event, number, transcript);
+    drop(event);
+    taken
 }
 
 /// It is `take_event` of an event that is lent, so that no function lets go of an event and of a turn.
@@ -127,8 +129,8 @@ fn write_if_due<K: Sink>(
     Ok(())
 }
 
-/// Takes each line of the source as an event, and then the close. What waits in the transcript at the end is still to
-/// be written.
+/// Takes each line of the source as an event of a new session, and then the close. What waits in the transcript at the
+/// end is still to be written.
 fn drive_lines<S: Source, K: Sink>(
     alloc: Global,
     source: &mut S,
@@ -146,6 +148,29 @@ fn drive_lines<S: Source, K: Sink>(
         (PutsWaiting (K.written sink.old) transcript.new (K.written sink.new)) }
 {
     let mut state = SessionState::new(alloc, settings)?;
+    let driven = drive_session(alloc, source, sink, settings, &mut state, transcript);
+    drop(state);
+    driven
+}
+
+/// It is `drive_lines` over a session that is lent.
+fn drive_session<S: Source, K: Sink>(
+    alloc: Global,
+    source: &mut S,
+    sink: &mut K,
+    settings: &Settings,
+    state: &mut SessionState,
+    transcript: &mut Transcript,
+) -> Result<Driven, DriveError>
+    requires empty { transcript.old ≡ [] }
+    requires fresh { state.old ≡ world_after settings.now [] }
+    ensures { Drives settings.now result
+        (record { left = S.left source.old; reads = S.reads source.old; pieces = S.pieces source.old; faults = S.faults source.old })
+        (record { left = S.left source.new; reads = S.reads source.new; pieces = S.pieces source.new; faults = S.faults source.new })
+        (record { written = K.written sink.old; faults = K.faults sink.old })
+        (record { written = K.written sink.new; faults = K.faults sink.new })
+        (PutsWaiting (K.written sink.old) transcript.new (K.written sink.new)) }
+{
     let mut reader = LineReader::new(alloc, settings.line_max, settings.turns);
     let mut events = 0;
     'lines: loop {
@@ -156,12 +181,12 @@ fn drive_lines<S: Source, K: Sink>(
         let Some(event) = parse_event(alloc, &line)? else {
             return Err(DriveError::BadLine(line.number));
         };
-        take_event(&mut state, event, line.number, transcript)?;
+        take_event(state, event, line.number, transcript)?;
         events = line.number;
     }
     let Some(number) = events.checked_add(1) else {
         return Err(DriveError::NoMemory);
     };
-    take_event(&mut state, Event::Close, number, transcript)?;
+    take_event(state, Event::Close, number, transcript)?;
     Ok(Driven { events: number })
 }

@@ -13,6 +13,7 @@ mod driving;
 mod errors;
 mod laws;
 mod running;
+mod soak;
 mod system;
 #[cfg(test)]
 mod tests;

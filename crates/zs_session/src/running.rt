@@ -1,14 +1,17 @@
-ghost use Rattle.std.specs.Prelude.{◌≡◌, ◌≢◌, ℕ, List, map, Some, None, IsTrue};
+ghost use Rattle.std.specs.Prelude.{◌≡◌, ◌≢◌, ◌≤◌, ℕ, List, map, Some, None, IsTrue};
 ghost use Rattle.std.specs.String.{string_bytes};
 ghost use Rattle.zs_core.specs.declared.settings.Settings.{Settings};
 ghost use Rattle.zs_core.specs.Settings.{is_valid};
 ghost use Rattle.zs_session.specs.Errors.{status_of};
-ghost use Rattle.zs_session.specs.Running.{bad_words, Complains, Runs};
+ghost use Rattle.zs_session.specs.Running.{bad_words, Complains, Runs, Soaks};
+ghost use Rattle.zs_session.specs.Soak.{soak_of};
 ghost use Rattle.zs_session.specs.Words.{settings_of};
+ghost use Rattle.zs_session.specs.declared.soak.Soak.{Soak};
 
 use crate::complaining::{complain, complain_of};
 use crate::driving::drive;
 use crate::errors::DriveError;
+use crate::soak::{Soak, drive_soak, soak_of};
 use crate::words::settings_of;
 use std::alloc::Global;
 use zs_core::Settings;
@@ -17,8 +20,11 @@ use zs_keys::{Sink, Source};
 /// The program: drives a session by the source's script, with the settings that the words give, and returns the exit
 /// status.
 ///
-/// The words are none, or `drive` and then settings in any order: `zid=HEX`, `tag=N`, `entity=N`, `key=N`, `line=N` and
-/// `turns=N`, each at most once, and any number of `aggsub=KEY` and `aggpub=KEY`, which keep their order.
+/// The words are none, or `drive` and then settings in any order: `zid=HEX`, `tag=N`, `entity=N`, `key=N`, `query=N`,
+/// `timeout=N`, `line=N` and `turns=N`, each at most once, and any number of `aggsub=KEY` and `aggpub=KEY`, which keep
+/// their order. Or they are `soak SEED N`: then nothing is read, a session is driven in memory by a script of so many
+/// puts that the seed makes, and four lines tell of its events, and of the hand-overs, the messages and the refusals
+/// that it printed.
 ///
 /// The status is 0 at the end of a script. 2 says that the words are others, or give settings that are not valid; then
 /// nothing is read or written. 3 says that a line is no event, 4 that a line is too long, 5 that there were too many
@@ -31,10 +37,10 @@ pub fn run<S: Source, K: Sink, C: Sink>(
     sink: &mut K,
     complaints: &mut C,
 ) -> u8
-    ensures words { settings_of (map string_bytes words.now) ≡ None → (result ≡ 2) × (source.new ≡ source.old) × (sink.new ≡ sink.old)
-        × Complains (record { written = C.written complaints.old; faults = C.faults complaints.old })
+    ensures words { settings_of (map string_bytes words.now) ≡ None → soak_of (map string_bytes words.now) ≡ None
+        → (result ≡ 2) × (source.new ≡ source.old) × (sink.new ≡ sink.old) × Complains (record { written = C.written complaints.old; faults = C.faults complaints.old })
         (record { written = C.written complaints.new; faults = C.faults complaints.new }) bad_words }
-    ensures only_words { result ≡ 2 → settings_of (map string_bytes words.now) ≡ None }
+    ensures only_words { result ≡ 2 → (settings_of (map string_bytes words.now) ≡ None) × (soak_of (map string_bytes words.now) ≡ None) }
     ensures runs { (s : Settings) → settings_of (map string_bytes words.now) ≡ Some s → Runs s result
         (record { left = S.left source.old; reads = S.reads source.old; pieces = S.pieces source.old; faults = S.faults source.old })
         (record { left = S.left source.new; reads = S.reads source.new; pieces = S.pieces source.new; faults = S.faults source.new })
@@ -42,8 +48,16 @@ pub fn run<S: Source, K: Sink, C: Sink>(
         (record { written = K.written sink.new; faults = K.faults sink.new })
         (record { written = C.written complaints.old; faults = C.faults complaints.old })
         (record { written = C.written complaints.new; faults = C.faults complaints.new }) }
+    ensures soaks { (soak : Soak) → soak_of (map string_bytes words.now) ≡ Some soak → (source.new ≡ source.old) × Soaks soak result
+        (record { written = K.written sink.old; faults = K.faults sink.old })
+        (record { written = K.written sink.new; faults = K.faults sink.new })
+        (record { written = C.written complaints.old; faults = C.faults complaints.old })
+        (record { written = C.written complaints.new; faults = C.faults complaints.new }) }
     ensures quiet { result ≡ 0 → complaints.new ≡ complaints.old }
 {
+    if let Some(soak) = soak_of(words) {
+        return run_soak(alloc, soak, sink, complaints);
+    }
     match settings_of(alloc, words) {
         Ok(Some(settings)) => run_with(alloc, &settings, source, sink, complaints),
         Ok(None) => {
@@ -79,6 +93,26 @@ fn run_with<S: Source, K: Sink, C: Sink>(
 {
     match drive(alloc, source, sink, settings) {
         Ok(_) => 0,
+        Err(error) => {
+            complain_of(complaints, error);
+            status_of(error)
+        }
+    }
+}
+
+/// Drives a session by a script of its own making, writes what that came to, complains where it could not, and returns
+/// the exit status. It is `run` behind such words.
+fn run_soak<K: Sink, C: Sink>(alloc: Global, soak: Soak, sink: &mut K, complaints: &mut C) -> u8
+    requires { soak.seed ≤ 65536 }
+    ensures soaks { Soaks soak result (record { written = K.written sink.old; faults = K.faults sink.old })
+        (record { written = K.written sink.new; faults = K.faults sink.new })
+        (record { written = C.written complaints.old; faults = C.faults complaints.old })
+        (record { written = C.written complaints.new; faults = C.faults complaints.new }) }
+    ensures not_words { result ≢ 2 }
+    ensures quiet { result ≡ 0 → complaints.new ≡ complaints.old }
+{
+    match drive_soak(alloc, soak, sink) {
+        Ok(()) => 0,
         Err(error) => {
             complain_of(complaints, error);
             status_of(error)

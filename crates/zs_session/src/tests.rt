@@ -92,12 +92,15 @@ fn settings_are_those_of_the_words(rt: HostRuntime) -> Result<(), Fail> {
         ("drive", Settings::default()),
         (
             "drive turns=18446744073709551615 key=65535 zid=ffffffffffffffffffffffffffffffff \
-             line=1048576 tag=18446744073709551615 entity=4294967294",
+             line=1048576 query=4294967295 tag=18446744073709551615 entity=4294967294 \
+             timeout=18446744073709551615",
             Settings {
                 zid: u128::MAX,
                 tag: u64::MAX,
                 entity_start: 4294967294,
                 key_start: 65535,
+                query_start: u32::MAX,
+                default_timeout: u64::MAX,
                 line_max: 1048576,
                 turns: u64::MAX,
                 ..Settings::default()

@@ -8,14 +8,14 @@ ghost use Rattle.zs_core.specs.Settings.{default_settings, is_valid};
 ghost use Rattle.zs_script.specs.Hexadecimal.{hex_of};
 ghost use Rattle.zs_script.specs.Plain.{is_plain, is_plain_text};
 ghost use Rattle.zs_script.specs.Symbols.{number_of, after_prefix};
-ghost use Rattle.zs_session.specs.Words.{gives_number, gives_aggregate, is_setting, is_aggregate, are_aggregates, are_settings, values, setting, given, settings_of, found};
+ghost use Rattle.zs_session.specs.Words.{gives_start, gives_limit, gives_number, gives_aggregate, is_setting, is_aggregate, are_aggregates, are_settings, values, setting, given, settings_of, found};
 
 use std::alloc::{AllocError, Global};
 use zs_core::{KeyList, Settings};
 use zs_keys::KeyExpr;
 use zs_script::{after_prefix, parse_hex, parse_number};
 
-/// The greatest number that an entity, or a line's length, is told as.
+/// The greatest number that an entity, a get, or a line's length, is told as.
 const U32_MAX: u64 = u32::MAX as u64;
 
 /// The greatest number that a key is told as.
@@ -120,10 +120,23 @@ fn is_setting(word: &str) -> bool
 fn gives_number(word: &str) -> bool
     ensures { result ≡ gives_number word.now }
 {
+    gives_start(word) || gives_limit(word)
+}
+
+fn gives_start(word: &str) -> bool
+    ensures { result ≡ gives_start word.now }
+{
     after_prefix(word, "zid=").is_some()
         || after_prefix(word, "tag=").is_some()
         || after_prefix(word, "entity=").is_some()
         || after_prefix(word, "key=").is_some()
+        || after_prefix(word, "query=").is_some()
+}
+
+fn gives_limit(word: &str) -> bool
+    ensures { result ≡ gives_limit word.now }
+{
+    after_prefix(word, "timeout=").is_some()
         || after_prefix(word, "line=").is_some()
         || after_prefix(word, "turns=").is_some()
 }
@@ -141,6 +154,8 @@ struct Numbers {
     tag: u64,
     entity_start: u32,
     key_start: u16,
+    query_start: u32,
+    default_timeout: u64,
     line_max: u32,
     turns: u64,
 }
@@ -152,6 +167,8 @@ fn default_numbers() -> Numbers
       tag = default_settings.tag;
       entity_start = default_settings.entity_start;
       key_start = default_settings.key_start;
+      query_start = default_settings.query_start;
+      default_timeout = default_settings.default_timeout;
       line_max = default_settings.line_max;
       turns = default_settings.turns;
     } }
@@ -161,6 +178,8 @@ fn default_numbers() -> Numbers
         tag,
         entity_start,
         key_start,
+        query_start,
+        default_timeout,
         line_max,
         turns,
         ..
@@ -170,6 +189,8 @@ fn default_numbers() -> Numbers
         tag,
         entity_start,
         key_start,
+        query_start,
+        default_timeout,
         line_max,
         turns,
     }
@@ -184,6 +205,8 @@ fn given(words: &[String]) -> Option<Settings>
     let tag = number(words, "tag=", u64::MAX, default.tag)?;
     let entity_start = number(words, "entity=", U32_MAX, u64::from(default.entity_start))?;
     let key_start = number(words, "key=", U16_MAX, u64::from(default.key_start))?;
+    let query_start = number(words, "query=", U32_MAX, u64::from(default.query_start))?;
+    let default_timeout = number(words, "timeout=", u64::MAX, default.default_timeout)?;
     let line_max = number(words, "line=", U32_MAX, u64::from(default.line_max))?;
     let turns = number(words, "turns=", u64::MAX, default.turns)?;
     Some(Settings {
@@ -191,8 +214,10 @@ fn given(words: &[String]) -> Option<Settings>
         tag,
         entity_start: entity_start as u32,
         key_start: key_start as u16,
+        query_start: query_start as u32,
         aggregated_subscribers: KeyList::new(),
         aggregated_publishers: KeyList::new(),
+        default_timeout,
         line_max: line_max as u32,
         turns,
     })

@@ -1,9 +1,14 @@
-use Rattle.std.proofs.Common.{refl}
-use Rattle.std.specs.Prelude.{Err}
+use Rattle.std.proofs.Common.{refl, sym}
+use Rattle.std.specs.Prelude.{Err, map}
+use Rattle.std.specs.String.{string_bytes}
 use Rattle.zs_session.specs.declared.errors.DriveError.TheVariants.{NoMemory}
 use Rattle.zs_session.specs.Driving.{Outlet, Supply}
 use Rattle.zs_session.proofs.Exits.{unstarted}
+use Rattle.zs_session.proofs.Soaking.{not_both}
 use Rattle.zs_session.proofs.running.run.Goals as goal
+
+pub returns-in-Some-clause-runs : goal.returns-in-Some-clause-runs
+returns-in-Some-clause-runs g c = λ s found. absurd (not_both (map string_bytes c.args.words.now) c.in-Some.soak s (sym c.in-Some.ensures.named) found)
 
 pub returns-in-Err-clause-runs : goal.returns-in-Err-clause-runs
 returns-in-Err-clause-runs g c =

@@ -3,7 +3,7 @@ use Rattle.zs_script.specs.Reading.{work}
 use Rattle.zs_session.specs.Driving.{PutsWaiting}
 use Rattle.zs_session.proofs.Exits.{Counted}
 use Rattle.zs_session.proofs.Progress.{Progress}
-use Rattle.zs_session.proofs.driving.drive_lines.Given as goal
+use Rattle.zs_session.proofs.driving.drive_session.Given as goal
 
 abbrev pub invariant-lines : goal.invariant-lines
 invariant-lines g l = record {
