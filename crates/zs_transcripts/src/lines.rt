@@ -1,166 +1,29 @@
 //! Lines one by one: what event each is, how they are cut from pieces, and how a piece is written.
 
 use std::alloc::{AllocError, Global};
+use std::process::Abort;
 use std::test::Fail;
-use zs_events::{Event, KeyArg};
+use told::told;
 use zs_keys::{MemorySink, MemorySource, Source, SteadySource};
-use zs_sample::{Locality, Text, Timestamp, ZBytes};
 use zs_script::{Line, LineReader, WriteFault, parse_event, write_whole};
-use zs_wire::{Message, Push, QoSType, WireExpr};
 
-/// What a line is, in a few words.
-fn told(alloc: Global, text: &str) -> Result<String, AllocError> {
-    let line = Line {
-        number: 1,
-        bytes: Vec::from_slice(alloc, text.as_bytes())?,
-    };
-    let Some(event) = parse_event(alloc, &line)? else {
-        return String::from_str(alloc, "nothing");
-    };
-    event_told(alloc, &event)
-}
+mod told;
 
-fn event_told(alloc: Global, event: &Event) -> Result<String, AllocError> {
-    match event {
-        Event::Key { key } => keyed(alloc, "key", key),
-        Event::UndeclareKey { key } => keyed(alloc, "undeclare key", key),
-        Event::Sub { origin, key } => placed(alloc, "sub", *origin, key),
-        Event::Pub {
-            destination,
-            key,
-            encoding,
-            qos,
-            reliable,
-        } => {
-            let front = placed(alloc, "pub", *destination, key)?;
-            with_quality(alloc, &front, encoding, qos, *reliable)
-        }
-        Event::Put {
-            destination,
-            key,
-            payload,
-            encoding,
-            qos,
-            reliable,
-            ..
-        } => {
-            let front = placed(alloc, "put", *destination, key)?;
-            let front = with_bytes(alloc, &front, payload)?;
-            with_quality(alloc, &front, encoding, qos, *reliable)
-        }
-        Event::Delete {
-            destination,
-            key,
-            timestamp,
-            ..
-        } => {
-            let front = placed(alloc, "delete", *destination, key)?;
-            with_moment(alloc, &front, timestamp)
-        }
-        Event::Undeclare { kind, id } => format!(in alloc; "undeclare {kind:?} {id}"),
-        Event::Background { kind, id } => format!(in alloc; "background {kind:?} {id}"),
-        Event::PublisherPut { id, payload, .. } => {
-            let front = format!(in alloc; "pput {id}")?;
-            with_bytes(alloc, &front, payload)
-        }
-        Event::PublisherDelete { id, timestamp, .. } => {
-            let front = format!(in alloc; "pdel {id}")?;
-            with_moment(alloc, &front, timestamp)
-        }
-        Event::Close => String::from_str(alloc, "close"),
-        Event::Net(message) => message_told(alloc, message),
-    }
-}
-
-fn message_told(alloc: Global, message: &Message) -> Result<String, AllocError> {
-    match message {
-        Message::DeclareKeyExpr { number, wire } => {
-            let wire = wire_told(alloc, wire)?;
-            format!(in alloc; "keyexpr {number} {wire}")
-        }
-        Message::UndeclareKeyExpr { number } => format!(in alloc; "unkeyexpr {number}"),
-        Message::Push(push) => push_told(alloc, push),
-        Message::Close => String::from_str(alloc, "net close"),
-        _ => String::from_str(alloc, "another message"),
-    }
-}
-
-fn push_told(alloc: Global, push: &Push) -> Result<String, AllocError> {
-    let wire = wire_told(alloc, &push.wire)?;
-    let kind = push.body.kind;
-    let front = format!(in alloc; "push {wire} {kind:?}")?;
-    let front = with_bytes(alloc, &front, &push.body.payload)?;
-    with_quality(alloc, &front, &push.body.encoding, &push.qos, push.reliable)
-}
-
-fn keyed(alloc: Global, word: &str, key: &KeyArg) -> Result<String, AllocError> {
-    let key = key_told(alloc, key)?;
-    format!(in alloc; "{word} {key}")
-}
-
-fn placed(alloc: Global, word: &str, place: Locality, key: &KeyArg) -> Result<String, AllocError> {
-    let key = key_told(alloc, key)?;
-    format!(in alloc; "{word} {place:?} {key}")
-}
-
-fn with_bytes(alloc: Global, front: &String, payload: &ZBytes) -> Result<String, AllocError> {
-    let bytes = payload.to_bytes(alloc)?;
-    let payload = bytes.as_slice();
-    let front = front.as_str();
-    format!(in alloc; "{front} {payload:?}")
-}
-
-fn with_moment(
+/// Each of these lines is told so.
+fn assert_told(
+    rt: &impl Abort,
     alloc: Global,
-    front: &String,
-    timestamp: &Option<Timestamp>,
-) -> Result<String, AllocError> {
-    let front = front.as_str();
-    match timestamp {
-        Some(moment) => {
-            let Timestamp { time, id } = *moment;
-            format!(in alloc; "{front} {time} {id}")
-        }
-        None => String::from_str(alloc, front),
+    table: &[(&'static str, &'static str)],
+) -> Result<(), AllocError> {
+    for (line, want) in table {
+        let is = told(alloc, line)?;
+        assert_eq!(rt; is.as_str(), *want, "at {line}");
     }
-}
-
-fn with_quality(
-    alloc: Global,
-    front: &String,
-    encoding: &Text,
-    qos: &QoSType,
-    reliable: bool,
-) -> Result<String, AllocError> {
-    let front = front.as_str();
-    let encoding = encoding.as_str();
-    let priority = qos.priority;
-    format!(in alloc; "{front} {encoding} {priority} {reliable}")
-}
-
-fn key_told(alloc: Global, key: &KeyArg) -> Result<String, AllocError> {
-    match key {
-        KeyArg::Text(text) => String::from_str(alloc, text.as_str()),
-        KeyArg::Number { number, suffix } => {
-            let suffix = suffix.as_str();
-            format!(in alloc; "number {number} and {suffix}")
-        }
-        KeyArg::Declared { text, number, .. } => {
-            let text = text.as_str();
-            format!(in alloc; "declared {number} {text}")
-        }
-    }
-}
-
-fn wire_told(alloc: Global, wire: &WireExpr) -> Result<String, AllocError> {
-    let scope = wire.scope;
-    let suffix = wire.suffix.as_str();
-    let mapping = wire.mapping;
-    format!(in alloc; "{mapping:?} {scope} and {suffix}")
+    Ok(())
 }
 
 #[test]
-fn reads_lines_as_events(rt: HostRuntime) -> Result<(), Fail> {
+fn reads_declarations(rt: HostRuntime) -> Result<(), Fail> {
     let table = [
         ("sub\tany\ttest/k", "sub Any test/k"),
         ("sub\tlocal\ta//b", "sub SessionLocal a//b"),
@@ -197,6 +60,22 @@ fn reads_lines_as_events(rt: HostRuntime) -> Result<(), Fail> {
             "pub Any k a 7 false",
         ),
         ("pub\tany\tk\tts=1:1", "nothing"),
+        ("net\tkeyexpr\t7\ts0:a:b", "keyexpr 7 Sender 0 and a:b"),
+        ("net\tkeyexpr\t65536\ts0:a", "nothing"),
+        ("net\tunkeyexpr\t7", "unkeyexpr 7"),
+        ("net\tunkeyexpr\t7\ts0:a", "nothing"),
+        ("net\tclose", "net close"),
+        ("close", "close"),
+        ("close\t", "nothing"),
+        ("", "nothing"),
+    ];
+    assert_told(&rt, rt.alloc(), table.as_slice())?;
+    Ok(())
+}
+
+#[test]
+fn reads_publications(rt: HostRuntime) -> Result<(), Fail> {
+    let table = [
         ("pput\t2\tx01\tenc=", "pput 2 [1]"),
         ("pput\t2\tx01\tprio=1", "nothing"),
         ("pput\t2", "nothing"),
@@ -250,19 +129,102 @@ fn reads_lines_as_events(rt: HostRuntime) -> Result<(), Fail> {
             "push Sender 0 and k Delete [] zenoh/bytes 0 true",
         ),
         ("net\tpush\ts0:k\tdel\tenc=a", "nothing"),
-        ("net\tkeyexpr\t7\ts0:a:b", "keyexpr 7 Sender 0 and a:b"),
-        ("net\tkeyexpr\t65536\ts0:a", "nothing"),
-        ("net\tunkeyexpr\t7", "unkeyexpr 7"),
-        ("net\tunkeyexpr\t7\ts0:a", "nothing"),
-        ("net\tclose", "net close"),
-        ("close", "close"),
-        ("close\t", "nothing"),
-        ("", "nothing"),
     ];
-    for (line, want) in table {
-        let is = told(rt.alloc(), line)?;
-        assert_eq!(rt; is.as_str(), want, "at {line}");
-    }
+    assert_told(&rt, rt.alloc(), table.as_slice())?;
+    Ok(())
+}
+
+#[test]
+fn reads_gets_and_what_answers_them(rt: HostRuntime) -> Result<(), Fail> {
+    let table = [
+        (
+            "get\tany\ta",
+            "get Any a and : BestMatching Auto None false 5",
+        ),
+        (
+            "get\tlocal\t#1:/b?x=1?;\ttarget=all\tcons=none\ttimeout=7\tpayload=x01\tprio=2\taccept=any",
+            "get SessionLocal number 1 and /b and x=1?;: All None Some(7) true 2 [1] zenoh/bytes",
+        ),
+        (
+            "get\tremote\t?\ttarget=allcomplete\tcons=latest\tenc=a",
+            "get Remote  and : AllComplete Latest None false 5 [] a",
+        ),
+        ("get\tany\ta\taccept=match", "nothing"),
+        ("get\tany\ta\tcons=latest\ttarget=all", "nothing"),
+        ("get\tany\ta\tprio=0", "nothing"),
+        ("get\tany\ta\tcons=last", "nothing"),
+        ("get\tany", "nothing"),
+        ("tick\t18446744073709551615", "tick 18446744073709551615"),
+        ("tick\t18446744073709551616", "nothing"),
+        ("tick\t", "nothing"),
+        (
+            "net\tresponse\t4\ts7:k\tput\tx01\tts=1:b\tprio=0\tby=b:3",
+            "response 4 Sender 7 and k 0 by 11 3 Put [1] 1 11",
+        ),
+        (
+            "net\tresponse\t4\ts0:k\tdel",
+            "response 4 Sender 0 and k 5 Delete []",
+        ),
+        (
+            "net\tresponse\t4\ts0:k\terr\tx45\tenc=a",
+            "response 4 Sender 0 and k 5 error [69] a",
+        ),
+        ("net\tresponse\t4\ts0:k\tdel\tenc=a", "nothing"),
+        ("net\tresponse\t4\ts0:k\terr\tx45\tts=1:b", "nothing"),
+        ("net\tresponse\t4294967296\ts0:k\tdel", "nothing"),
+        ("net\tresponsefinal\t4", "responsefinal 4"),
+        ("net\tresponsefinal\t4\ts0:k", "nothing"),
+    ];
+    assert_told(&rt, rt.alloc(), table.as_slice())?;
+    Ok(())
+}
+
+#[test]
+fn reads_queryables_and_queries(rt: HostRuntime) -> Result<(), Fail> {
+    let table = [
+        ("queryable\tany\tcomplete\ta/*", "queryable Any a/* true"),
+        (
+            "queryable\tlocal\tpartial\t#1:/b",
+            "queryable SessionLocal number 1 and /b false",
+        ),
+        ("queryable\tany\ta/*", "nothing"),
+        ("queryable\tany\twhole\ta/*", "nothing"),
+        ("undeclare\tqueryable\t2", "undeclare Queryable 2"),
+        ("background\tqueryable\t2", "background Queryable 2"),
+        ("reply\t0\ta\tx01", "reply 0 a None [1]"),
+        ("reply\t0\ta\tx01\tprio=7", "reply 0 a Some(7) [1]"),
+        ("reply\t0\ta\tx01\tprio=0", "nothing"),
+        ("reply\t0\ta\tx01\trel=1", "nothing"),
+        ("reply\t00\ta\tx01", "nothing"),
+        (
+            "replydel\t7\t#1:\tts=1:b",
+            "replydel 7 number 1 and  None 1 11",
+        ),
+        ("replydel\t7\ta\texpress=1", "replydel 7 a Some(true)"),
+        ("replydel\t7\ta\tenc=a", "nothing"),
+        ("replyerr\t7\tx45", "replyerr 7 [69] zenoh/bytes"),
+        ("replyerr\t7\tx45\tenc=a", "replyerr 7 [69] a"),
+        ("replyerr\t7\tx45\tprio=1", "nothing"),
+        ("share\t4294967295", "share 4294967295"),
+        ("share\t4294967296", "nothing"),
+        ("finish\t0", "finish 0"),
+        ("finish", "nothing"),
+        (
+            "net\trequest\t9\ts0:a/b",
+            "request 9 Sender 0 and a/b and : BestMatching Auto 10000 5",
+        ),
+        (
+            "net\trequest\t9\tr1:\tparams=x=1;\ttarget=all\tcons=none\ttimeout=7\tenc=a\tprio=0",
+            "request 9 Receiver 1 and  and x=1;: All None 7 0 [] a",
+        ),
+        ("net\trequest\t9\ts0:a\taccept=any", "nothing"),
+        (
+            "net\trequest\t9\ts0:a?x",
+            "request 9 Sender 0 and a?x and : BestMatching Auto 10000 5",
+        ),
+        ("net\trequest\ts0:a", "nothing"),
+    ];
+    assert_told(&rt, rt.alloc(), table.as_slice())?;
     Ok(())
 }
 

@@ -1,4 +1,5 @@
-//! Scripts and outputs as the tests write them: with a space for each tab, and `Q` for the options of a plain put.
+//! Scripts and outputs as the tests write them: with a space for each tab, `Q` for the options of a plain put, and `G` for the
+//! qualities of a plain get.
 
 ghost use Rattle.std.specs.Prelude.{◌<◌};
 
@@ -7,6 +8,9 @@ use zs_keys::{MemorySink, MemorySource};
 
 /// The options of a sample that was put with none.
 const QUALITY: &str = "enc=zenoh/bytes prio=5 cc=drop express=0 rel=1";
+
+/// The qualities of a get, or of a reply, that was given none.
+const BLOCKING: &str = "prio=5 cc=block express=0";
 
 /// A subscriber that hears a put.
 pub const FIRST: &str = "sub any test/k\nput any test/k x7a656e6f68\n";
@@ -27,14 +31,18 @@ pub const FIRST_TEXT: &str = "\
 pub fn spell(bytes: &mut Vec<u8>, text: &str) -> Result<(), AllocError> {
     for byte in text.bytes() {
         match byte {
+            b'Q' => tabbed(bytes, QUALITY)?,
+            b'G' => tabbed(bytes, BLOCKING)?,
             b' ' => bytes.push(b'\t')?,
-            b'Q' => {
-                for part in QUALITY.bytes() {
-                    bytes.push(if part == b' ' { b'\t' } else { part })?;
-                }
-            }
             byte => bytes.push(byte)?,
         }
+    }
+    Ok(())
+}
+
+fn tabbed(bytes: &mut Vec<u8>, text: &str) -> Result<(), AllocError> {
+    for byte in text.bytes() {
+        bytes.push(if byte == b' ' { b'\t' } else { byte })?;
     }
     Ok(())
 }
@@ -76,4 +84,13 @@ pub fn sink(alloc: Global, cut: usize, fail: u64) -> Result<MemorySink, AllocErr
     let mut failing = Vec::new(alloc);
     failing.push(fail)?;
     Ok(MemorySink::new(alloc, cut, failing, Vec::new(alloc)))
+}
+
+/// A sink that takes at most `cut` bytes per write, and nothing at this write.
+pub fn stuck_sink(alloc: Global, cut: usize, stuck: u64) -> Result<MemorySink, AllocError>
+    requires { 0 < cut }
+{
+    let mut idle = Vec::new(alloc);
+    idle.push(stuck)?;
+    Ok(MemorySink::new(alloc, cut, Vec::new(alloc), idle))
 }

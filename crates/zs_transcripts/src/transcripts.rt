@@ -2,21 +2,26 @@
 //! the rules of the script language.
 
 use crate::spelling::{cut_words, sink, source, spell};
+pub(crate) use all_kinds::{ALL_KINDS, WORDS};
 use std::alloc::{AllocError, Global};
 use std::process::Abort;
 use std::test::Fail;
 use zs_session::run;
 
+mod all_kinds;
 mod closing;
 mod declared_keys;
+mod gets;
 mod network;
 mod publishers;
+mod query_values;
+mod queryables;
 mod samples;
 mod sharing;
 mod subscribers;
 
 /// A script with its output.
-struct Transcript {
+pub(crate) struct Transcript {
     /// What it shows.
     name: &'static str,
     /// The lines of the script, each with its output behind it. What is printed for the end of input comes last.
@@ -25,14 +30,14 @@ struct Transcript {
 
 /// A transcript taken apart.
 #[derive(Drop)]
-struct Parts {
-    script: Vec<u8>,
-    output: Vec<u8>,
+pub(crate) struct Parts {
+    pub(crate) script: Vec<u8>,
+    pub(crate) output: Vec<u8>,
 }
 
 impl Transcript {
     /// The script and its output.
-    fn parts(&self, alloc: Global) -> Result<Parts, AllocError> {
+    pub(crate) fn parts(&self, alloc: Global) -> Result<Parts, AllocError> {
         let mut parts = Parts {
             script: Vec::new(alloc),
             output: Vec::new(alloc),

@@ -6,10 +6,21 @@ use zs_keys::Source;
 use zs_session::run;
 
 /// Words that no run takes.
-const BAD_WORDS: [&str; 51] = [
+const BAD_WORDS: [&str; 66] = [
     "",
     "link",
-    "soak 1 1",
+    "soak",
+    "soak 7",
+    "soak 7 4 1",
+    "soak 7 4 line=9",
+    "soak 65537 4",
+    "soak 7 100001",
+    "soak 07 4",
+    "soak 7 04",
+    "soak -7 4",
+    "soak 7 ",
+    "Soak 7 4",
+    "drive soak 7 4",
     "--help",
     "Drive",
     "drive=1",
@@ -21,7 +32,7 @@ const BAD_WORDS: [&str; 51] = [
     "drive =9",
     "drive Line=9",
     "drive lines=9",
-    "drive query=0",
+    "drive queries=0",
     "drive line==9",
     "drive line=9=",
     "drive line=9 line=9",
@@ -44,6 +55,10 @@ const BAD_WORDS: [&str; 51] = [
     "drive key=0",
     "drive key=00",
     "drive key=65536",
+    "drive query=",
+    "drive query=4294967296",
+    "drive timeout=18446744073709551616",
+    "drive timeout=1 timeout=1",
     "drive line=0",
     "drive line=1048577",
     "drive line=4294967297",
@@ -101,7 +116,7 @@ struct Run {
     output: &'static str,
 }
 
-const RUNS: [Run; 11] = [
+const RUNS: [Run; 17] = [
     Run {
         words: "drive",
         script: FIRST,
@@ -132,6 +147,31 @@ const RUNS: [Run; 11] = [
 3 send close
 3 end sub 4294967294
 ",
+    },
+    Run {
+        words: "drive timeout=25 query=4294967294",
+        script: "get remote a\nget any a\ntick 25\n",
+        fails: (0, 0),
+        status: 0,
+        complaint: "",
+        output: "\
+1 ok 4294967294
+1 send request 4294967294 s0:a target=best cons=latest timeout=25 G
+2 refused IdsExhausted
+3 ok
+3 reply get 4294967294 err x54696d656f7574 enc=zenoh/string
+3 end get 4294967294
+4 ok
+4 send close
+",
+    },
+    Run {
+        words: "drive timeout=0 query=4294967295",
+        script: "get local a\n",
+        fails: (0, 0),
+        status: 0,
+        complaint: "",
+        output: "1 refused IdsExhausted\n2 ok\n2 send close\n",
     },
     Run {
         words: "drive",
@@ -197,7 +237,63 @@ const RUNS: [Run; 11] = [
         complaint: "WriteFault\n",
         output: "",
     },
+    Run {
+        words: "soak 7 4",
+        script: "no line",
+        fails: (1, 0),
+        status: 0,
+        complaint: "",
+        output: "events 19\nhanded 2\nsent 19\nrefused 0\n",
+    },
+    Run {
+        words: "soak 0 0",
+        script: FIRST,
+        fails: (0, 0),
+        status: 0,
+        complaint: "",
+        output: "events 15\nhanded 0\nsent 15\nrefused 0\n",
+    },
+    Run {
+        words: "soak 65536 1",
+        script: FIRST,
+        fails: (0, 0),
+        status: 0,
+        complaint: "",
+        output: "events 16\nhanded 1\nsent 16\nrefused 0\n",
+    },
+    Run {
+        words: "soak 7 4",
+        script: FIRST,
+        fails: (0, 1),
+        status: 7,
+        complaint: "WriteFault\n",
+        output: "",
+    },
 ];
+
+/// What 2000 puts from the seed 7 come to: by the remainders of their numbers, 1509 of them are handed.
+const SOAKED: &str = "events\t2015\nhanded\t1509\nsent\t2015\nrefused\t0\n";
+
+#[test]
+fn soak_prints_the_same_twice(rt: HostRuntime) -> Result<(), Fail> {
+    let alloc = rt.alloc();
+    let words = cut_words(alloc, "soak 7 2000")?;
+    for _ in 0..2 {
+        let mut source = source(alloc, Vec::new(alloc), 1, 1)?;
+        let mut output = sink(alloc, 7, 0)?;
+        let mut complaints = sink(alloc, 1, 1)?;
+        let status = run(
+            alloc,
+            words.as_slice(),
+            &mut source,
+            &mut output,
+            &mut complaints,
+        );
+        assert_eq!(rt; status, 0);
+        assert_eq!(rt; output.bytes(), SOAKED.as_bytes());
+    }
+    Ok(())
+}
 
 #[test]
 fn statuses_and_complaints(rt: HostRuntime) -> Result<(), Fail> {

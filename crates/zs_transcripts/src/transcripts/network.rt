@@ -121,3 +121,75 @@ net push s9: put x
 fn numbers_of_the_network_stand_for_their_texts(rt: HostRuntime) -> Result<(), Fail> {
     assert_printed(&rt, "drive", &NETWORK)
 }
+
+const HOSTILE: [Transcript; 2] = [
+    Transcript {
+        name: "a number of this session that was given back",
+        text: "\
+key k
+< 1 ok 1
+< 1 send keyexpr 1 s0:k
+undeclare key #1
+< 2 ok
+< 2 send unkeyexpr 1
+net push r1: put x01
+< 3 refused UnknownScope
+< 4 ok
+< 4 send close",
+    },
+    Transcript {
+        name: "unknown, replaced and zero numbers, doubled finals, and responses behind the end",
+        text: "\
+sub any **
+< 1 ok 2
+< 1 send sub 2 s0:**
+get remote k/* cons=none accept=any
+< 2 ok 0
+< 2 send request 0 s0:k/* params=_anyke target=best cons=none timeout=10000 G
+net push s3: put x01
+< 3 refused UnknownScope
+net push r3: del
+< 4 refused UnknownScope
+net response 0 s3: put x01
+< 5 refused UnknownScope
+net response 7 s0:k put x01
+< 6 refused Ignored
+net response 7 s3: put x01
+< 7 refused UnknownScope
+net keyexpr 0 s0:k
+< 8 refused UnknownScope
+net keyexpr 3 s3:k
+< 9 refused UnknownScope
+net keyexpr 3 s0:k
+< 10 ok
+net keyexpr 3 s3:/a
+< 11 ok
+net response 0 s3:/b put x01
+< 12 ok
+< 12 reply get 0 put k/a/b x01 enc=zenoh/bytes G rel=1
+net push s3: put x01
+< 13 ok
+< 13 hand sub 2 put k/a x01 Q
+net responsefinal 7
+< 14 refused Ignored
+net responsefinal 0
+< 15 ok
+< 15 end get 0
+net responsefinal 0
+< 16 refused Ignored
+net response 0 s0:k/a put x01
+< 17 refused Ignored
+net response 0 s0:k/a err x01
+< 18 refused Ignored
+net unkeyexpr 0
+< 19 ok
+< 20 ok
+< 20 send close
+< 20 end sub 2",
+    },
+];
+
+#[test]
+fn hostile_network(rt: HostRuntime) -> Result<(), Fail> {
+    assert_printed(&rt, "drive", &HOSTILE)
+}
