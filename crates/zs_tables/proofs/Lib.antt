@@ -8,3 +8,5 @@ pub mod Indexing
 pub mod Keyed
 pub mod GroupLemmas
 pub mod Tabled
+pub mod Putting
+pub mod Telling

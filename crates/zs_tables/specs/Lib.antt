@@ -10,3 +10,6 @@ pub mod Told
 pub mod Groups
 pub mod Grouped
 pub mod Laws
+pub mod LivelinessGets
+pub mod Liveliness
+pub mod ToldTokens

@@ -1,10 +1,11 @@
 //! Rows in ascending number, with a tree of their keys.
 
-ghost use Rattle.std.specs.Prelude.{◌≡◌, ◌<◌, ◌==◌, ◌++◌, [], ◌∷◌, All, map, not, filter, OnOk, OnErr};
-ghost use Rattle.std.specs.List.{find, list_any};
+ghost use Rattle.std.specs.Prelude.{◌≡◌, ◌<◌, ◌≤◌, length, vec_len, vec_capacity, ◌==◌, ◌++◌, [], ◌∷◌, All, map, not, filter, OnOk, OnErr};
+ghost use Rattle.std.specs.List.{find, list_any, insert};
 ghost use Rattle.std.specs.Option.{option_copied};
 ghost use Rattle.zs_keys.specs.Matching.{intersects};
-ghost use Rattle.zs_tables.specs.Ascending.{Ascend, IsPlaceOf, placed_by};
+ghost use Rattle.zs_tables.specs.Ascending.{Ascend, IsPlaceOf};
+ghost use Rattle.zs_tables.specs.Liveliness.{put_new};
 
 use crate::keyed_row::Keyed;
 use crate::lists::put_last;
@@ -76,6 +77,22 @@ impl<R: Keyed> KeyedRows<R> {
         Ok(())
     }
 
+    /// Puts a row where it belongs, unless one with its number is there.
+    pub(crate) fn put(&mut self, row: R) -> Result<(), AllocError>
+        ensures ok { OnOk result (self.new ≡ put_new R.number row self.old) }
+        ensures err { OnErr result (self.new ≡ self.old) }
+    {
+        match keyed_place(&self.rows, row.number()) {
+            Ok(_) => Ok(()),
+            Err(at) => {
+                self.rows.reserve(1)?;
+                self.tree.insert(row.key(), row.number())?;
+                put_at(&mut self.rows, at, row);
+                Ok(())
+            }
+        }
+    }
+
     /// Takes a row out, if it is there.
     pub(crate) fn take(&mut self, number: u32) -> Option<R>
         ensures answer { result ≡ find (λ row. R.number row == number) self.old }
@@ -116,6 +133,15 @@ impl<R: Keyed> KeyedRows<R> {
     {
         self.tree.matches_into(key, into)
     }
+}
+
+/// Puts a row in at a place, where there is room.
+fn put_at<R: Drop>(rows: &mut Vec<R>, at: usize, new: R)
+    requires room { vec_len rows.old < vec_capacity rows.old }
+    requires place { at ≤ length rows.old.items }
+    ensures { rows.new.items ≡ insert rows.old.items at new }
+{
+    let _ = rows.insert(at, new);
 }
 
 /// Where a row stands, or where it would go.

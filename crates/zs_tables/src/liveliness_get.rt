@@ -1,0 +1,12 @@
+use zs_keys::KeyExpr;
+
+/// A liveliness get that is open.
+#[derive(Debug, Drop)]
+pub struct LivelinessGet {
+    pub number: u32,
+    pub key: KeyExpr<'static>,
+    /// The cancellation token that ends it.
+    pub token: Option<u32>,
+    /// The moment, in milliseconds, at which it ends whatever is missing.
+    pub deadline: u64,
+}
