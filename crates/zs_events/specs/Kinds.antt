@@ -2,15 +2,15 @@
 -- texts in them. What is said of all events is read off these rows.
 use Rattle.std.specs.Prelude.{ℕ, Bool, true, false, not, ◌==◌, List, [], ◌∷◌, length, Option, Some, None, codes, encode_utf8_all, if◌then◌else◌}
 use Rattle.zs_events.specs.declared.event.Event.{Event}
-use Rattle.zs_events.specs.declared.event.Event.TheVariants.{Key, UndeclareKey, Sub, Pub, Undeclare, Background, Put, Delete, PublisherPut, PublisherDelete, Close, Net, Get, Tick, Queryable, Reply as reply_event, ReplyDelete, ReplyErr, Share, Finish}
+use Rattle.zs_events.specs.declared.event.Event.TheVariants.{Key, UndeclareKey, Sub, Pub, Undeclare, Background, Put, Delete, PublisherPut, PublisherDelete, Close, Net, Get, Tick, Queryable, Reply as reply_event, ReplyDelete, ReplyErr, Share, Finish, Querier, QuerierGet, CancelToken, Cancel, Token, Lsub, LivelinessGet}
 use Rattle.zs_events.specs.declared.event.EntityKind.{EntityKind}
-use Rattle.zs_events.specs.declared.event.EntityKind.TheVariants.{Sub as sub_kind, Pub as pub_kind, Queryable as queryable_kind}
+use Rattle.zs_events.specs.declared.event.EntityKind.TheVariants.{Sub as sub_kind, Pub as pub_kind, Queryable as queryable_kind, Querier as querier_kind, Token as token_kind, Lsub as lsub_kind}
 use Rattle.zs_events.specs.declared.event.BackgroundKind.{BackgroundKind}
-use Rattle.zs_events.specs.declared.event.BackgroundKind.TheVariants.{Sub as background_sub, Queryable as background_queryable}
+use Rattle.zs_events.specs.declared.event.BackgroundKind.TheVariants.{Sub as background_sub, Queryable as background_queryable, Lsub as background_lsub}
 use Rattle.zs_events.specs.declared.event.KeyArg.{KeyArg}
 use Rattle.zs_events.specs.declared.event.KeyArg.TheVariants.{Text, Number, Declared}
 use Rattle.zs_events.specs.declared.turn.Kind.{Kind}
-use Rattle.zs_events.specs.declared.turn.Kind.TheVariants.{Subscriber, Publisher, Queryable as kind_queryable}
+use Rattle.zs_events.specs.declared.turn.Kind.TheVariants.{Subscriber, Publisher, Queryable as kind_queryable, Querier as kind_querier, Token as kind_token, LivelinessSubscriber}
 use Rattle.zs_sample.specs.Encoding.{encoding_of}
 use Rattle.zs_sample.specs.declared.locality.Locality.{Locality}
 use Rattle.zs_sample.specs.declared.locality.Locality.TheVariants.{Any}
@@ -39,20 +39,22 @@ pub data Speaker : Type 0 where
   Anytime : Speaker
   Network : Speaker
 
--- the key that an event names: none, an application's, that of a publisher, or one from the network
+-- the key that an event names: none, an application's, that of a publisher or a querier, or one from the network
 pub data NamedKey : Type 0 where
   NoKey : NamedKey
   OwnKey : (key : KeyArg) → NamedKey
   PublisherKey : (id : ℕ) → NamedKey
+  QuerierKey : (id : ℕ) → NamedKey
   WireKey : (wire : WireExpr) → NamedKey
 
--- what an event draws and is answered: no number, one of an entity, of a query, of a query value, or of a key, unless the key
--- has one
+-- what an event draws and is answered: no number, one of an entity, of a query, of a query value, of a cancellation token, or of a
+-- key, unless the key has one
 pub data Draws : Type 0 where
   NoNumber : Draws
   EntityNumber : Draws
   QueryNumber : Draws
   ValueNumber : Draws
+  TokenNumber : Draws
   KeyNumber : Draws
 
 -- an entity by its kind and number
@@ -95,14 +97,29 @@ pub record Question : Type 0 where
   pub source : Option SourceInfo
   pub attachment : Option (List (List ℕ))
   pub any_key : Bool
+  -- the querier that asks, if one does, and the cancellation token
+  pub querier : Option ℕ
+  pub token : Option ℕ
 
--- what an event is to gets: nothing, a get, a response to one, the network's final for one, a moment, or the end of all
+-- what a get of a querier asks, but for what the querier says
+pub record QuerierQuestion : Type 0 where
+  pub parameters : List ℕ
+  pub value : Option Value
+  pub source : Option SourceInfo
+  pub attachment : Option (List (List ℕ))
+  pub token : Option ℕ
+
+-- what an event is to gets: nothing, a get, a get of a querier, a response to one, the network's final for one, a moment, the end of
+-- those that a querier asked, of those that a cancellation token cancels, or of all
 pub data ToGets : Type 0 where
   NoGet : ToGets
   Asks : (question : Question) → ToGets
+  AsksBy : (id : ℕ) (question : QuerierQuestion) → ToGets
   Answers : (response : Response) → ToGets
   EndsSide : (number : ℕ) → ToGets
   Reaches : (moment : ℕ) → ToGets
+  EndsQuerier : (id : ℕ) → ToGets
+  Cancels : (token : ℕ) → ToGets
   EndsAll : ToGets
 
 -- the quality of service of a reply, where it is not the query's
@@ -121,6 +138,28 @@ pub data ToValues : Type 0 where
   SharesValue : (value : ℕ) → ToValues
   GivesBack : (value : ℕ) → ToValues
 
+-- what an event is to those who want to know of liveliness: nothing, one more of them, who wants to hear also of the tokens that are
+-- there, a get of tokens, a token that lives, one that lives no longer, or that a get has had all tokens
+pub data ToLiveliness : Type 0 where
+  NoToken : ToLiveliness
+  Subscribes : (history : Bool) → ToLiveliness
+  AsksTokens : (timeout : Option ℕ) (token : Option ℕ) → ToLiveliness
+  TellsToken : (id : ℕ) (interest : Option ℕ) → ToLiveliness
+  EndsToken : (id : ℕ) (interest : Option ℕ) → ToLiveliness
+  EndsAnswers : (interest : Option ℕ) → ToLiveliness
+
+-- the cancellation token with which an event asks, if it asks with one, by what it is to gets and to liveliness
+abbrev pub asking_token : ToGets → ToLiveliness → Option ℕ
+asking_token (Asks question) to = question.token
+asking_token (AsksBy id question) to = question.token
+asking_token to_gets (AsksTokens timeout token) = token
+asking_token to_gets to = None
+
+-- and the one that an event names
+abbrev pub token_named : ToGets → ToLiveliness → Option ℕ
+token_named (Cancels token) to = Some token
+token_named to_gets to = asking_token to_gets to
+
 -- what is said of a kind of event
 pub record Row : Type 0 where
   pub says : Speaker
@@ -136,6 +175,7 @@ pub record Row : Type 0 where
   pub publishes : Publishes
   pub to_gets : ToGets
   pub to_values : ToValues
+  pub to_liveliness : ToLiveliness
   -- its texts beside that of its key
   pub texts : List (List ℕ)
 
@@ -152,6 +192,7 @@ said_by speaker = record {
   publishes = NoContent;
   to_gets = NoGet;
   to_values = NoValue;
+  to_liveliness = NoToken;
   texts = [];
 }
 
@@ -185,10 +226,23 @@ abbrev pub kind_of : EntityKind → Kind
 kind_of sub_kind = Subscriber
 kind_of pub_kind = Publisher
 kind_of queryable_kind = kind_queryable
+kind_of querier_kind = kind_querier
+kind_of token_kind = kind_token
+kind_of lsub_kind = LivelinessSubscriber
 
 abbrev pub background_kind_of : BackgroundKind → Kind
 background_kind_of background_sub = Subscriber
 background_kind_of background_queryable = kind_queryable
+background_kind_of background_lsub = LivelinessSubscriber
+
+-- what the end of an entity is to gets: a querier's gets end with it
+abbrev pub gets_ended : EntityKind → ℕ → ToGets
+gets_ended sub_kind id = NoGet
+gets_ended pub_kind id = NoGet
+gets_ended queryable_kind id = NoGet
+gets_ended querier_kind id = EndsQuerier id
+gets_ended token_kind id = NoGet
+gets_ended lsub_kind id = NoGet
 
 -- the encoding where none is named
 abbrev pub default_encoding : List ℕ
@@ -232,6 +286,10 @@ incoming_content push = record { local = false; destination = Any; body = push.b
 abbrev pub publisher_named : ℕ → Option Named
 publisher_named id = Some (record { kind = Publisher; id = id })
 
+-- a querier's number and kind
+abbrev pub querier_named : ℕ → Option Named
+querier_named id = Some (record { kind = kind_querier; id = id })
+
 -- the text that there is, if there is one
 abbrev pub text_if : Option (List ℕ) → List (List ℕ)
 text_if None = []
@@ -241,6 +299,11 @@ text_if (Some text) = text ∷ []
 abbrev pub value_texts : Option Value → List (List ℕ)
 value_texts None = []
 value_texts (Some value) = value.encoding ∷ []
+
+-- the key from the network that there is, if there is one
+abbrev pub wire_key : Option WireExpr → NamedKey
+wire_key None = NoKey
+wire_key (Some wire) = WireKey wire
 
 -- a response with a value names a key, one with an error doesn't
 abbrev pub response_key : Answered → WireExpr → NamedKey
@@ -260,9 +323,9 @@ message_row (DeclareSubscriber id wire) = told_on wire
 message_row (UndeclareSubscriber id) = said_by Network
 message_row (DeclareQueryable id complete wire) = told_on wire
 message_row (UndeclareQueryable id) = said_by Network
-message_row (DeclareToken id wire interest) = told_on wire
-message_row (UndeclareToken id wire interest) = said_by Network
-message_row (DeclareFinal interest) = said_by Network
+message_row (DeclareToken id wire interest) = record (told_on wire) { to_liveliness = TellsToken id interest }
+message_row (UndeclareToken id wire interest) = record (said_by Network) { key = wire_key wire; to_liveliness = EndsToken id interest }
+message_row (DeclareFinal interest) = record (said_by Network) { to_liveliness = EndsAnswers interest }
 message_row (Interest id mode what wire) = said_by Network
 message_row (push_message push) = record (told_on push.wire) {
   publishes = OwnContent (incoming_content push);
@@ -291,7 +354,11 @@ row_of (Pub destination key encoding qos reliable) = record (said_by Application
   texts = encoding ∷ [];
 }
 row_of (Queryable origin complete key) = record (said_by Application) { key = OwnKey key; draws = EntityNumber }
-row_of (Undeclare kind id) = record (said_by Anytime) { names = Some (record { kind = kind_of kind; id = id }) }
+row_of (Querier destination key target consolidation timeout qos any_key) = record (said_by Application) { key = OwnKey key; draws = EntityNumber }
+row_of (Token key) = record (said_by Application) { key = OwnKey key; draws = EntityNumber }
+row_of (Lsub history key) = record (said_by Application) { key = OwnKey key; draws = EntityNumber; to_liveliness = Subscribes history }
+row_of (LivelinessGet key timeout token) = record (said_by Application) { key = OwnKey key; draws = EntityNumber; to_liveliness = AsksTokens timeout token }
+row_of (Undeclare kind id) = record (said_by Anytime) { names = Some (record { kind = kind_of kind; id = id }); to_gets = gets_ended kind id }
 row_of (Background kind id) = record (said_by Anytime) { names = Some (record { kind = background_kind_of kind; id = id }) }
 row_of (Put destination key payload encoding timestamp qos reliable source attachment) = record (said_by Application) {
   key = OwnKey key;
@@ -327,7 +394,9 @@ row_of (PublisherDelete id timestamp source attachment) = record (said_by Applic
     attachment = attachment;
   });
 }
-row_of (Get destination key parameters target consolidation timeout value qos source attachment any_key) = record (said_by Application) {
+row_of CancelToken = record (said_by Application) { draws = TokenNumber }
+row_of (Cancel token) = record (said_by Anytime) { to_gets = Cancels token }
+row_of (Get destination key parameters target consolidation timeout value qos source attachment any_key token) = record (said_by Application) {
   key = OwnKey key;
   draws = QueryNumber;
   to_gets = Asks (record {
@@ -341,7 +410,16 @@ row_of (Get destination key parameters target consolidation timeout value qos so
     source = source;
     attachment = attachment;
     any_key = any_key;
+    querier = None;
+    token = token;
   });
+  texts = parameters ∷ value_texts value;
+}
+row_of (QuerierGet id parameters value source attachment token) = record (said_by Application) {
+  key = QuerierKey id;
+  draws = QueryNumber;
+  names = querier_named id;
+  to_gets = AsksBy id (record { parameters = parameters; value = value; source = source; attachment = attachment; token = token });
   texts = parameters ∷ value_texts value;
 }
 row_of (reply_event value key payload encoding timestamp priority congestion express source attachment) = record (said_by Anytime) {

@@ -1,6 +1,3 @@
-ghost use Rattle.std.specs.Prelude.{◌≡◌, IfOk};
-
-use std::alloc::{AllocError, Global};
 use zs_sample::{
     CongestionControl, ConsolidationMode, Locality, QoSType, QueryTarget, SourceInfo, Text,
     Timestamp, ZBytes,
@@ -33,6 +30,9 @@ pub enum EntityKind {
     Sub,
     Pub,
     Queryable,
+    Querier,
+    Token,
+    Lsub,
 }
 
 /// The sorts of entities that can be left to themselves: they live on, and can no longer be named.
@@ -40,6 +40,7 @@ pub enum EntityKind {
 pub enum BackgroundKind {
     Sub,
     Queryable,
+    Lsub,
 }
 
 /// What can happen to a session.
@@ -72,6 +73,28 @@ pub enum Event {
         origin: Locality,
         /// Whether it knows all values of its key: requests can ask for such queryables alone.
         complete: bool,
+        key: KeyArg,
+    },
+    /// The application declares a querier, whose gets ask queryables of this destination, in this way.
+    Querier {
+        destination: Locality,
+        key: KeyArg,
+        target: QueryTarget,
+        consolidation: ConsolidationMode,
+        /// After how many milliseconds its gets end, in place of what the settings say.
+        timeout: Option<u64>,
+        qos: QoSType,
+        /// Whether its gets take replies on any key.
+        any_key: bool,
+    },
+    /// The application declares a liveliness token: others see that it is alive while it is not undeclared.
+    Token {
+        key: KeyArg,
+    },
+    /// The application declares a subscriber to liveliness, which is handed the tokens that come and go.
+    Lsub {
+        /// Whether it is handed those that are there already.
+        history: bool,
         key: KeyArg,
     },
     /// The application ends what it declared under this number.
@@ -124,6 +147,12 @@ pub enum Event {
         source: Option<SourceInfo>,
         attachment: Option<ZBytes>,
     },
+    /// The application makes a cancellation token, which gets can be given.
+    CancelToken,
+    /// The application cancels what was given that token: its open gets end, and nothing more is handed to them.
+    Cancel {
+        token: u32,
+    },
     /// The application asks for values of a key, of queryables of this destination.
     Get {
         destination: Locality,
@@ -141,6 +170,26 @@ pub enum Event {
         attachment: Option<ZBytes>,
         /// Whether replies are taken on any key. The parameters can say so too.
         any_key: bool,
+        /// The cancellation token by which it can be cancelled.
+        token: Option<u32>,
+    },
+    /// A querier asks for values of its key.
+    QuerierGet {
+        id: u32,
+        parameters: Text,
+        value: Option<Value>,
+        source: Option<SourceInfo>,
+        attachment: Option<ZBytes>,
+        /// The cancellation token by which it can be cancelled.
+        token: Option<u32>,
+    },
+    /// The application asks for the liveliness tokens that are alive.
+    LivelinessGet {
+        key: KeyArg,
+        /// After how many milliseconds it ends whatever is missing, in place of what the settings say.
+        timeout: Option<u64>,
+        /// The cancellation token by which it can be cancelled.
+        token: Option<u32>,
     },
     /// The application answers a query with a value on a key.
     Reply {
@@ -191,255 +240,6 @@ pub enum Event {
     },
     /// The application closes the session.
     Close,
-    /// A message comes in from the network. Those of liveliness and matching change nothing yet.
+    /// A message comes in from the network. Those of matching change nothing yet.
     Net(Message),
-}
-
-impl KeyArg {
-    /// The same key argument, in the same memory.
-    pub fn try_clone(&self, alloc: Global) -> Result<KeyArg, AllocError>
-        ensures { IfOk result (λ copy. copy ≡ self.now) }
-    {
-        Ok(match self {
-            KeyArg::Text(text) => KeyArg::Text(text.try_clone(alloc)?),
-            KeyArg::Number { number, suffix } => KeyArg::Number {
-                number: *number,
-                suffix: suffix.try_clone(alloc)?,
-            },
-            KeyArg::Declared {
-                text,
-                number,
-                prefix_len,
-            } => KeyArg::Declared {
-                text: text.try_clone(alloc)?,
-                number: *number,
-                prefix_len: *prefix_len,
-            },
-        })
-    }
-}
-
-impl Event {
-    /// The same event. It shares the memory of texts, payloads and attachments.
-    pub fn try_clone(&self, alloc: Global) -> Result<Event, AllocError>
-        ensures { IfOk result (λ copy. copy ≡ self.now) }
-    {
-        match self {
-            Event::Key { key } => Ok(Event::Key {
-                key: key.try_clone(alloc)?,
-            }),
-            Event::UndeclareKey { key } => Ok(Event::UndeclareKey {
-                key: key.try_clone(alloc)?,
-            }),
-            Event::Sub { origin, key } => Ok(Event::Sub {
-                origin: *origin,
-                key: key.try_clone(alloc)?,
-            }),
-            Event::Pub {
-                destination,
-                key,
-                encoding,
-                qos,
-                reliable,
-            } => Ok(Event::Pub {
-                destination: *destination,
-                key: key.try_clone(alloc)?,
-                encoding: encoding.try_clone(alloc)?,
-                qos: *qos,
-                reliable: *reliable,
-            }),
-            Event::Queryable {
-                origin,
-                complete,
-                key,
-            } => Ok(Event::Queryable {
-                origin: *origin,
-                complete: *complete,
-                key: key.try_clone(alloc)?,
-            }),
-            Event::Undeclare { kind, id } => Ok(Event::Undeclare {
-                kind: *kind,
-                id: *id,
-            }),
-            Event::Background { kind, id } => Ok(Event::Background {
-                kind: *kind,
-                id: *id,
-            }),
-            Event::Put {
-                destination,
-                key,
-                payload,
-                encoding,
-                timestamp,
-                qos,
-                reliable,
-                source,
-                attachment,
-            } => Ok(Event::Put {
-                destination: *destination,
-                key: key.try_clone(alloc)?,
-                payload: payload.try_clone(alloc)?,
-                encoding: encoding.try_clone(alloc)?,
-                timestamp: *timestamp,
-                qos: *qos,
-                reliable: *reliable,
-                source: *source,
-                attachment: clone_bytes(attachment, alloc)?,
-            }),
-            Event::Delete {
-                destination,
-                key,
-                timestamp,
-                qos,
-                reliable,
-                source,
-                attachment,
-            } => Ok(Event::Delete {
-                destination: *destination,
-                key: key.try_clone(alloc)?,
-                timestamp: *timestamp,
-                qos: *qos,
-                reliable: *reliable,
-                source: *source,
-                attachment: clone_bytes(attachment, alloc)?,
-            }),
-            Event::PublisherPut {
-                id,
-                payload,
-                encoding,
-                timestamp,
-                source,
-                attachment,
-            } => Ok(Event::PublisherPut {
-                id: *id,
-                payload: payload.try_clone(alloc)?,
-                encoding: clone_text(encoding, alloc)?,
-                timestamp: *timestamp,
-                source: *source,
-                attachment: clone_bytes(attachment, alloc)?,
-            }),
-            Event::PublisherDelete {
-                id,
-                timestamp,
-                source,
-                attachment,
-            } => Ok(Event::PublisherDelete {
-                id: *id,
-                timestamp: *timestamp,
-                source: *source,
-                attachment: clone_bytes(attachment, alloc)?,
-            }),
-            Event::Get {
-                destination,
-                key,
-                parameters,
-                target,
-                consolidation,
-                timeout,
-                value,
-                qos,
-                source,
-                attachment,
-                any_key,
-            } => Ok(Event::Get {
-                destination: *destination,
-                key: key.try_clone(alloc)?,
-                parameters: parameters.try_clone(alloc)?,
-                target: *target,
-                consolidation: *consolidation,
-                timeout: *timeout,
-                value: clone_value(value, alloc)?,
-                qos: *qos,
-                source: *source,
-                attachment: clone_bytes(attachment, alloc)?,
-                any_key: *any_key,
-            }),
-            Event::Reply {
-                value,
-                key,
-                payload,
-                encoding,
-                timestamp,
-                priority,
-                congestion,
-                express,
-                source,
-                attachment,
-            } => Ok(Event::Reply {
-                value: *value,
-                key: key.try_clone(alloc)?,
-                payload: payload.try_clone(alloc)?,
-                encoding: encoding.try_clone(alloc)?,
-                timestamp: *timestamp,
-                priority: *priority,
-                congestion: *congestion,
-                express: *express,
-                source: *source,
-                attachment: clone_bytes(attachment, alloc)?,
-            }),
-            Event::ReplyDelete {
-                value,
-                key,
-                timestamp,
-                priority,
-                congestion,
-                express,
-                source,
-                attachment,
-            } => Ok(Event::ReplyDelete {
-                value: *value,
-                key: key.try_clone(alloc)?,
-                timestamp: *timestamp,
-                priority: *priority,
-                congestion: *congestion,
-                express: *express,
-                source: *source,
-                attachment: clone_bytes(attachment, alloc)?,
-            }),
-            Event::ReplyErr {
-                value,
-                payload,
-                encoding,
-            } => Ok(Event::ReplyErr {
-                value: *value,
-                payload: payload.try_clone(alloc)?,
-                encoding: encoding.try_clone(alloc)?,
-            }),
-            Event::Share { value } => Ok(Event::Share { value: *value }),
-            Event::Finish { value } => Ok(Event::Finish { value: *value }),
-            Event::Tick { now } => Ok(Event::Tick { now: *now }),
-            Event::Close => Ok(Event::Close),
-            Event::Net(message) => Ok(Event::Net(message.try_clone(alloc)?)),
-        }
-    }
-}
-
-/// The same bytes in the same memory, where there are any.
-pub fn clone_bytes(bytes: &Option<ZBytes>, alloc: Global) -> Result<Option<ZBytes>, AllocError>
-    ensures { IfOk result (λ copy. copy ≡ bytes.now) }
-{
-    match bytes {
-        Some(bytes) => Ok(Some(bytes.try_clone(alloc)?)),
-        None => Ok(None),
-    }
-}
-
-/// The same text, in the same memory, where there is one.
-fn clone_text(text: &Option<Text>, alloc: Global) -> Result<Option<Text>, AllocError>
-    ensures { IfOk result (λ copy. copy ≡ text.now) }
-{
-    match text {
-        Some(text) => Ok(Some(text.try_clone(alloc)?)),
-        None => Ok(None),
-    }
-}
-
-/// The same value, where there is one. It shares the payload's memory.
-fn clone_value(value: &Option<Value>, alloc: Global) -> Result<Option<Value>, AllocError>
-    ensures { IfOk result (λ copy. copy ≡ value.now) }
-{
-    match value {
-        Some(value) => Ok(Some(value.try_clone(alloc)?)),
-        None => Ok(None),
-    }
 }
