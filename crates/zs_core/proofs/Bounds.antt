@@ -7,9 +7,13 @@ use Rattle.std.specs.Ordering.{nat_cmp, is_lt}
 use Rattle.std.proofs.lemmas.Bool.Decides.{nat_tests}
 use Rattle.std.proofs.lemmas.List.Elements.{recursion_from_All, All-from_recursion}
 use Rattle.zs_keys.specs.Key.{Key}
-use Rattle.zs_tables.specs.Groups.{Group, has_text, members_of, with_group, joined, left, without_member, has_members}
+use Rattle.zs_tables.specs.Groups.{Group, has_text, members_of, with_group, joined, left, without_member, has_members, AllGroups}
+use Rattle.zs_tables.specs.declared.subscriber.SubRow.{SubRow}
+use Rattle.zs_tables.specs.declared.queryable.QueryableRow.{QueryableRow}
+use Rattle.zs_core.specs.declared.publisher.PubRow.{PubRow}
+use Rattle.zs_core.specs.declared.querier.QuerierRow.{QuerierRow}
 use Rattle.zs_tables.proofs.Ascending.{all_weaker, all_filter, all_push, all_map}
-use Rattle.zs_core.specs.Bounds.{GroupsBelow}
+use Rattle.zs_core.specs.Bounds.{GroupsBelow, AreBelow}
 use Rattle.zs_core.specs.Groups.{Shared, share_text, joined_by, left_found}
 
 -- the members of one group are below a number
@@ -109,3 +113,21 @@ push_undone {R} number rows row all = go rows (recursion_from_All (λ r. number 
     go : (rs : List R) → AllByRecursion (λ r. number r < number row) rs → filter (λ r. not (number r == number row)) (rs ++ row ∷ []) ≡ rs
     go [] less = grind (arith, nat_tests)
     go (r ∷ rs) less = grind (arith, nat_tests, less.0, go rs less.1)
+
+-- all that is below a number is below a greater one
+rows_up : {R : Type 0} (number : R → ℕ) (next after : ℕ) (rows : List R) → next ≤ after → All (λ r. number r < next) rows → All (λ r. number r < after) rows
+rows_up number next after rows le all =
+    All-from_recursion (λ r. number r < after) rows
+    (all_weaker (λ r. number r < next) (λ r. number r < after) (λ r less. omega (arith, less, le)) rows (recursion_from_All (λ r. number r < next) rows all))
+
+pub below_weaker : (next after : ℕ) (rows : List SubRow) (publishers : List PubRow) (queryables : List QueryableRow) (queriers : List QuerierRow) (groups : AllGroups) → next ≤ after
+    → AreBelow next rows publishers queryables queriers groups → AreBelow after rows publishers queryables queriers groups
+below_weaker next after rows publishers queryables queriers groups le b = record {
+  subs = rows_up (λ (row : SubRow). row.id) next after rows le b.subs;
+  pubs = rows_up (λ (row : PubRow). row.id) next after publishers le b.pubs;
+  queryables = rows_up (λ (row : QueryableRow). row.id) next after queryables le b.queryables;
+  queriers = rows_up (λ (row : QuerierRow). row.id) next after queriers le b.queriers;
+  sub_groups = groups_weaker next after groups.subscribers le b.sub_groups;
+  pub_groups = groups_weaker next after groups.publishers le b.pub_groups;
+  querier_groups = groups_weaker next after groups.queriers le b.querier_groups;
+}

@@ -4,7 +4,7 @@ use Rattle.std.specs.Prelude.{if◌then◌else◌}
 use Rattle.zs_events.specs.declared.turn.Refusal.{Refusal}
 use Rattle.zs_events.specs.declared.turn.Refusal.TheVariants.{SessionClosedError, NotFound, UnknownScope, BadKeyExpr, QueryCancelled, ReplyDisjoint, NotDeclared, IdsExhausted, Ignored}
 use Rattle.zs_events.specs.Kinds.{Speaker, Application, Anytime, Network, Row}
-use Rattle.zs_core.specs.Seen.{Sight, is_not_found, is_unknown, is_bad}
+use Rattle.zs_core.specs.Seen.{Sight, is_not_found, is_unknown, is_bad_key}
 use Rattle.zs_core.specs.Causes.{wants_open, is_net, holds, in_order, first_that}
 use Rattle.zs_core.specs.Turns.{refused_if, first_cause, refused_closed}
 use Rattle.zs_core.specs.Laws.{Names}
@@ -17,19 +17,20 @@ is_first true row seen = go row.says
     go Application = refl
     go Anytime = refl
     go Network = refl
-is_first false row seen = go (is_not_found row seen) (is_unknown row seen) (is_bad seen.text) seen.disjoint row.gives_part seen.lacks seen.idle
+is_first false row seen = go (is_not_found row seen) (is_unknown row seen) (is_bad_key seen) seen.cancelled seen.disjoint row.gives_part seen.lacks seen.idle
   where
-    go : (a b c r d e f : Bool)
-        → refused_if a NotFound (refused_if b UnknownScope (refused_if c BadKeyExpr (refused_if r ReplyDisjoint (refused_if d NotDeclared (refused_if e IdsExhausted (refused_if f Ignored None))))))
-        ≡ (if a then Some NotFound else if b then Some UnknownScope else if c then Some BadKeyExpr else if r then Some ReplyDisjoint else if d then Some NotDeclared else if e then Some IdsExhausted else if f then Some Ignored else None)
-    go true b c r d e f = refl
-    go false true c r d e f = refl
-    go false false true r d e f = refl
-    go false false false true d e f = refl
-    go false false false false true e f = refl
-    go false false false false false true f = refl
-    go false false false false false false true = refl
-    go false false false false false false false = refl
+    go : (a b c q r d e f : Bool)
+        → refused_if a NotFound (refused_if b UnknownScope (refused_if c BadKeyExpr (refused_if q QueryCancelled (refused_if r ReplyDisjoint (refused_if d NotDeclared (refused_if e IdsExhausted (refused_if f Ignored None)))))))
+        ≡ (if a then Some NotFound else if b then Some UnknownScope else if c then Some BadKeyExpr else if q then Some QueryCancelled else if r then Some ReplyDisjoint else if d then Some NotDeclared else if e then Some IdsExhausted else if f then Some Ignored else None)
+    go true b c q r d e f = refl
+    go false true c q r d e f = refl
+    go false false true q r d e f = refl
+    go false false false true r d e f = refl
+    go false false false false true d e f = refl
+    go false false false false false true e f = refl
+    go false false false false false false true f = refl
+    go false false false false false false false true = refl
+    go false false false false false false false false = refl
 
 -- the first that passes a test passes it
 first_names : (test : Refusal → Bool) (order : List Refusal) (refusal : Refusal) → first_that test order ≡ Some refusal → test refusal ≡ true

@@ -8,28 +8,30 @@ use Rattle.std.proofs.lemmas.Bool.Decides.{nat_tests}
 use Rattle.std.proofs.lemmas.Slice.Eq.{bytes_eq-Decides}
 use Rattle.zs_keys.specs.Key.{Key as a_key}
 use Rattle.zs_wire.specs.declared.message.Message.{Message}
-use Rattle.zs_wire.specs.declared.message.Message.TheVariants.{DeclareKeyExpr, UndeclareKeyExpr, DeclareSubscriber}
+use Rattle.zs_wire.specs.declared.message.Message.TheVariants.{DeclareKeyExpr, UndeclareKeyExpr, DeclareSubscriber, UndeclareToken, Interest}
+use Rattle.zs_wire.specs.declared.interest.InterestMode.TheVariants.{Current, Final}
+use Rattle.zs_wire.specs.declared.interest.InterestWhat.TheVariants.{Tokens as of_tokens}
 use Rattle.zs_wire.specs.declared.wire_expr.WireExpr.{WireExpr}
 use Rattle.zs_sample.specs.declared.locality.Locality.{Locality}
 use Rattle.zs_wire.specs.declared.quality.QoSType.{QoSType}
 use Rattle.zs_tables.specs.Groups.{Group, number_of_group, members_of, joined, left}
 use Rattle.zs_tables.specs.Recipients.{has_network}
-use Rattle.zs_tables.specs.declared.group_kind.GroupKind.TheVariants.{Subscribers, Publishers}
+use Rattle.zs_tables.specs.declared.group_kind.GroupKind.TheVariants.{Subscribers, Publishers, Queriers}
 use Rattle.zs_tables.specs.declared.subscriber.SubRow.{SubRow}
 use Rattle.zs_events.specs.declared.event.Event.{Event}
-use Rattle.zs_events.specs.declared.event.Event.TheVariants.{Key, UndeclareKey, Sub, Pub, Queryable, Undeclare, Close}
-use Rattle.zs_events.specs.declared.event.EntityKind.TheVariants.{Sub as sub_kind, Pub as pub_kind, Queryable as queryable_sort}
+use Rattle.zs_events.specs.declared.event.Event.TheVariants.{Key, UndeclareKey, Sub, Pub, Queryable, Querier, Undeclare, Close, Token, Lsub, LivelinessGet}
+use Rattle.zs_events.specs.declared.event.EntityKind.TheVariants.{Sub as sub_kind, Pub as pub_kind, Queryable as queryable_sort, Querier as querier_sort, Token as token_sort, Lsub as lsub_sort}
 use Rattle.zs_events.specs.declared.event.KeyArg.{KeyArg}
 use Rattle.zs_events.specs.declared.event.KeyArg.TheVariants.{Text, Number, Declared as declared_text}
 use Rattle.zs_events.specs.declared.turn.Kind.TheVariants.{Subscriber}
 use Rattle.zs_events.specs.declared.turn.Effect.TheVariants.{Send}
 use Rattle.zs_events.specs.declared.turn.Turn.{Turn}
-use Rattle.zs_events.specs.Kinds.{NamedKey, Publishes, NoContent, OwnContent, ByPublisher, Question, ToGets, NoGet, Asks, Answers, EndsSide, Reaches, EndsAll, ToValues, row_of}
+use Rattle.zs_events.specs.Kinds.{NamedKey, Publishes, NoContent, OwnContent, ByPublisher, Question, ToGets, NoGet, Asks, AsksBy, Answers, EndsSide, Reaches, EndsQuerier, Cancels, EndsAll, ToValues, row_of}
 use Rattle.zs_core.specs.declared.publisher.PubRow.{PubRow}
 use Rattle.zs_core.specs.declared.settings.Settings.{Settings}
 use Rattle.zs_core.specs.declared.change.Change.{Change}
-use Rattle.zs_core.specs.declared.change.Change.TheVariants.{Nothing, OfEntities, Shut}
-use Rattle.zs_core.specs.declared.change.EntityChange.TheVariants.{AddSub, EndSub, AddPub, EndPub, AddQueryable, EndQueryable, LeaveSub, LeaveQueryable}
+use Rattle.zs_core.specs.declared.change.Change.TheVariants.{Nothing, OfEntities, Shut, OfLiveliness}
+use Rattle.zs_core.specs.declared.change.EntityChange.TheVariants.{AddSub, EndSub, AddPub, EndPub, AddQueryable, EndQueryable, AddQuerier, EndQuerier, LeaveSub, LeaveQueryable}
 use Rattle.zs_core.specs.declared.change.Decision.{Decision}
 use Rattle.zs_core.specs.World.{World}
 use Rattle.zs_core.specs.Entry.{Entry}
@@ -38,14 +40,16 @@ use Rattle.zs_core.specs.Past.{past_of}
 use Rattle.zs_core.specs.Keys.{key_of}
 use Rattle.zs_core.specs.Subscribers.{sub_at}
 use Rattle.zs_core.specs.Publishers.{pub_at, resolved}
-use Rattle.zs_core.specs.Groups.{is_empty, Shared, share_text, shares, sharing, sub_shared, pub_shared, Company, company_at, last_number, sends_if, last_sends, leaving, left_found, subscriber_end, interest_end}
+use Rattle.zs_core.specs.Groups.{is_empty, Shared, share_text, shares, sharing, sub_shared, pub_shared, querier_shared, Company, company_at, last_number, sends_if, last_sends, leaving, left_found, subscriber_end, interest_end, querier_end}
 use Rattle.zs_core.specs.Sends.{OwnKeys, full_wire, group_wire, wire_form, declaration_of, key_sends, return_sends, is_sent, push_with, publication_sends, sends_of}
 use Rattle.zs_tables.specs.declared.queryable.QueryableRow.{QueryableRow}
 use Rattle.zs_query.specs.declared.query_value.QueryValue.{QueryValue}
 use Rattle.zs_core.specs.Queryables.{queryable_at}
+use Rattle.zs_core.specs.declared.querier.QuerierSettings.{QuerierSettings}
+use Rattle.zs_core.specs.Queriers.{querier_at, querier_event}
 use Rattle.zs_core.specs.GetEffects.{asked_effects, request_effects}
 use Rattle.zs_core.specs.ValueEffects.{Answering, value_effects}
-use Rattle.zs_core.specs.Effects.{Known, draws_of, answering, key_wire, queryable_leaves, entity_sends, effects}
+use Rattle.zs_core.specs.Effects.{Known, to_gets_for, draws_of, answering, key_wire, queryable_leaves, entity_sends, effects, declared_sends, token_declaration, token_interest, lsub_mode}
 use Rattle.zs_core.specs.Changes.{change_for, sub_change, with_change}
 use Rattle.zs_core.specs.Turns.{text_for, number_for, known_at, decision}
 use Rattle.zs_core.specs.Stands.{world_of, world_after}
@@ -55,6 +59,7 @@ use Rattle.zs_core.specs.Laws.{SubscribersAreCovered}
 use Rattle.zs_core.proofs.Filters.{all_weaker}
 use Rattle.zs_core.proofs.Decisions.{entry_for, cases}
 use Rattle.zs_core.proofs.Changes.{IsMade, made}
+use Rattle.zs_core.proofs.Watching.{never_down}
 use Rattle.zs_core.proofs.Groups.{AreApart}
 use Rattle.zs_core.proofs.GroupNumbers.{AreShared}
 use Rattle.zs_core.proofs.Stands.{AreStanding, standing, same_turn, same_text, steps}
@@ -116,6 +121,9 @@ beside_asked default k key values (Some number) (Some text) q =
 beside_request : (default : ℕ) (k : OwnKeys) (key : NamedKey) (values : List QueryValue) (number : Option ℕ) (text : Option (List ℕ)) (to : ToGets) → AreBeside (messages_of (request_effects default k key values number text to))
 beside_request default k key values number text (Asks q) = beside_asked default k key values number text q
 beside_request default k key values number text NoGet = λ before n. refl
+beside_request default k key values number text (AsksBy id q) = λ before n. refl
+beside_request default k key values number text (EndsQuerier id) = λ before n. refl
+beside_request default k key values number text (Cancels token) = λ before n. refl
 beside_request default k key values number text (Answers response) = λ before n. refl
 beside_request default k key values number text (EndsSide rid) = λ before n. refl
 beside_request default k key values number text (Reaches moment) = λ before n. refl
@@ -136,6 +144,13 @@ beside_queryable_end : (o : Option QueryableRow) → AreBeside (messages_of (que
 beside_queryable_end None = λ before n. refl
 beside_queryable_end (Some row) = beside_first _ _ (λ before n. refl)
 
+-- what is sent of liveliness
+beside_declared : (message : ℕ → WireExpr → Message) (k : OwnKeys) (number : Option ℕ) (text : Option (List ℕ)) (key : KeyArg)
+    → ((id : ℕ) (wire : WireExpr) → AreBeside (message id wire ∷ [])) → AreBeside (messages_of (declared_sends message k number text key))
+beside_declared message k (Some id) (Some text) key aside = aside id (key_wire k text key)
+beside_declared message k (Some id) None key aside = λ before n. refl
+beside_declared message k None text key aside = λ before n. refl
+
 -- what is sent of publishers and their groups
 beside_pub : (known : Known) (destination : Locality) (key : KeyArg) (encoding : List ℕ) (qos : QoSType) (reliable : Bool) (number : Option ℕ) (text : Option (List ℕ))
     → AreBeside (messages_of (entity_sends known (Pub destination key encoding qos reliable) number text))
@@ -148,6 +163,20 @@ beside_leaving c None = λ before n. refl
 beside_leaving c (Some x) = go (last_number c x)
   where
     go : (o : Option ℕ) → AreBeside (messages_of (last_sends interest_end o))
+    go None = λ before n. refl
+    go (Some number) = λ before n. refl
+
+-- and of queriers
+beside_querier : (known : Known) (key : KeyArg) (settings : QuerierSettings) (number : Option ℕ) (text : Option (List ℕ)) → AreBeside (messages_of (entity_sends known (querier_event key settings) number text))
+beside_querier known key settings None text = λ before n. refl
+beside_querier known key settings (Some id) None = λ before n. refl
+beside_querier known key settings (Some id) (Some text) = beside_first _ _ (λ before n. refl)
+
+beside_querier_end : (c : Company) (x : Option Shared) → AreBeside (messages_of (leaving c querier_end x))
+beside_querier_end c None = λ before n. refl
+beside_querier_end c (Some x) = go (last_number c x)
+  where
+    go : (o : Option ℕ) → AreBeside (messages_of (last_sends querier_end o))
     go None = λ before n. refl
     go (Some number) = λ before n. refl
 
@@ -177,8 +206,11 @@ unmoved w x (OfEntities (AddPub row)) m drew ended = (refl, omega arith)
 unmoved w x (OfEntities (EndPub id)) m drew ended = (refl, same w.counters.entity)
 unmoved w x (OfEntities (AddQueryable row)) m drew ended = (refl, omega arith)
 unmoved w x (OfEntities (EndQueryable id)) m drew ended = (refl, same w.counters.entity)
+unmoved w x (OfEntities (AddQuerier row)) m drew ended = (refl, omega arith)
+unmoved w x (OfEntities (EndQuerier id)) m drew ended = (refl, same w.counters.entity)
 unmoved w x (OfEntities (LeaveSub id)) m drew ended = (refl, same w.counters.entity)
 unmoved w x (OfEntities (LeaveQueryable id)) m drew ended = (refl, same w.counters.entity)
+unmoved w x (OfLiveliness change) m drew ended = (refl, never_down change w.counters.entity)
 unmoved w x Nothing m drew ended = (refl, same w.counters.entity)
 unmoved w x c m drew ended = (refl, same w.counters.entity)
 
@@ -283,9 +315,35 @@ group_step w (Queryable origin complete key) before shared m read are =
     let e = Queryable origin complete key in
     kept w e (messages_of (entity_sends (known_at w) e (number_for w e) (text_for w e))) before m
     (beside_queryable (known_at w) origin complete key (number_for w e) (text_for w e)) (λ n. refl) (λ n. refl) are
+group_step w (Querier destination key target consolidation timeout qos any_key) before shared m read are =
+    let e = Querier destination key target consolidation timeout qos any_key in
+    kept w e (messages_of (entity_sends (known_at w) e (number_for w e) (text_for w e))) before m
+    (beside_querier (known_at w) key (record { destination = destination; target = target; consolidation = consolidation; timeout = timeout; qos = qos; any_key = any_key }) (number_for w e) (text_for w e))
+    (λ n. refl) (λ n. refl) are
+group_step w (Undeclare querier_sort id) before shared m read are =
+    kept w (Undeclare querier_sort id) (messages_of (leaving (company_at w.settings w.groups Queriers) querier_end (option_map querier_shared (querier_at id w.entities.queriers)))) before m
+    (beside_querier_end (company_at w.settings w.groups Queriers) (option_map querier_shared (querier_at id w.entities.queriers))) (λ n. refl) (λ n. refl) are
 group_step w (Undeclare queryable_sort id) before shared m read are =
     kept w (Undeclare queryable_sort id) (messages_of (queryable_leaves (queryable_at id w.entities.queryables))) before m
     (beside_queryable_end (queryable_at id w.entities.queryables)) (λ n. refl) (λ n. refl) are
+group_step w (Token key) before shared m read are =
+    let ms = messages_of (declared_sends token_declaration (known_at w).keys (number_for w (Token key)) (text_for w (Token key)) key) in
+    kept w (Token key) ms before m
+    (beside_declared token_declaration (known_at w).keys (number_for w (Token key)) (text_for w (Token key)) key (λ id wire before n. refl)) (λ n. refl) (λ n. refl) are
+group_step w (Lsub history key) before shared m read are =
+    let ms = messages_of (declared_sends (token_interest (lsub_mode history)) (known_at w).keys (number_for w (Lsub history key)) (text_for w (Lsub history key)) key) in
+    kept w (Lsub history key) ms before m
+    (beside_declared (token_interest (lsub_mode history)) (known_at w).keys (number_for w (Lsub history key)) (text_for w (Lsub history key)) key (λ id wire before n. refl))
+    (λ n. refl) (λ n. refl) are
+group_step w (LivelinessGet key timeout token) before shared m read are =
+    let ms = messages_of (declared_sends (token_interest Current) (known_at w).keys (number_for w (LivelinessGet key timeout token)) (text_for w (LivelinessGet key timeout token)) key) in
+    kept w (LivelinessGet key timeout token) ms before m
+    (beside_declared (token_interest Current) (known_at w).keys (number_for w (LivelinessGet key timeout token)) (text_for w (LivelinessGet key timeout token)) key (λ id wire before n. refl))
+    (λ n. refl) (λ n. refl) are
+group_step w (Undeclare token_sort id) before shared m read are =
+    kept w (Undeclare token_sort id) (UndeclareToken id None None ∷ []) before m (λ before n. refl) (λ n. refl) (λ n. refl) are
+group_step w (Undeclare lsub_sort id) before shared m read are =
+    kept w (Undeclare lsub_sort id) (Interest id Final of_tokens None ∷ []) before m (λ before n. refl) (λ n. refl) (λ n. refl) are
 group_step w Close before shared m read are = record { stands = λ text n is. cc; below = λ text n is. cc }
 group_step w (Key key) before shared m read are = kept w (Key key) [] before m (λ before n. refl) (λ n. refl) (λ n. refl) are
 group_step w e before shared m read are = kept w e [] before m (λ before n. refl) (λ n. refl) (λ n. refl) are
@@ -305,7 +363,7 @@ event_step w e before shared m read are =
     let ys = messages_of (entity_sends (known_at w) e (number_for w e) (text_for w e)) in
     let first : Covers w (sent_behind asked before) =
     beside_covers w.groups.subscribers w.counters.entity w.counters.entity asked before
-    (beside_request (known_at w).timeout (known_at w).keys (row_of e).key drawn (number_for w e) (text_for w e) (row_of e).to_gets) (same w.counters.entity) are in
+    (beside_request (known_at w).timeout (known_at w).keys (row_of e).key drawn (number_for w e) (text_for w e) (to_gets_for (known_at w) e)) (same w.counters.entity) are in
     let second : Covers w (sent_behind answered (sent_behind asked before)) =
     beside_covers w.groups.subscribers w.counters.entity w.counters.entity answered (sent_behind asked before)
     (beside_answer (answering (known_at w)) (row_of e).key drawn (text_for w e) (row_of e).to_values) (same w.counters.entity) first in

@@ -13,7 +13,7 @@ use Rattle.zs_query.specs.Unfinished.{value_at, values_from, has_other, without_
 use Rattle.zs_query.specs.RequestTable.{Handing, with_handed, with_share, with_finished}
 use Rattle.zs_query.proofs.Ascending.{all_weaker, all_append, all_filter, ascend_append, ascend_filter}
 use Rattle.zs_events.specs.declared.event.Event.{Event}
-use Rattle.zs_events.specs.Kinds.{ToGets, NoGet, Asks, Answers, EndsSide, Reaches, EndsAll, ToValues, NoValue, Requested, AnswersBy, AnswersError, SharesValue, GivesBack, row_of}
+use Rattle.zs_events.specs.Kinds.{ToGets, NoGet, Asks, AsksBy, Answers, EndsSide, Reaches, EndsQuerier, Cancels, EndsAll, ToValues, NoValue, Requested, AnswersBy, AnswersError, SharesValue, GivesBack, row_of}
 use Rattle.zs_core.specs.declared.settings.Settings.{Settings}
 use Rattle.zs_core.specs.declared.change.Change.{Change}
 use Rattle.zs_core.specs.World.{World}
@@ -22,10 +22,13 @@ use Rattle.zs_core.specs.Past.{past_of}
 use Rattle.zs_core.specs.Values.{met_by_get, met_by_request, get_request, network_request, handing_of}
 use Rattle.zs_core.specs.Changes.{with_change}
 use Rattle.zs_core.specs.Finals.{is_last_of, ends_request, times_ended, is_asked_still, is_over}
+use Rattle.zs_core.specs.Live.{to_gets_of}
+use Rattle.zs_core.specs.Turns.{to_gets_at}
 use Rattle.zs_core.specs.Stands.{world_after}
 use Rattle.zs_core.proofs.Changes.{IsMade}
 use Rattle.zs_core.proofs.Values.{handing_next}
 use Rattle.zs_core.proofs.Steps.{along}
+use Rattle.zs_core.proofs.Live.{same_gets}
 use Rattle.zs_core.proofs.Stands.{AreStanding, standing_more, standing}
 
 -- whether a request is over, by the table
@@ -279,9 +282,12 @@ next_is r rows NoGet (AnswersBy value body quality) number text h order = stays 
 next_is r rows NoGet (AnswersError value error) number text h order = stays r h order
 next_is r rows NoGet (SharesValue value) number text h order = shared_next r value h (value_at value h.values) refl order
 next_is r rows NoGet (GivesBack value) number text h order = finished_next r value h (value_at value h.values) refl order
+next_is r rows (AsksBy id q) does number text h order = stays r h order
 next_is r rows (Answers response) does number text h order = stays r h order
 next_is r rows (EndsSide n) does number text h order = stays r h order
 next_is r rows (Reaches moment) does number text h order = stays r h order
+next_is r rows (EndsQuerier id) does number text h order = stays r h order
+next_is r rows (Cancels token) does number text h order = stays r h order
 next_is r rows EndsAll does number text h order = stays r h order
 
 -- so behind each history
@@ -290,16 +296,16 @@ record AreEnded (r : ℕ) (w : World) (past : List Entry) : Type 0 where
   order : InOrder w.handing
   ended : times_ended r past ≡ times (over r w.handing)
 
-ended_more : (r : ℕ) (w : World) (past : List Entry) (x : Entry) (c : Change) → IsMade w x c → (with_change c w).handing ≡ handing_of (x ∷ past) → AreEnded r w past → AreEnded r (with_change c w) (x ∷ past)
-ended_more r w past x c m same is =
-    let next : IsNext r (ends_request r w.handing.values (row_of x.event).to_gets (row_of x.event).to_values) w.handing (with_change c w).handing =
-    subst (IsNext r (ends_request r w.handing.values (row_of x.event).to_gets (row_of x.event).to_values) w.handing) (sym m.gets.handing)
-    (next_is r w.entities.queryables (row_of x.event).to_gets (row_of x.event).to_values x.number x.text w.handing is.order) in
+ended_more : (r : ℕ) (w : World) (past : List Entry) (x : Entry) (c : Change) → IsMade w x c → (with_change c w).handing ≡ handing_of (x ∷ past) → to_gets_at w x.event ≡ to_gets_of past x.event → AreEnded r w past → AreEnded r (with_change c w) (x ∷ past)
+ended_more r w past x c m same to is =
+    let next : IsNext r (ends_request r w.handing.values (to_gets_at w x.event) (row_of x.event).to_values) w.handing (with_change c w).handing =
+    subst (IsNext r (ends_request r w.handing.values (to_gets_at w x.event) (row_of x.event).to_values) w.handing) (sym m.gets.handing)
+    (next_is r w.entities.queryables (to_gets_at w x.event) (row_of x.event).to_values x.number x.text w.handing is.order) in
     record {
       same = same;
       order = next.order;
       ended =
-          (λ i. if ends_request r (sym is.same i).values (row_of x.event).to_gets (row_of x.event).to_values then is.ended i + 1 else is.ended i)
+          (λ i. if ends_request r (sym is.same i).values (sym to i) (row_of x.event).to_values then is.ended i + 1 else is.ended i)
           ∙ next.ended;
     }
 
@@ -308,7 +314,7 @@ ends_once s h r =
     let P = λ (w : World) (past : List Entry). AreStanding s w past × AreEnded r w past in
     let both : P (world_after s h) (past_of s h) =
     along s P (standing s [], record { same = refl; order = record { ascend = tt; below = tt; handed = tt }; ended = sym (ap times (none_yet r)) })
-    (λ w past x c m p. let st = standing_more s w past x c m p.0 in (st, ended_more r w past x c m st.handing p.1)) h in
+    (λ w past x c m p. let st = standing_more s w past x c m p.0 in (st, ended_more r w past x c m st.handing (same_gets w past x.event p.0.live) p.1)) h in
     both.1.ended ∙ ap (λ (h : Handing). times (over r h)) both.1.same
   where
     none_yet : (r : ℕ) → (nat_lt r 0 && true) ≡ false

@@ -3,11 +3,13 @@ use Rattle.std.proofs.Common.{◌≡◌, ℕ, List, [], ◌∷◌, ◌++◌, Boo
 use Rattle.std.specs.Prelude.{◌||◌, nat_le, is_some, option_map, if◌then◌else◌}
 use Rattle.zs_wire.specs.declared.message.Message.{Message}
 use Rattle.zs_wire.specs.declared.message.Message.TheVariants.{DeclareKeyExpr, UndeclareKeyExpr, UndeclareQueryable, Request as request_message, Response as response_message, ResponseFinal}
+use Rattle.zs_wire.specs.declared.wire_expr.WireExpr.{WireExpr}
+use Rattle.zs_wire.specs.declared.interest.InterestMode.TheVariants.{Current}
 use Rattle.zs_wire.specs.declared.response.Answered.TheVariants.{Reply, Err as Error}
 use Rattle.zs_wire.specs.declared.request.Request.{Request}
 use Rattle.zs_tables.specs.Recipients.{has_network}
 use Rattle.zs_tables.specs.declared.queryable.QueryableRow.{QueryableRow}
-use Rattle.zs_tables.specs.declared.group_kind.GroupKind.TheVariants.{Subscribers, Publishers}
+use Rattle.zs_tables.specs.declared.group_kind.GroupKind.TheVariants.{Subscribers, Publishers, Queriers}
 use Rattle.zs_query.specs.declared.query_value.QueryValue.{QueryValue}
 use Rattle.zs_query.specs.declared.requests.Finished.{Finished}
 use Rattle.zs_query.specs.declared.requests.Finished.TheVariants.{Unknown, MoreLeft, Last}
@@ -15,13 +17,14 @@ use Rattle.zs_query.specs.declared.side.Side.TheVariants.{Local}
 use Rattle.zs_query.specs.Gets.{get_at, peek_at, final_outcome}
 use Rattle.zs_query.specs.Unfinished.{value_at, values_from, finished}
 use Rattle.zs_events.specs.declared.event.Event.{Event}
-use Rattle.zs_events.specs.declared.event.Event.TheVariants.{Key, UndeclareKey, Sub, Pub, Queryable, Undeclare, Close, Net}
-use Rattle.zs_events.specs.declared.event.EntityKind.TheVariants.{Sub as sub_kind, Pub as pub_kind, Queryable as queryable_sort}
+use Rattle.zs_events.specs.declared.event.Event.TheVariants.{Key, UndeclareKey, Sub, Pub, Queryable, Querier, Token, Lsub, LivelinessGet, Undeclare, Close, Net}
+use Rattle.zs_events.specs.declared.event.EntityKind.TheVariants.{Sub as sub_kind, Pub as pub_kind, Queryable as queryable_sort, Querier as querier_sort}
+use Rattle.zs_events.specs.declared.event.KeyArg.{KeyArg}
 use Rattle.zs_events.specs.declared.event.KeyArg.TheVariants.{Text, Number, Declared as declared_text}
 use Rattle.zs_events.specs.declared.turn.Effect.TheVariants.{Send}
 use Rattle.zs_events.specs.declared.turn.Refusal.{Refusal}
 use Rattle.zs_events.specs.declared.turn.Turn.{Turn}
-use Rattle.zs_events.specs.Kinds.{NamedKey, Publishes, NoContent, OwnContent, ByPublisher, ToGets, NoGet, Asks, Answers, EndsSide, Reaches, EndsAll, ToValues, NoValue, Requested, AnswersBy, AnswersError, SharesValue, GivesBack, message_row, row_of}
+use Rattle.zs_events.specs.Kinds.{NamedKey, Publishes, NoContent, OwnContent, ByPublisher, ToGets, NoGet, Asks, AsksBy, Answers, EndsSide, Reaches, EndsQuerier, Cancels, EndsAll, ToValues, NoValue, Requested, AnswersBy, AnswersError, SharesValue, GivesBack, message_row, row_of}
 use Rattle.zs_core.specs.declared.settings.Settings.{Settings}
 use Rattle.zs_core.specs.declared.change.Change.TheVariants.{Nothing}
 use Rattle.zs_events.specs.Turn.{answered}
@@ -29,12 +32,13 @@ use Rattle.zs_core.specs.declared.publisher.PubRow.{PubRow}
 use Rattle.zs_core.specs.World.{World}
 use Rattle.zs_core.specs.Past.{past_of}
 use Rattle.zs_core.specs.Values.{met_by, network_request}
-use Rattle.zs_core.specs.Groups.{Company, company_at, Shared, last_number, sends_if, last_sends, leaving, subscriber_end, interest_end, sub_shared, pub_shared}
+use Rattle.zs_core.specs.Groups.{Company, company_at, Shared, last_number, sends_if, last_sends, leaving, subscriber_end, interest_end, querier_end, sub_shared, pub_shared, querier_shared}
 use Rattle.zs_core.specs.Subscribers.{sub_at}
 use Rattle.zs_core.specs.Publishers.{pub_at, resolved}
 use Rattle.zs_core.specs.Queryables.{queryable_at}
+use Rattle.zs_core.specs.Queriers.{querier_at}
 use Rattle.zs_core.specs.Sends.{OwnKeys, key_sends, return_sends, is_sent, push_with, wire_form, full_wire, declaration_of, publication_sends, sends_of}
-use Rattle.zs_core.specs.Effects.{draws_of, answering, queryable_leaves, entity_sends, effects}
+use Rattle.zs_core.specs.Effects.{to_gets_for, draws_of, answering, key_wire, queryable_leaves, declared_sends, token_declaration, token_interest, lsub_mode, entity_sends, effects}
 use Rattle.zs_core.specs.GetEffects.{request_effects, final_effects}
 use Rattle.zs_core.specs.ValueEffects.{value_effects, requested_effects, finish_effects, replied_effects, error_effects, answer_effects, answer_error_effects}
 use Rattle.zs_core.specs.Answers.{local_reply, local_error, response_by, quality_of}
@@ -59,6 +63,9 @@ none_asked default k key values (Some number) (Some text) (Asks q) =
 none_asked default k key values None text (Asks q) = refl
 none_asked default k key values (Some number) None (Asks q) = refl
 none_asked default k key values number text NoGet = refl
+none_asked default k key values number text (AsksBy id q) = refl
+none_asked default k key values number text (EndsQuerier id) = refl
+none_asked default k key values number text (Cancels token) = refl
 none_asked default k key values number text (Answers response) = refl
 none_asked default k key values number text (EndsSide rid) = refl
 none_asked default k key values number text (Reaches moment) = refl
@@ -105,17 +112,23 @@ none_sent k pubs number text Close = refl
 none_sent k pubs number text e = none_push k (row_of e).key text (resolved pubs (row_of e).publishes)
 
 none_leaving : (c : Company) (x : Option Shared)
-    → (finals_among (messages_of (leaving c subscriber_end x)) ≡ []) × (finals_among (messages_of (leaving c interest_end x)) ≡ [])
-none_leaving c None = (refl, refl)
+    → (finals_among (messages_of (leaving c subscriber_end x)) ≡ []) × (finals_among (messages_of (leaving c interest_end x)) ≡ []) × (finals_among (messages_of (leaving c querier_end x)) ≡ [])
+none_leaving c None = (refl, refl, refl)
 none_leaving c (Some x) = go (last_number c x)
   where
-    go : (o : Option ℕ) → (finals_among (messages_of (last_sends subscriber_end o)) ≡ []) × (finals_among (messages_of (last_sends interest_end o)) ≡ [])
-    go None = (refl, refl)
-    go (Some n) = (refl, refl)
+    go : (o : Option ℕ) → (finals_among (messages_of (last_sends subscriber_end o)) ≡ []) × (finals_among (messages_of (last_sends interest_end o)) ≡ []) × (finals_among (messages_of (last_sends querier_end o)) ≡ [])
+    go None = (refl, refl, refl)
+    go (Some n) = (refl, refl, refl)
 
 none_queryable_end : (o : Option QueryableRow) → finals_among (messages_of (queryable_leaves o)) ≡ []
 none_queryable_end None = refl
 none_queryable_end (Some row) = none_if (has_network row.origin) (UndeclareQueryable row.id) refl
+
+none_declared : (message : ℕ → WireExpr → Message) (k : OwnKeys) (number : Option ℕ) (text : Option (List ℕ)) (key : KeyArg)
+    → ((id : ℕ) (wire : WireExpr) → finals_among (message id wire ∷ []) ≡ []) → finals_among (messages_of (declared_sends message k number text key)) ≡ []
+none_declared message k (Some id) (Some text) key none = none id (key_wire k text key)
+none_declared message k (Some id) None key none = refl
+none_declared message k None text key none = refl
 
 none_entity : (w : World) (number : Option ℕ) (text : Option (List ℕ)) (e : Event) → finals_among (messages_of (entity_sends (known_at w) e number text)) ≡ []
 none_entity w (Some id) (Some text) (Sub origin key) = none_if _ _ refl
@@ -127,9 +140,16 @@ none_entity w None text (Pub destination key encoding qos reliable) = refl
 none_entity w (Some id) (Some text) (Queryable origin complete key) = none_if _ _ refl
 none_entity w (Some id) None (Queryable origin complete key) = refl
 none_entity w None text (Queryable origin complete key) = refl
+none_entity w (Some id) (Some text) (Querier destination key target consolidation timeout qos any_key) = none_if _ _ refl
+none_entity w (Some id) None (Querier destination key target consolidation timeout qos any_key) = refl
+none_entity w None text (Querier destination key target consolidation timeout qos any_key) = refl
+none_entity w number text (Undeclare querier_sort id) = (none_leaving (company_at w.settings w.groups Queriers) (option_map querier_shared (querier_at id w.entities.queriers))).2
 none_entity w number text (Undeclare sub_kind id) = (none_leaving (company_at w.settings w.groups Subscribers) (option_map sub_shared (sub_at id w.entities.subs))).0
 none_entity w number text (Undeclare pub_kind id) = (none_leaving (company_at w.settings w.groups Publishers) (option_map pub_shared (pub_at id w.entities.pubs))).1
 none_entity w number text (Undeclare queryable_sort id) = none_queryable_end (queryable_at id w.entities.queryables)
+none_entity w number text (Token key) = none_declared token_declaration (own_keys_at w) number text key (λ id wire. refl)
+none_entity w number text (Lsub history key) = none_declared (token_interest (lsub_mode history)) (own_keys_at w) number text key (λ id wire. refl)
+none_entity w number text (LivelinessGet key timeout token) = none_declared (token_interest Current) (own_keys_at w) number text key (λ id wire. refl)
 none_entity w number text (Key key) = refl
 none_entity w number text e = refl
 
@@ -212,7 +232,7 @@ finals_told w number text e =
     let answered = answered_by (known_at w) number text e in
     let beside = told_beside (known_at w) number text e in
     finals_append asked (answered ++ beside)
-    ∙ ap (λ (ids : List ℕ). ids ++ finals_among (answered ++ beside)) (none_asked w.settings.default_timeout (own_keys_at w) (row_of e).key (draws_of (known_at w) number text e) number text (row_of e).to_gets)
+    ∙ ap (λ (ids : List ℕ). ids ++ finals_among (answered ++ beside)) (none_asked w.settings.default_timeout (own_keys_at w) (row_of e).key (draws_of (known_at w) number text e) number text (to_gets_for (known_at w) e))
     ∙ finals_append answered beside
     ∙ ap (λ (ids : List ℕ). finals_among answered ++ ids) (none_beside w number text e)
     ∙ append-nil (finals_among answered)

@@ -13,7 +13,7 @@ use Rattle.zs_query.specs.Asked.{News, Quiet, ReplyTo, FinalOf, AtMoment, Querie
 use Rattle.zs_query.specs.GetTable.{Asking, with_asked}
 use Rattle.zs_query.proofs.Ascending.{all_weaker, all_append, ascend_append}
 use Rattle.zs_query.proofs.Hearing.{all_map, told, open_more, heard_ascend}
-use Rattle.zs_events.specs.Kinds.{Question, ToGets, NoGet, Asks, Answers, EndsSide, Reaches, EndsAll, ToValues, row_of}
+use Rattle.zs_events.specs.Kinds.{Question, ToGets, NoGet, Asks, AsksBy, Answers, EndsSide, Reaches, EndsQuerier, Cancels, EndsAll, ToValues, row_of}
 use Rattle.zs_tables.specs.Queryables.{met}
 use Rattle.zs_tables.specs.declared.queryable.QueryableRow.{QueryableRow}
 use Rattle.zs_query.specs.declared.query_value.QueryValue.{QueryValue}
@@ -21,7 +21,9 @@ use Rattle.zs_core.specs.Values.{wants_complete, met_by_get, values_now}
 use Rattle.zs_core.specs.Answers.{news_by_value}
 use Rattle.zs_core.specs.declared.settings.Settings.{Settings}
 use Rattle.zs_core.specs.Entry.{Entry}
-use Rattle.zs_core.specs.Live.{appended, live_queryables}
+use Rattle.zs_core.specs.declared.querier.QuerierRow.{QuerierRow}
+use Rattle.zs_core.specs.Queriers.{querier_at, asks_of, to_gets_by}
+use Rattle.zs_core.specs.Live.{appended, live_queryables, live_queriers, to_gets_of}
 use Rattle.zs_core.specs.Counters.{draws_query, next_query}
 use Rattle.zs_core.specs.Questions.{mode_by, is_some_met, row_asked, row_waiting}
 use Rattle.zs_core.specs.Gets.{news_by, news_of, own_news, asked_by, moment_by, moment_of, asked, open_now}
@@ -162,24 +164,38 @@ next_step s w new past (Asks q) does number None is under st =
     nothing (Some n) = refl
 next_step s w new past NoGet does number text is under st =
     hears w new (news_by_value s.zid (values_now past) does text) w.moment (moment_of past) (asked s past) is st.moment st.gets st.ascend st.below
+next_step s w new past (AsksBy id q) does number text is under st = hears w new Quiet w.moment (moment_of past) (asked s past) is st.moment st.gets st.ascend st.below
 next_step s w new past (Answers response) does number text is under st =
     hears w new (news_by (Answers response) text) w.moment (moment_of past) (asked s past) is st.moment st.gets st.ascend st.below
 next_step s w new past (EndsSide n) does number text is under st =
     hears w new (FinalOf n Network) w.moment (moment_of past) (asked s past) is st.moment st.gets st.ascend st.below
 next_step s w new past (Reaches m) does number text is under st =
     hears w new (AtMoment m) (max w.moment m) (max (moment_of past) m) (asked s past) is (ap (λ (n : ℕ). max n m) st.moment) st.gets st.ascend st.below
+next_step s w new past (EndsQuerier id) does number text is under st =
+    hears w new (QuerierEnds id) w.moment (moment_of past) (asked s past) is st.moment st.gets st.ascend st.below
+next_step s w new past (Cancels token) does number text is under st =
+    hears w new (CancelledBy token) w.moment (moment_of past) (asked s past) is st.moment st.gets st.ascend st.below
 next_step s w new past EndsAll does number text is under st = hears w new AllEnd w.moment (moment_of past) (asked s past) is st.moment st.gets st.ascend st.below
+
+-- no querier's get is a moment
+moment_same : (rows : List QuerierRow) (to : ToGets) (m : ℕ) → moment_by (to_gets_by rows to) m ≡ moment_by to m
+moment_same rows (AsksBy id q) m = go (querier_at id rows)
+  where
+    go : (o : Option QuerierRow) → moment_by (asks_of q o) m ≡ m
+    go None = refl
+    go (Some row) = refl
+moment_same rows to m = refl
 
 -- the tables behind one event more
 pub asked_more : (s : Settings) (w new : Asking) (past : List Entry) (x : Entry)
-    → new ≡ asking_by s.default_timeout s.zid (live_queryables past) (values_now past) (row_of x.event).to_gets (row_of x.event).to_values x.text w
-    → IsAskedUnder (row_of x.event).to_gets x.number w.next → new.next ≡ (if draws_query (row_of x.event).draws then w.next + 1 else w.next)
+    → new ≡ asking_by s.default_timeout s.zid (live_queryables past) (values_now past) (to_gets_of past x.event) (row_of x.event).to_values x.text w
+    → IsAskedUnder (to_gets_of past x.event) x.number w.next → new.next ≡ (if draws_query (row_of x.event).draws then w.next + 1 else w.next)
     → AreAsked s w past → AreAsked s new (x ∷ past)
 asked_more s w new past x is under counted st =
-    let n = next_step s w new past (row_of x.event).to_gets (row_of x.event).to_values x.number x.text is under st in
+    let n = next_step s w new past (to_gets_of past x.event) (row_of x.event).to_values x.number x.text is under st in
     record {
       gets = n.gets;
-      moment = n.moment;
+      moment = n.moment ∙ moment_same (live_queriers past) (row_of x.event).to_gets (moment_of past);
       next = counted ∙ ap (λ (m : ℕ). if draws_query (row_of x.event).draws then m + 1 else m) st.next;
       ascend = n.ascend;
       below = n.below;

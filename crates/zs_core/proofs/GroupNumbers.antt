@@ -10,13 +10,14 @@ use Rattle.zs_tables.specs.declared.group_kind.GroupKind.{GroupKind}
 use Rattle.zs_tables.specs.declared.group_kind.GroupKind.TheVariants.{Subscribers, Publishers, Queriers}
 use Rattle.zs_tables.specs.declared.subscriber.SubRow.{SubRow}
 use Rattle.zs_core.specs.declared.publisher.PubRow.{PubRow}
+use Rattle.zs_core.specs.declared.querier.QuerierRow.{QuerierRow}
 use Rattle.zs_core.specs.declared.settings.Settings.{Settings}
 use Rattle.zs_core.specs.declared.change.Change.{Change}
 use Rattle.zs_core.specs.declared.change.Change.TheVariants.{Nothing, OfEntities, Shut}
-use Rattle.zs_core.specs.declared.change.EntityChange.TheVariants.{AddSub, EndSub, AddPub, EndPub}
+use Rattle.zs_core.specs.declared.change.EntityChange.TheVariants.{AddSub, EndSub, AddPub, EndPub, AddQuerier, EndQuerier}
 use Rattle.zs_core.specs.World.{World}
 use Rattle.zs_core.specs.Entry.{Entry}
-use Rattle.zs_core.specs.Groups.{Shared, sub_shared, pub_shared, left_found, sharing, group, group_number}
+use Rattle.zs_core.specs.Groups.{Shared, sub_shared, pub_shared, querier_shared, left_found, sharing, group, group_number}
 use Rattle.zs_core.specs.Changes.{with_change}
 use Rattle.zs_core.proofs.Groups.{numbered, number_kept}
 use Rattle.zs_core.proofs.Sharing.{AreGrouped, grouped_none, grouped_more, grouped_less, number_more, number_less, only_found}
@@ -28,7 +29,7 @@ use Rattle.zs_core.proofs.Live.{AreLive}
 pub record AreShared (w : World) : Type 0 where
   pub subs : AreGrouped w.settings.aggregated_subscribers w.groups.subscribers (map sub_shared w.entities.subs)
   pub pubs : AreGrouped w.settings.aggregated_publishers w.groups.publishers (map pub_shared w.entities.pubs)
-  pub queriers : w.groups.queriers ≡ []
+  pub queriers : AreGrouped [] w.groups.queriers (map querier_shared w.entities.queriers)
 
 pushed : {R : Type 0} (shared : R → Shared) (rows : List R) (row : R) → map shared (rows ++ row ∷ []) ≡ map shared rows ++ shared row ∷ []
 pushed shared [] row = refl
@@ -103,10 +104,20 @@ shared_step w past (OfEntities (EndPub id)) l are = record {
   pubs = less_found pub_shared w.settings.aggregated_publishers w.groups.publishers w.entities.pubs id (table_ascends _ _ _ _ _ _ l.pubs) are.pubs;
   queriers = are.queriers;
 }
+shared_step w past (OfEntities (AddQuerier row)) l are = record {
+  subs = are.subs;
+  pubs = are.pubs;
+  queriers = rw (pushed querier_shared w.entities.queriers row) (grouped_more [] w.groups.queriers (map querier_shared w.entities.queriers) (querier_shared row) are.queriers);
+}
+shared_step w past (OfEntities (EndQuerier id)) l are = record {
+  subs = are.subs;
+  pubs = are.pubs;
+  queriers = less_found querier_shared [] w.groups.queriers w.entities.queriers id (table_ascends _ _ _ _ _ _ l.queriers) are.queriers;
+}
 shared_step w past Shut l are = record {
   subs = grouped_none w.settings.aggregated_subscribers;
   pubs = grouped_none w.settings.aggregated_publishers;
-  queriers = refl;
+  queriers = grouped_none [];
 }
 shared_step w past Nothing l are = record { subs = are.subs; pubs = are.pubs; queriers = are.queriers }
 shared_step w past c l are = record { subs = are.subs; pubs = are.pubs; queriers = are.queriers }
@@ -125,7 +136,8 @@ members_are s w past Publishers text same l are =
     are.pubs.members text
     ∙ ap (λ (t : Settings). sharing t.aggregated_publishers text (map pub_shared w.entities.pubs)) same
     ∙ ap (λ (rows : List PubRow). sharing s.aggregated_publishers text (map pub_shared rows)) l.pubs.table
-members_are s w past Queriers text same l are = ap (members_of text) are.queriers
+members_are s w past Queriers text same l are =
+    are.queriers.members text ∙ ap (λ (rows : List QuerierRow). sharing [] text (map querier_shared rows)) l.queriers.table
 
 -- what an event makes of a group's number
 number_found : (aggregates : List Key) (gs : List Group) (x : Option Shared) (text : List ℕ) (number : Option ℕ) (xs : List Shared) → AreGrouped aggregates gs xs
@@ -138,7 +150,7 @@ kept_number : (w : World) (kind : GroupKind) (text : List ℕ) (number : Option 
     → number_of_group text (groups_of kind w.groups) ≡ numbered (number_of_group text (groups_of kind w.groups)) number (members_of text (groups_of kind w.groups))
 kept_number w Subscribers text number are = number_kept text w.groups.subscribers number are.subs.apart
 kept_number w Publishers text number are = number_kept text w.groups.publishers number are.pubs.apart
-kept_number w Queriers text number are = rw are.queriers refl
+kept_number w Queriers text number are = number_kept text w.groups.queriers number are.queriers.apart
 
 number_step : (w : World) (c : Change) (number : Option ℕ) (kind : GroupKind) (text : List ℕ) → IsNumber number c → AreShared w
     → number_of_group text (groups_of kind (with_change c w).groups)
@@ -151,6 +163,10 @@ number_step w (OfEntities (AddPub row)) number Publishers text is are = rw is (n
 number_step w (OfEntities (AddPub row)) number kind text is are = kept_number w kind text number are
 number_step w (OfEntities (EndPub id)) number Publishers text is are = number_found w.settings.aggregated_publishers w.groups.publishers _ text number _ are.pubs
 number_step w (OfEntities (EndPub id)) number kind text is are = kept_number w kind text number are
+number_step w (OfEntities (AddQuerier row)) number Queriers text is are = rw is (number_more [] w.groups.queriers (querier_shared row) text are.queriers.apart)
+number_step w (OfEntities (AddQuerier row)) number kind text is are = kept_number w kind text number are
+number_step w (OfEntities (EndQuerier id)) number Queriers text is are = number_found [] w.groups.queriers _ text number _ are.queriers
+number_step w (OfEntities (EndQuerier id)) number kind text is are = kept_number w kind text number are
 number_step w Shut number Subscribers text is are = refl
 number_step w Shut number Publishers text is are = refl
 number_step w Shut number Queriers text is are = refl

@@ -14,12 +14,14 @@ use Rattle.zs_events.specs.declared.event.Event.TheVariants.{Key, UndeclareKey}
 use Rattle.zs_events.specs.declared.event.KeyArg.{KeyArg}
 use Rattle.zs_events.specs.declared.event.KeyArg.TheVariants.{Text, Number, Declared}
 use Rattle.zs_core.specs.World.{World}
-use Rattle.zs_events.specs.Kinds.{NamedKey, NoKey, OwnKey, PublisherKey, WireKey}
+use Rattle.zs_events.specs.Kinds.{NamedKey, NoKey, OwnKey, PublisherKey, QuerierKey, WireKey}
 use Rattle.zs_core.specs.Entry.{Entry, is_closed}
 use Rattle.zs_core.specs.Held.{is_claimed, declares_number, times_declared, times_returned, drawn_text, held_text, stands_for, answers_under, number_among, held_number, key_text, mapped_text, wire_text, text_named}
 use Rattle.zs_core.specs.Keys.{key_of, is_key_of, has_claim, text_with_suffix, numbers_for, wire_of, text_of}
 use Rattle.zs_core.specs.declared.publisher.PubRow.{PubRow}
 use Rattle.zs_core.specs.Publishers.{pub_at}
+use Rattle.zs_core.specs.declared.querier.QuerierRow.{QuerierRow}
+use Rattle.zs_core.specs.Queriers.{querier_at}
 use Rattle.zs_core.proofs.Live.{AreLive}
 use Rattle.zs_core.proofs.DeclaredKeys.{AreKnown, held_text_is}
 use Rattle.zs_core.proofs.DistinctNumbers.{found_again, named_again}
@@ -56,6 +58,7 @@ pub text_is : (w : World) (past : List Entry) (key : NamedKey) → AreLive w pas
 text_is w past NoKey l k = refl
 text_is w past (OwnKey key) l k = key_text_is w past key k
 text_is w past (PublisherKey id) l k = ap (λ (rows : List PubRow). option_map (λ (row : PubRow). row.key.text) (pub_at id rows)) l.pubs.table
+text_is w past (QuerierKey id) l k = ap (λ (rows : List QuerierRow). option_map (λ (row : QuerierRow). row.key.text) (querier_at id rows)) l.queriers.table
 text_is w past (WireKey wire) l k = wire_text_is w past wire k
 
 -- a number that stands for a text by the events is found for it in the table

@@ -1,5 +1,7 @@
 mod Answered
+mod Asking
 mod Bounds
+mod Cancelling
 mod Causes
 mod Changes
 mod Counts
@@ -9,6 +11,7 @@ mod CoveredKeys
 mod Decisions
 mod DeclaredKeys
 mod DistinctNumbers
+mod EndedGets
 mod Endings
 mod Entities
 pub mod Filters
@@ -20,8 +23,10 @@ mod KeyNumbers
 mod Keys
 mod Live
 mod Numbers
+mod Placing
 mod Publications
 mod Publishers
+mod Queriers
 mod Received
 mod Recipients
 mod Replies
@@ -29,4 +34,8 @@ mod Sharing
 mod Spelled
 mod Stands
 mod Steps
+pub mod Watching
+pub mod Tokens
+pub mod Ended
+mod Untaken
 mod Values

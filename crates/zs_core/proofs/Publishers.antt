@@ -37,7 +37,7 @@ abbrev decided : World → ℕ → PublisherContent → Option PubRow → Bool �
 decided w id c o there =
     decision_of
     (first_cause (record (said_by Application) { key = PublisherKey id; names = publisher_named id })
-    (record { text = option_map (λ (row : PubRow). row.key.text) o; lives = there && true; claimed = true; owed = true; disjoint = false; lacks = false; idle = false }))
+    (record { text = option_map (λ (row : PubRow). row.key.text) o; lives = there && true; claimed = true; owed = true; drawn = true; cancelled = false; disjoint = false; lacks = false; idle = false; spared = false }))
     None (published_effects w id (option_map (λ (row : PubRow). row.key.text) o) (content_of c o)) Nothing
 
 canonical_decided : (w : World) (id : ℕ) (text : List ℕ) (p : Publishes) (b : Bool) → b ≡ true

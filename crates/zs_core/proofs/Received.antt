@@ -13,21 +13,21 @@ use mathlib.Core.List.{append-nil}
 use Rattle.zs_keys.specs.Key.{Key as a_key, undeclared}
 use Rattle.zs_keys.specs.declared.declaration.Declared.{Declared}
 use Rattle.zs_wire.specs.declared.message.Message.{Message}
-use Rattle.zs_wire.specs.declared.message.Message.TheVariants.{DeclareKeyExpr, UndeclareKeyExpr, DeclareSubscriber, DeclareQueryable, UndeclareQueryable, Interest, Request as request_message, Response as response_message, ResponseFinal}
-use Rattle.zs_wire.specs.declared.interest.InterestMode.TheVariants.{CurrentFuture}
-use Rattle.zs_wire.specs.declared.interest.InterestWhat.TheVariants.{Subscribers as of_subscribers}
+use Rattle.zs_wire.specs.declared.message.Message.TheVariants.{DeclareKeyExpr, UndeclareKeyExpr, DeclareSubscriber, DeclareQueryable, UndeclareQueryable, Interest, Request as request_message, Response as response_message, ResponseFinal, DeclareToken as token_message, UndeclareToken as token_end_message, DeclareFinal}
+use Rattle.zs_wire.specs.declared.interest.InterestMode.TheVariants.{CurrentFuture, Current}
+use Rattle.zs_wire.specs.declared.interest.InterestWhat.TheVariants.{Subscribers as of_subscribers, Queryables as of_queryables}
 use Rattle.zs_keys.specs.Matching.{includes}
 use Rattle.zs_tables.specs.Recipients.{has_network}
-use Rattle.zs_tables.specs.declared.group_kind.GroupKind.TheVariants.{Subscribers, Publishers}
+use Rattle.zs_tables.specs.declared.group_kind.GroupKind.TheVariants.{Subscribers, Publishers, Queriers}
 use Rattle.zs_wire.specs.declared.wire_expr.WireExpr.{WireExpr}
 use Rattle.zs_tables.specs.Numbers.{NumberedKey, key_at, number_at, without}
 use Rattle.zs_tables.specs.declared.subscriber.SubRow.{SubRow}
 use Rattle.zs_tables.specs.declared.queryable.QueryableRow.{QueryableRow}
 use Rattle.zs_core.specs.Queryables.{queryable_at, queryable_ends}
 use Rattle.zs_events.specs.declared.event.Event.{Event}
-use Rattle.zs_events.specs.declared.event.Event.TheVariants.{Key, UndeclareKey, Sub, Pub, Queryable, Undeclare, Background, Close, Net, Get, Tick, Reply as reply_event, ReplyDelete, ReplyErr, Share, Finish}
-use Rattle.zs_events.specs.declared.event.EntityKind.TheVariants.{Sub as sub_kind, Pub as pub_kind, Queryable as queryable_sort}
-use Rattle.zs_events.specs.declared.event.BackgroundKind.TheVariants.{Sub as background_sub, Queryable as background_queryable}
+use Rattle.zs_events.specs.declared.event.Event.TheVariants.{Key, UndeclareKey, Sub, Pub, Queryable, Querier, Undeclare, Background, Close, Net, Get, QuerierGet, CancelToken, Cancel, Tick, Reply as reply_event, ReplyDelete, ReplyErr, Share, Finish, Token, Lsub, LivelinessGet}
+use Rattle.zs_events.specs.declared.event.EntityKind.TheVariants.{Sub as sub_kind, Pub as pub_kind, Queryable as queryable_sort, Querier as querier_sort, Token as token_sort, Lsub as lsub_sort}
+use Rattle.zs_events.specs.declared.event.BackgroundKind.TheVariants.{Sub as background_sub, Queryable as background_queryable, Lsub as background_lsub}
 use Rattle.zs_events.specs.declared.event.KeyArg.{KeyArg}
 use Rattle.zs_events.specs.declared.event.KeyArg.TheVariants.{Text, Number, Declared as declared_text}
 use Rattle.zs_events.specs.declared.turn.Effect.{Effect}
@@ -35,7 +35,18 @@ use Rattle.zs_events.specs.declared.turn.Effect.TheVariants.{Send, Hand}
 use Rattle.zs_events.specs.declared.turn.HandOver.TheVariants.{Sample as sample_for}
 use Rattle.zs_events.specs.declared.turn.Kind.TheVariants.{Subscriber}
 use Rattle.zs_events.specs.declared.turn.Turn.{Turn}
-use Rattle.zs_events.specs.Kinds.{NamedKey, OwnKey, Publishes, NoContent, OwnContent, ByPublisher, KeyNumber, Question, ToGets, NoGet, Asks, Answers, EndsSide, Reaches, EndsAll, ReplyQuality, ToValues, NoValue, Requested, AnswersBy, AnswersError, SharesValue, GivesBack, put_body, delete_body, response_key, message_row, row_of}
+use Rattle.zs_events.specs.Kinds.{NamedKey, OwnKey, QuerierKey, Publishes, NoContent, OwnContent, ByPublisher, KeyNumber, Question, QuerierQuestion, ToGets, NoGet, Asks, AsksBy, Answers, EndsSide, Reaches, EndsQuerier, Cancels, EndsAll, ReplyQuality, ToValues, NoValue, Requested, AnswersBy, AnswersError, SharesValue, GivesBack, put_body, delete_body, response_key, message_row, row_of, ToLiveliness, NoToken, Subscribes, AsksTokens, TellsToken, EndsToken, EndsAnswers}
+use Rattle.zs_wire.specs.declared.sample_kind.SampleKind.{SampleKind}
+use Rattle.zs_wire.specs.declared.sample_kind.SampleKind.TheVariants.{Put as put_kind, Delete as delete_kind}
+use Rattle.zs_tables.specs.Liveliness.{met_keys, hearers}
+use Rattle.zs_tables.specs.LivelinessGets.{is_asking, over_at, numbers_with}
+use Rattle.zs_tables.specs.declared.liveliness_sub.LivelinessSub.{LivelinessSub}
+use Rattle.zs_tables.specs.declared.liveliness_get.LivelinessGet.{LivelinessGet as AskingGet}
+use Rattle.zs_tables.specs.declared.told_token.ToldToken.{ToldToken}
+use Rattle.zs_core.specs.Tokens.{answers, is_told}
+use Rattle.zs_core.specs.LivelinessChanges.{lsub_change, asking_change, told_change}
+use Rattle.zs_core.specs.declared.change.LivelinessChange.TheVariants.{RecordToken}
+use Rattle.zs_core.specs.LivelinessEffects.{Watch, hand_token, hand_told, hand_answer, end_asking, cancelled_ends, asking_ends, lsub_ends, token_hands, history_hands, answer_hands, told_hands, ended_text, watch_effects}
 use Rattle.zs_core.specs.declared.publisher.PubRow.{PubRow}
 use Rattle.zs_sample.specs.declared.locality.Locality.{Locality}
 use Rattle.zs_sample.specs.Reply.{Replied}
@@ -60,16 +71,16 @@ use Rattle.zs_query.specs.declared.outcome.Outcome.{Outcome}
 use Rattle.zs_query.specs.declared.outcome.Outcome.TheVariants as outcome
 use Rattle.zs_query.specs.declared.outcome.Peek.{Peek}
 use Rattle.zs_query.specs.declared.outcome.Peek.TheVariants as peek
-use Rattle.zs_query.specs.Gets.{get_at, peek_at, final_outcome, ends_at}
+use Rattle.zs_query.specs.Gets.{get_at, peek_at, final_outcome, ends_at, timeout_error}
 use Rattle.zs_core.specs.Questions.{request_of}
 use Rattle.zs_core.specs.Gets.{sample_reply}
-use Rattle.zs_core.specs.GetEffects.{hand_reply, hand_query, end_get, last_hands, request_sends, ask_effects, ends_effects, reply_effects, response_effects, final_effects, asked_effects, request_effects}
-use Rattle.zs_core.specs.Values.{handing_of}
+use Rattle.zs_core.specs.GetEffects.{hand_reply, hand_query, end_get, last_hands, request_sends, ask_effects, ends_effects, reply_effects, response_effects, final_effects, asked_effects, request_effects, told_effects, with_gets, ended_numbers, cut_effects}
+use Rattle.zs_core.specs.Values.{drawn_by, handing_of}
 use Rattle.zs_core.specs.Answers.{quality_of, local_reply, local_error, response_by}
 use Rattle.zs_core.specs.ValueEffects.{Answering, error_effects, replied_effects, answer_effects, answer_error_effects, finish_effects, value_effects}
 use Rattle.zs_core.specs.declared.settings.Settings.{Settings}
 use Rattle.zs_core.specs.declared.change.Change.{Change}
-use Rattle.zs_core.specs.declared.change.Change.TheVariants.{OfKeys}
+use Rattle.zs_core.specs.declared.change.Change.TheVariants.{OfKeys, Nothing, OfLiveliness}
 use Rattle.zs_core.specs.declared.change.KeyChange.TheVariants.{Release}
 use Rattle.zs_core.specs.declared.change.Decision.{Decision}
 use Rattle.zs_core.specs.World.{World}
@@ -78,13 +89,17 @@ use Rattle.zs_core.specs.Held.{named_text}
 use Rattle.zs_core.specs.Past.{past_of}
 use Rattle.zs_core.specs.DeclaredKeys.{is_last}
 use Rattle.zs_core.specs.Keys.{key_of, wire_of, text_of}
-use Rattle.zs_core.specs.Changes.{change_for, key_change, key_change_by, sub_change, pub_change, queryable_change, tell_change, with_change, response_change, ask_change, get_change, request_change, replied_change, answer_change}
+use Rattle.zs_core.specs.Changes.{change_for, key_change, key_change_by, sub_change, pub_change, queryable_change, tell_change, with_change, response_change, ask_change, get_change, querier_change, querier_get_change, request_change, replied_change, answer_change}
 use Rattle.zs_core.specs.Publications.{Publication, sample_on, allows, hands}
 use Rattle.zs_core.specs.Subscribers.{sub_at, sub_ends}
 use Rattle.zs_core.specs.Publishers.{pub_at, resolved}
-use Rattle.zs_core.specs.Groups.{aggregate_of, share_text, Shared, sub_shared, pub_shared, Company, company_at, joins_first, last_number, sends_if, last_sends, leaving, subscriber_end, interest_end}
+use Rattle.zs_core.specs.declared.querier.QuerierSettings.{QuerierSettings}
+use Rattle.zs_core.specs.declared.querier.QuerierRow.{QuerierRow}
+use Rattle.zs_core.specs.Queriers.{querier_at, question_of, asks_of}
+use Rattle.zs_query.specs.Asked.{News, QuerierEnds, CancelledBy}
+use Rattle.zs_core.specs.Groups.{aggregate_of, share_text, Shared, sub_shared, pub_shared, querier_shared, Company, company_at, joins_first, last_number, sends_if, last_sends, leaving, subscriber_end, interest_end, querier_end}
 use Rattle.zs_core.specs.Sends.{OwnKeys, has_front, goes_by_number, full_wire, number_wire, wire_form, declared_by, declaration_of, group_wire, key_sends, return_sends, is_sent, push_with, publication_sends, sends_of}
-use Rattle.zs_core.specs.Effects.{Known, draws_of, answering, key_wire, queryable_leaves, entity_sends, publication_on, hands_of, hands_for, ends_of, effects_on, effects}
+use Rattle.zs_core.specs.Effects.{Known, to_gets_for, draws_of, answering, key_wire, queryable_leaves, entity_sends, publication_on, hands_of, hands_for, ends_of, effects_on, effects, token_declaration, lsub_mode, token_interest, declared_sends}
 use Rattle.zs_core.specs.Turns.{text_for, number_of, number_for, own_keys_at, known_at, effects_of, decision}
 use Rattle.zs_core.specs.Stands.{world_of, world_after}
 use Rattle.zs_core.specs.Received.{messages_of, sent_behind, sent, number_text, read_as, spoken_by, spoken_text, AreReadAs, AreSpelled, AreUtf8}
@@ -94,8 +109,8 @@ use Rattle.zs_core.proofs.Spelled.{values_spelled, spoken_spelled}
 use Rattle.zs_core.proofs.Stands.{standing, same_turn, same_text, steps}
 
 -- the question of a get with these fields
-abbrev question_in : Locality → List ℕ → QueryTarget → ConsolidationMode → Option ℕ → Option Value → QoSType → Option SourceInfo → Option (List (List ℕ)) → Bool → Question
-question_in destination parameters target consolidation timeout value qos source attachment any_key = record {
+abbrev question_in : Locality → List ℕ → QueryTarget → ConsolidationMode → Option ℕ → Option Value → QoSType → Option SourceInfo → Option (List (List ℕ)) → Bool → Option ℕ → Question
+question_in destination parameters target consolidation timeout value qos source attachment any_key token = record {
   destination = destination;
   parameters = parameters;
   target = target;
@@ -106,6 +121,8 @@ question_in destination parameters target consolidation timeout value qos source
   source = source;
   attachment = attachment;
   any_key = any_key;
+  querier = None;
+  token = token;
 }
 
 -- what a receiver of these messages knows of numbers is what the table has, and its texts are UTF-8
@@ -143,27 +160,102 @@ no_messages_in_queryable_ends : (rows : List QueryableRow) → messages_of (quer
 no_messages_in_queryable_ends [] = refl
 no_messages_in_queryable_ends (row ∷ rows) = no_messages_in_queryable_ends rows
 
-no_end_messages : (queryables : List QueryableRow) (rows : List SubRow) (e : Event) → messages_of (ends_of queryables rows e) ≡ []
-no_end_messages queryables rows (Undeclare sub_kind id) = refl
-no_end_messages queryables rows (Undeclare pub_kind id) = refl
-no_end_messages queryables rows (Undeclare queryable_sort id) = refl
-no_end_messages queryables rows Close =
-    messages_append (queryable_ends queryables) (sub_ends rows)
+no_messages_in_lsub_ends : (rows : List LivelinessSub) → messages_of (lsub_ends rows) ≡ []
+no_messages_in_lsub_ends [] = refl
+no_messages_in_lsub_ends (row ∷ rows) = no_messages_in_lsub_ends rows
+
+no_end_messages : (queryables : List QueryableRow) (rows : List SubRow) (lsubs : List LivelinessSub) (e : Event) → messages_of (ends_of queryables rows lsubs e) ≡ []
+no_end_messages queryables rows lsubs (Undeclare sub_kind id) = refl
+no_end_messages queryables rows lsubs (Undeclare pub_kind id) = refl
+no_end_messages queryables rows lsubs (Undeclare queryable_sort id) = refl
+no_end_messages queryables rows lsubs (Undeclare querier_sort id) = refl
+no_end_messages queryables rows lsubs (Undeclare token_sort id) = refl
+no_end_messages queryables rows lsubs (Undeclare lsub_sort id) = refl
+no_end_messages queryables rows lsubs Close =
+    messages_append (queryable_ends queryables ++ sub_ends rows) (lsub_ends lsubs)
+    ∙ ap (λ (ms : List Message). ms ++ messages_of (lsub_ends lsubs))
+    (messages_append (queryable_ends queryables) (sub_ends rows)
     ∙ ap (λ (ms : List Message). ms ++ messages_of (sub_ends rows)) (no_messages_in_queryable_ends queryables)
-    ∙ no_messages_in_ends rows
-no_end_messages queryables rows e = refl
+    ∙ no_messages_in_ends rows)
+    ∙ no_messages_in_lsub_ends lsubs
+no_end_messages queryables rows lsubs e = refl
+
+-- nor is what is told of liveliness
+no_messages_in_tokens : (kind : SampleKind) (before : Bool) (text : Option (List ℕ)) (subs : List LivelinessSub) → messages_of (token_hands kind before text subs) ≡ []
+no_messages_in_tokens kind before None subs = refl
+no_messages_in_tokens kind before (Some text) subs = go (hearers before text subs)
+  where
+    go : (ids : List ℕ) → messages_of (map (hand_token kind text) ids) ≡ []
+    go [] = refl
+    go (id ∷ ids) = go ids
+
+no_messages_in_history : (history : Bool) (number : Option ℕ) (text : Option (List ℕ)) (tokens : List ToldToken) → messages_of (history_hands history number text tokens) ≡ []
+no_messages_in_history true (Some id) (Some text) tokens = go (met_keys text tokens)
+  where
+    go : (keys : List a_key) → messages_of (map (hand_told id) keys) ≡ []
+    go [] = refl
+    go (key ∷ keys) = go keys
+no_messages_in_history true (Some id) None tokens = refl
+no_messages_in_history true None text tokens = refl
+no_messages_in_history false number text tokens = refl
+
+no_messages_in_answer : (interest : Option ℕ) (text : Option (List ℕ)) → messages_of (answer_hands interest text) ≡ []
+no_messages_in_answer None text = refl
+no_messages_in_answer (Some number) None = refl
+no_messages_in_answer (Some number) (Some text) = refl
+
+no_messages_in_told : (watch : Watch) (id : ℕ) (interest : Option ℕ) (text : Option (List ℕ)) → messages_of (told_hands watch id interest text) ≡ []
+no_messages_in_told watch id interest text = go (is_told id watch.told)
+  where
+    go : (b : Bool) → messages_of (if b then [] else token_hands put_kind (is_some interest) text watch.subs) ≡ []
+    go true = refl
+    go false = no_messages_in_tokens put_kind (is_some interest) text watch.subs
+
+no_watch_messages : (watch : Watch) (number : Option ℕ) (text : Option (List ℕ)) (to : ToLiveliness) (ends : List Effect) → messages_of ends ≡ [] → messages_of (watch_effects watch number text to ends) ≡ []
+no_watch_messages watch number text NoToken ends none = none
+no_watch_messages watch number text (Subscribes history) ends none = no_messages_in_history history number text watch.told
+no_watch_messages watch number text (AsksTokens timeout token) ends none = refl
+no_watch_messages watch number text (TellsToken id interest) ends none = go (answers interest watch.gets)
+  where
+    go : (b : Bool) → messages_of (if b then answer_hands interest text else told_hands watch id interest text) ≡ []
+    go true = no_messages_in_answer interest text
+    go false = no_messages_in_told watch id interest text
+no_watch_messages watch number text (EndsToken id interest) ends none =
+    no_messages_in_tokens delete_kind (is_some interest) (ended_text (find (λ t. t.number == id) watch.told) text) watch.subs
+no_watch_messages watch number text (EndsAnswers None) ends none = refl
+no_watch_messages watch number text (EndsAnswers (Some n)) ends none = go (is_asking n watch.gets)
+  where
+    go : (b : Bool) → messages_of (if b then end_asking n ∷ [] else []) ≡ []
+    go true = refl
+    go false = refl
+
+no_messages_in_timeouts : (numbers : List ℕ) → messages_of (map (hand_answer timeout_error) numbers) ≡ []
+no_messages_in_timeouts [] = refl
+no_messages_in_timeouts (n ∷ numbers) = no_messages_in_timeouts numbers
+
+no_messages_in_asking_ends : (numbers : List ℕ) → messages_of (map end_asking numbers) ≡ []
+no_messages_in_asking_ends [] = refl
+no_messages_in_asking_ends (n ∷ numbers) = no_messages_in_asking_ends numbers
+
+-- behind what has no messages come those of the rest
+silent : (xs ys : List Effect) → messages_of xs ≡ [] → messages_of (xs ++ ys) ≡ messages_of ys
+silent xs ys none = messages_append xs ys ∙ ap (λ (ms : List Message). ms ++ messages_of ys) none
 
 -- what an event sends of its key, and of the group that an entity joins or leaves
 abbrev pub told_beside : Known → Option ℕ → Option (List ℕ) → Event → List Message
 told_beside known number text e = messages_of (sends_of known.keys known.pubs number text e) ++ messages_of (entity_sends known e number text)
 
+abbrev last_of : Known → Option ℕ → Option (List ℕ) → Event → List Effect
+last_of known number text e = watch_effects known.watch number text (row_of e).to_liveliness (ends_of known.queryables known.subs known.watch.subs e)
+
 beside_sends : (known : Known) (number : Option ℕ) (text : Option (List ℕ)) (e : Event)
-    → messages_of (sends_of known.keys known.pubs number text e ++ entity_sends known e number text ++ hands_of known.subs known.pubs text e ++ ends_of known.queryables known.subs e) ≡ told_beside known number text e
+    → messages_of (sends_of known.keys known.pubs number text e ++ entity_sends known e number text ++ hands_of known.subs known.pubs text e ++ last_of known number text e) ≡ told_beside known number text e
 beside_sends known number text e =
     let both = sends_of known.keys known.pubs number text e ++ entity_sends known e number text in
     let fx = hands_of known.subs known.pubs text e in
-    messages_append (both ++ fx) (ends_of known.queryables known.subs e)
-    ∙ ap (λ (ms : List Message). messages_of (both ++ fx) ++ ms) (no_end_messages known.queryables known.subs e)
+    messages_append (both ++ fx) (last_of known number text e)
+    ∙ ap (λ (ms : List Message). messages_of (both ++ fx) ++ ms)
+    (no_watch_messages known.watch number text (row_of e).to_liveliness (ends_of known.queryables known.subs known.watch.subs e) (no_end_messages known.queryables known.subs known.watch.subs e))
     ∙ append-nil (messages_of (both ++ fx))
     ∙ messages_append both fx
     ∙ ap (λ (ms : List Message). messages_of both ++ ms) (no_hand_messages known.subs text (resolved known.pubs (row_of e).publishes))
@@ -186,11 +278,14 @@ no_messages_in_last_hands (end ∷ ends) =
     ∙ ap (λ (ms : List Message). ms ++ messages_of (flat_map last_hands ends)) (no_messages_in_replies end.0 end.1)
     ∙ no_messages_in_last_hands ends
 
-no_messages_in_all_ends : (ends : List (ℕ × List Replied)) → messages_of (ends_effects ends) ≡ []
-no_messages_in_all_ends ends =
-    messages_append (flat_map last_hands ends) (map end_get (map (λ (end : ℕ × List Replied). end.0) ends))
-    ∙ ap (λ (ms : List Message). ms ++ messages_of (map end_get (map (λ (end : ℕ × List Replied). end.0) ends))) (no_messages_in_last_hands ends)
-    ∙ no_messages_in_get_ends (map (λ (end : ℕ × List Replied). end.0) ends)
+no_messages_in_all_ends : (ends : List (ℕ × List Replied)) (over : List ℕ) → messages_of (ends_effects ends over) ≡ []
+no_messages_in_all_ends ends over =
+    let first = flat_map last_hands ends in
+    let over_hands = map (hand_answer timeout_error) over in
+    let numbers = map (λ (end : ℕ × List Replied). end.0) ends in
+    let front : messages_of (first ++ over_hands) ≡ [] = silent first over_hands (no_messages_in_last_hands ends) ∙ no_messages_in_timeouts over in
+    let most : messages_of (first ++ over_hands ++ map end_get numbers) ≡ [] = silent (first ++ over_hands) (map end_get numbers) front ∙ no_messages_in_get_ends numbers in
+    silent (first ++ over_hands ++ map end_get numbers) (map end_asking over) most ∙ no_messages_in_asking_ends over
 
 pub no_messages_in_reply : (p : Peek) (number : ℕ) (reply : Replied) → messages_of (reply_effects p number reply) ≡ []
 no_messages_in_reply peek.Handed number reply = refl
@@ -269,7 +364,7 @@ value_cases P none response final a key drawn text (GivesBack value) = go (finis
 
 -- all that an event sends: the request of a get, an answer, and what it sends beside
 abbrev pub asked_by : Known → Option ℕ → Option (List ℕ) → Event → List Message
-asked_by known number text e = messages_of (request_effects known.timeout known.keys (row_of e).key (draws_of known number text e) number text (row_of e).to_gets)
+asked_by known number text e = messages_of (request_effects known.timeout known.keys (row_of e).key (draws_of known number text e) number text (to_gets_for known e))
 
 -- the response or the final of an answer
 abbrev pub answered_by : Known → Option ℕ → Option (List ℕ) → Event → List Message
@@ -279,18 +374,44 @@ abbrev pub told_by_event : Known → Option ℕ → Option (List ℕ) → Event 
 told_by_event known number text e = asked_by known number text e ++ (answered_by known number text e ++ told_beside known number text e)
 
 all_sends : (known : Known) (number : Option ℕ) (text : Option (List ℕ)) (e : Event) → messages_of (effects_on known number text e) ≡ told_by_event known number text e
-all_sends known number text (Get destination key parameters target consolidation timeout value qos source attachment any_key) =
+all_sends known number text (Get destination key parameters target consolidation timeout value qos source attachment any_key token) =
     sym (append-nil _)
 all_sends known number text (reply_event value key payload encoding timestamp priority congestion express source attachment) = sym (append-nil _)
 all_sends known number text (ReplyDelete value key timestamp priority congestion express source attachment) = sym (append-nil _)
 all_sends known number text (ReplyErr value payload encoding) = sym (append-nil _)
 all_sends known number text (Finish value) = sym (append-nil _)
 all_sends known number text (Net (request_message request)) = sym (append-nil _)
-all_sends known number text (Tick now) = no_messages_in_all_ends (ends_at now known.gets)
-all_sends known number text Close =
-    messages_append (sends_of known.keys known.pubs number text Close ++ entity_sends known Close number text ++ hands_of known.subs known.pubs text Close ++ ends_of known.queryables known.subs Close) (map end_get (map (λ (g : OpenGet). g.row.number) known.gets))
-    ∙ ap (λ (ms : List Message). messages_of (sends_of known.keys known.pubs number text Close ++ entity_sends known Close number text ++ hands_of known.subs known.pubs text Close ++ ends_of known.queryables known.subs Close) ++ ms) (no_messages_in_get_ends (map (λ (g : OpenGet). g.row.number) known.gets))
+all_sends known number text (QuerierGet id parameters value source attachment token) = go (querier_at id known.queriers)
+  where
+    e : Event
+    e = QuerierGet id parameters value source attachment token
+
+    q : QuerierQuestion
+    q = record { parameters = parameters; value = value; source = source; attachment = attachment; token = token }
+
+    go : (o : Option QuerierRow)
+        → messages_of (with_gets (asks_of q o) [] (request_effects known.timeout known.keys (row_of e).key (drawn_by known.queryables known.handing (asks_of q o) NoValue number text) number text (asks_of q o)) (told_effects known.gets known.watch.gets text (asks_of q o)))
+        ≡ messages_of (request_effects known.timeout known.keys (row_of e).key (drawn_by known.queryables known.handing (asks_of q o) NoValue number text) number text (asks_of q o)) ++ []
+    go None = refl
+    go (Some row) = sym (append-nil _)
+all_sends known number text (Undeclare querier_sort id) =
+    messages_append (sends_of known.keys known.pubs number text (Undeclare querier_sort id) ++ entity_sends known (Undeclare querier_sort id) number text ++ [] ++ []) (cut_effects (QuerierEnds id) known.gets)
+    ∙ ap (λ (ms : List Message). messages_of (sends_of known.keys known.pubs number text (Undeclare querier_sort id) ++ entity_sends known (Undeclare querier_sort id) number text ++ [] ++ []) ++ ms) (no_messages_in_get_ends (ended_numbers (QuerierEnds id) known.gets))
     ∙ append-nil _
+    ∙ beside_sends known number text (Undeclare querier_sort id)
+all_sends known number text (Cancel token) =
+    silent (cut_effects (CancelledBy token) known.gets) (cancelled_ends token known.watch.gets) (no_messages_in_get_ends (ended_numbers (CancelledBy token) known.gets))
+    ∙ no_messages_in_asking_ends (numbers_with token known.watch.gets)
+all_sends known number text (Tick now) = no_messages_in_all_ends (ends_at now known.gets) (over_at now known.watch.gets)
+all_sends known number text Close =
+    let others = sends_of known.keys known.pubs number text Close ++ entity_sends known Close number text ++ hands_of known.subs known.pubs text Close ++ last_of known number text Close in
+    let gets = map end_get (map (λ (g : OpenGet). g.row.number) known.gets) in
+    let ended : messages_of (gets ++ asking_ends known.watch.gets) ≡ [] =
+    silent gets (asking_ends known.watch.gets) (no_messages_in_get_ends (map (λ (g : OpenGet). g.row.number) known.gets))
+    ∙ no_messages_in_asking_ends (map (λ (g : AskingGet). g.number) known.watch.gets) in
+    messages_append others (gets ++ asking_ends known.watch.gets)
+    ∙ ap (λ (ms : List Message). messages_of others ++ ms) ended
+    ∙ append-nil (messages_of others)
     ∙ beside_sends known number text Close
 all_sends known number text (Net (response_message response)) = no_messages_in_response known.gets response response.answered text
 all_sends known number text (Net (ResponseFinal rid)) = no_messages_in_final rid (final_outcome Network (get_at rid known.gets))
@@ -447,13 +568,13 @@ group_read w aggregates text key before told spelled utf8 = go (aggregate_of agg
     go (Some a) found = full_read a.text before (found_one (λ (k : a_key). IsUtf8 k.text) (λ a. includes a.text text) aggregates a spelled found)
 
 leaving_read : (s : Settings) (text : Option (List ℕ)) (before : List Message) (c : Company) (x : Option Shared)
-    → AreReadAs s text before (messages_of (leaving c subscriber_end x)) × AreReadAs s text before (messages_of (leaving c interest_end x))
-leaving_read s text before c None = (tt, tt)
+    → AreReadAs s text before (messages_of (leaving c subscriber_end x)) × AreReadAs s text before (messages_of (leaving c interest_end x)) × AreReadAs s text before (messages_of (leaving c querier_end x))
+leaving_read s text before c None = (tt, tt, tt)
 leaving_read s text before c (Some x) = go (last_number c x)
   where
-    go : (o : Option ℕ) → AreReadAs s text before (messages_of (last_sends subscriber_end o)) × AreReadAs s text before (messages_of (last_sends interest_end o))
-    go None = (tt, tt)
-    go (Some n) = ((tt, tt), (tt, tt))
+    go : (o : Option ℕ) → AreReadAs s text before (messages_of (last_sends subscriber_end o)) × AreReadAs s text before (messages_of (last_sends interest_end o)) × AreReadAs s text before (messages_of (last_sends querier_end o))
+    go None = (tt, tt, tt)
+    go (Some n) = ((tt, tt), (tt, tt), (tt, tt))
 
 queryable_read : (s : Settings) (text : Option (List ℕ)) (before : List Message) (o : Option QueryableRow) → AreReadAs s text before (messages_of (queryable_leaves o))
 queryable_read s text before None = tt
@@ -462,6 +583,15 @@ queryable_read s text before (Some row) = go (has_network row.origin)
     go : (b : Bool) → AreReadAs s text before (messages_of (sends_if b (UndeclareQueryable row.id)))
     go true = (tt, tt)
     go false = tt
+
+-- a declaration of liveliness is read as its key's text
+declared_read : (w : World) (message : ℕ → WireExpr → Message) (number : Option ℕ) (text : Option (List ℕ)) (key : KeyArg) (before : List Message) → IsTold w before → IfSome text IsUtf8
+    → ((id : ℕ) (wire : WireExpr) (t : List ℕ) → read_as before wire ≡ Some t → AreReadAs w.settings (Some t) before (message id wire ∷ []))
+    → AreReadAs w.settings text before (messages_of (declared_sends message (own_keys_at w) number text key))
+declared_read w message (Some id) (Some text) key before told utf8 means =
+    means id (key_wire (own_keys_at w) text key) text (form_read w text (declared_by (own_keys_at w) text key) before told utf8)
+declared_read w message (Some id) None key before told utf8 means = tt
+declared_read w message None text key before told utf8 means = tt
 
 groups_read : (w : World) (number : Option ℕ) (text : Option (List ℕ)) (e : Event) (before : List Message) → IsTold w before → AreSpelled w.settings → IfSome text IsUtf8
     → AreReadAs w.settings text (sent_behind (messages_of (sends_of (own_keys_at w) w.entities.pubs number text e)) before) (messages_of (entity_sends (known_at w) e number text))
@@ -490,6 +620,24 @@ groups_read w (Some id) (Some text) (Queryable origin complete key) before told 
     go false = tt
 groups_read w (Some id) None (Queryable origin complete key) before told spelled utf8 = tt
 groups_read w None text (Queryable origin complete key) before told spelled utf8 = tt
+groups_read w (Some id) (Some text) (Querier destination key target consolidation timeout qos any_key) before told spelled utf8 =
+    go (joins_first (company_at w.settings w.groups Queriers) (record { id = id; told = has_network destination; text = text }))
+  where
+    go : (b : Bool) → AreReadAs w.settings (Some text) before (messages_of (sends_if b (Interest id CurrentFuture of_queryables (Some (key_wire (own_keys_at w) text key)))))
+    go true = (form_read w text (declared_by (own_keys_at w) text key) before told utf8, tt)
+    go false = tt
+groups_read w (Some id) None (Querier destination key target consolidation timeout qos any_key) before told spelled utf8 = tt
+groups_read w None text (Querier destination key target consolidation timeout qos any_key) before told spelled utf8 = tt
+groups_read w number text (Undeclare querier_sort id) before told spelled utf8 =
+    (leaving_read w.settings text (sent_behind (messages_of (sends_of (own_keys_at w) w.entities.pubs number text (Undeclare querier_sort id))) before) (company_at w.settings w.groups Queriers) (option_map querier_shared (querier_at id w.entities.queriers))).2
+groups_read w number text (Token key) before told spelled utf8 =
+    declared_read w token_declaration number text key before told utf8 (λ id wire t is. (is, tt))
+groups_read w number text (Undeclare token_sort id) before told spelled utf8 = (tt, tt)
+groups_read w number text (Lsub history key) before told spelled utf8 =
+    declared_read w (token_interest (lsub_mode history)) number text key before told utf8 (λ id wire t is. (is, tt))
+groups_read w number text (LivelinessGet key timeout token) before told spelled utf8 =
+    declared_read w (token_interest Current) number text key before told utf8 (λ id wire t is. (is, tt))
+groups_read w number text (Undeclare lsub_sort id) before told spelled utf8 = (tt, tt)
 groups_read w number text (Undeclare queryable_sort id) before told spelled utf8 = queryable_read w.settings text before (queryable_at id w.entities.queryables)
 groups_read w number text (Undeclare sub_kind id) before told spelled utf8 =
     (leaving_read w.settings text (sent_behind (messages_of (sends_of (own_keys_at w) w.entities.pubs number text (Undeclare sub_kind id))) before) (company_at w.settings w.groups Subscribers) (option_map sub_shared (sub_at id w.entities.subs))).0
@@ -516,6 +664,9 @@ asks_read : (w : World) (key : NamedKey) (values : List QueryValue) (number : Op
     → AreReadAs w.settings text before (messages_of (request_effects w.settings.default_timeout (own_keys_at w) key values number text to))
 asks_read w key values number text (Asks q) before told utf8 = request_read w key values number text q before told utf8
 asks_read w key values number text NoGet before told utf8 = tt
+asks_read w key values number text (AsksBy id q) before told utf8 = tt
+asks_read w key values number text (EndsQuerier id) before told utf8 = tt
+asks_read w key values number text (Cancels token) before told utf8 = tt
 asks_read w key values number text (Answers response) before told utf8 = tt
 asks_read w key values number text (EndsSide rid) before told utf8 = tt
 asks_read w key values number text (Reaches moment) before told utf8 = tt
@@ -525,6 +676,9 @@ asks_told : (w : World) (key : NamedKey) (values : List QueryValue) (number : Op
     → IsTold w (sent_behind (messages_of (request_effects w.settings.default_timeout (own_keys_at w) key values number text to)) before)
 asks_told w key values number text (Asks q) before told = record { numbers = λ n. request_tells w key values number text q before n ∙ told.numbers n; spelled = told.spelled }
 asks_told w key values number text NoGet before told = told
+asks_told w key values number text (AsksBy id q) before told = told
+asks_told w key values number text (EndsQuerier id) before told = told
+asks_told w key values number text (Cancels token) before told = told
 asks_told w key values number text (Answers response) before told = told
 asks_told w key values number text (EndsSide rid) before told = told
 asks_told w key values number text (Reaches moment) before told = told
@@ -597,11 +751,11 @@ plain_read w number text e before plain told spelled utf8 =
     let drawn = draws_of (known_at w) number text e in
     let asked = asked_by (known_at w) number text e in
     let answered = answered_by (known_at w) number text e in
-    let behind : IsTold w (sent_behind asked before) = asks_told w (row_of e).key drawn number text (row_of e).to_gets before told in
+    let behind : IsTold w (sent_behind asked before) = asks_told w (row_of e).key drawn number text (to_gets_for (known_at w) e) before told in
     let last : IsTold w (sent_behind answered (sent_behind asked before)) =
     answers_told w (answering (known_at w)) (row_of e).key drawn text (row_of e).to_values (sent_behind asked before) behind in
     both_read w.settings text before asked (answered ++ told_beside (known_at w) number text e)
-    (asks_read w (row_of e).key drawn number text (row_of e).to_gets before told utf8)
+    (asks_read w (row_of e).key drawn number text (to_gets_for (known_at w) e) before told utf8)
     (both_read w.settings text (sent_behind asked before) answered (told_beside (known_at w) number text e)
     (answers_read w (row_of e).key drawn text (row_of e).to_values (sent_behind asked before) plain behind utf8)
     (both_read w.settings text (sent_behind answered (sent_behind asked before)) (messages_of (sends_of (own_keys_at w) w.entities.pubs number text e)) (messages_of (entity_sends (known_at w) e number text))
@@ -719,15 +873,15 @@ answer_keeps w quality body (Some v) (Some text) = go v.row.local
 
 sends_told : (w : World) (e : Event) (before : List Message) → (with_change (change_for w e) w).closed ≡ false → IsTold w before → IfSome (text_for w e) IsUtf8
     → IsTold (with_change (change_for w e) w) (sent_behind (messages_of (sends_of (own_keys_at w) w.entities.pubs (number_for w e) (text_for w e) e)) before)
-sends_told w (Get destination key parameters target consolidation timeout value qos source attachment any_key) before still told utf8 =
-    sub_told w (Get destination key parameters target consolidation timeout value qos source attachment any_key) (key_of w key) before
-    (get_change w (question_in destination parameters target consolidation timeout value qos source attachment any_key)) keeps told
+sends_told w (Get destination key parameters target consolidation timeout value qos source attachment any_key token) before still told utf8 =
+    sub_told w (Get destination key parameters target consolidation timeout value qos source attachment any_key token) (key_of w key) before
+    (get_change w (question_in destination parameters target consolidation timeout value qos source attachment any_key token)) keeps told
   where
     any : (row : GetRow) (request : RequestRow) (met : List ℕ) → (with_change (ask_change row request met) w).keys.own ≡ w.keys.own
     any row request [] = refl
     any row request (id ∷ met) = refl
 
-    keeps : (o : Option (List ℕ)) → (with_change (get_change w (question_in destination parameters target consolidation timeout value qos source attachment any_key) o) w).keys.own ≡ w.keys.own
+    keeps : (o : Option (List ℕ)) → (with_change (get_change w (question_in destination parameters target consolidation timeout value qos source attachment any_key token) o) w).keys.own ≡ w.keys.own
     keeps None = refl
     keeps (Some text) = any _ _ _
 sends_told w (reply_event value key payload encoding timestamp priority congestion express source attachment) before still told utf8 =
@@ -738,6 +892,34 @@ sends_told w (ReplyDelete value key timestamp priority congestion express source
     sub_told w (ReplyDelete value key timestamp priority congestion express source attachment) (key_of w key) before
     (answer_change w.settings.zid (record { priority = priority; congestion = congestion; express = express }) (delete_body timestamp source attachment) (value_at value w.handing.values))
     (answer_keeps w (record { priority = priority; congestion = congestion; express = express }) (delete_body timestamp source attachment) (value_at value w.handing.values)) told
+sends_told w (Querier destination key target consolidation timeout qos any_key) before still told utf8 =
+    sub_told w (Querier destination key target consolidation timeout qos any_key) (key_of w key) before (querier_change w.counters.entity key settings) keeps told
+  where
+    settings : QuerierSettings
+    settings = record { destination = destination; target = target; consolidation = consolidation; timeout = timeout; qos = qos; any_key = any_key }
+
+    keeps : (o : Option (List ℕ)) → (with_change (querier_change w.counters.entity key settings o) w).keys.own ≡ w.keys.own
+    keeps None = refl
+    keeps (Some text) = refl
+sends_told w (QuerierGet id parameters value source attachment token) before still told utf8 = go (querier_at id w.entities.queriers)
+  where
+    q : QuerierQuestion
+    q = record { parameters = parameters; value = value; source = source; attachment = attachment; token = token }
+
+    any : (row : GetRow) (request : RequestRow) (met : List ℕ) → (with_change (ask_change row request met) w).keys.own ≡ w.keys.own
+    any row request [] = refl
+    any row request (id ∷ met) = refl
+
+    keeps : (row : QuerierRow) (o : Option (List ℕ)) → (with_change (get_change w (question_of row q) o) w).keys.own ≡ w.keys.own
+    keeps row None = refl
+    keeps row (Some text) = any _ _ _
+
+    go : (o : Option QuerierRow) → IsTold (with_change (querier_get_change w q o) w) before
+    go None = told
+    go (Some row) = sub_told w (QuerierGet id parameters value source attachment token) (Some row.key.text) before (get_change w (question_of row q)) (keeps row) told
+sends_told w CancelToken before still told utf8 = record { numbers = told.numbers; spelled = told.spelled }
+sends_told w (Cancel token) before still told utf8 = record { numbers = told.numbers; spelled = told.spelled }
+sends_told w (Undeclare querier_sort id) before still told utf8 = record { numbers = told.numbers; spelled = told.spelled }
 sends_told w (Share value) before still told utf8 = record { numbers = told.numbers; spelled = told.spelled }
 sends_told w (Finish value) before still told utf8 = record { numbers = told.numbers; spelled = told.spelled }
 sends_told w (Net (request_message request)) before still told utf8 = sub_told w (Net (request_message request)) (wire_of w request.wire) before (request_change w request) keeps told
@@ -777,6 +959,33 @@ sends_told w (Queryable origin complete key) before still told utf8 =
     keeps (Some text) = refl
 sends_told w (Undeclare queryable_sort id) before still told utf8 = record { numbers = told.numbers; spelled = told.spelled }
 sends_told w (Background background_queryable id) before still told utf8 = record { numbers = told.numbers; spelled = told.spelled }
+sends_told w (Token key) before still told utf8 = record { numbers = told.numbers; spelled = told.spelled }
+sends_told w (Undeclare token_sort id) before still told utf8 = record { numbers = told.numbers; spelled = told.spelled }
+sends_told w (Undeclare lsub_sort id) before still told utf8 = record { numbers = told.numbers; spelled = told.spelled }
+sends_told w (Background background_lsub id) before still told utf8 = record { numbers = told.numbers; spelled = told.spelled }
+sends_told w (Lsub history key) before still told utf8 = sub_told w (Lsub history key) (key_of w key) before (lsub_change w.counters.entity history) keeps told
+  where
+    keeps : (o : Option (List ℕ)) → (with_change (lsub_change w.counters.entity history o) w).keys.own ≡ w.keys.own
+    keeps None = refl
+    keeps (Some text) = refl
+sends_told w (LivelinessGet key timeout token) before still told utf8 =
+    sub_told w (LivelinessGet key timeout token) (key_of w key) before (asking_change w.settings.default_timeout w.asking.moment w.counters.entity timeout token) keeps told
+  where
+    keeps : (o : Option (List ℕ)) → (with_change (asking_change w.settings.default_timeout w.asking.moment w.counters.entity timeout token o) w).keys.own ≡ w.keys.own
+    keeps None = refl
+    keeps (Some text) = refl
+sends_told w (Net (token_message id wire interest)) before still told utf8 =
+    sub_told w (Net (token_message id wire interest)) (wire_of w wire) before (told_change w.liveliness.gets id interest) keeps told
+  where
+    pick : (text : List ℕ) (b : Bool) → (with_change (if b then Nothing else OfLiveliness (RecordToken (record { number = id; key = undeclared text }))) w).keys.own ≡ w.keys.own
+    pick text true = refl
+    pick text false = refl
+
+    keeps : (o : Option (List ℕ)) → (with_change (told_change w.liveliness.gets id interest o) w).keys.own ≡ w.keys.own
+    keeps None = refl
+    keeps (Some text) = pick text (answers interest w.liveliness.gets)
+sends_told w (Net (token_end_message id wire interest)) before still told utf8 = record { numbers = told.numbers; spelled = told.spelled }
+sends_told w (Net (DeclareFinal (Some n))) before still told utf8 = record { numbers = told.numbers; spelled = told.spelled }
 sends_told w (Undeclare pub_kind id) before still told utf8 = record { numbers = told.numbers; spelled = told.spelled }
 sends_told w (Background background_sub id) before still told utf8 = record { numbers = told.numbers; spelled = told.spelled }
 sends_told w (Undeclare sub_kind id) before still told utf8 = record { numbers = told.numbers; spelled = told.spelled }
@@ -792,13 +1001,15 @@ sends_told w e before still told utf8 = push_told w (row_of e).key (text_for w e
 quiet_leaving : (c : Company) (x : Option Shared) (before : List Message) (n : ℕ)
     → (number_text n (sent_behind (messages_of (leaving c subscriber_end x)) before) ≡ number_text n before)
     × (number_text n (sent_behind (messages_of (leaving c interest_end x)) before) ≡ number_text n before)
-quiet_leaving c None before n = (refl, refl)
+    × (number_text n (sent_behind (messages_of (leaving c querier_end x)) before) ≡ number_text n before)
+quiet_leaving c None before n = (refl, refl, refl)
 quiet_leaving c (Some x) before n = go (last_number c x)
   where
     go : (o : Option ℕ) → (number_text n (sent_behind (messages_of (last_sends subscriber_end o)) before) ≡ number_text n before)
         × (number_text n (sent_behind (messages_of (last_sends interest_end o)) before) ≡ number_text n before)
-    go None = (refl, refl)
-    go (Some number) = (refl, refl)
+        × (number_text n (sent_behind (messages_of (last_sends querier_end o)) before) ≡ number_text n before)
+    go None = (refl, refl, refl)
+    go (Some number) = (refl, refl, refl)
 
 quiet_sub : (b : Bool) (id : ℕ) (wire : WireExpr) (before : List Message) (n : ℕ) → number_text n (sent_behind (messages_of (sends_if b (DeclareSubscriber id wire))) before) ≡ number_text n before
 quiet_sub true id wire before n = refl
@@ -808,6 +1019,11 @@ quiet_pub : (b : Bool) (id : ℕ) (wire : Option WireExpr) (before : List Messag
     → number_text n (sent_behind (messages_of (sends_if b (Interest id CurrentFuture of_subscribers wire))) before) ≡ number_text n before
 quiet_pub true id wire before n = refl
 quiet_pub false id wire before n = refl
+
+quiet_querier : (b : Bool) (id : ℕ) (wire : Option WireExpr) (before : List Message) (n : ℕ)
+    → number_text n (sent_behind (messages_of (sends_if b (Interest id CurrentFuture of_queryables wire))) before) ≡ number_text n before
+quiet_querier true id wire before n = refl
+quiet_querier false id wire before n = refl
 
 quiet_queryable : (b : Bool) (id : ℕ) (complete : Bool) (wire : WireExpr) (before : List Message) (n : ℕ)
     → number_text n (sent_behind (messages_of (sends_if b (DeclareQueryable id complete wire))) before) ≡ number_text n before
@@ -822,6 +1038,13 @@ quiet_queryable_end (Some row) before n = go (has_network row.origin)
     go true = refl
     go false = refl
 
+quiet_declared : (w : World) (message : ℕ → WireExpr → Message) (number : Option ℕ) (text : Option (List ℕ)) (key : KeyArg) (before : List Message) (n : ℕ)
+    → ((id : ℕ) (wire : WireExpr) → number_text n (message id wire ∷ before) ≡ number_text n before)
+    → number_text n (sent_behind (messages_of (declared_sends message (own_keys_at w) number text key)) before) ≡ number_text n before
+quiet_declared w message (Some id) (Some text) key before n quiet = quiet id (key_wire (own_keys_at w) text key)
+quiet_declared w message (Some id) None key before n quiet = refl
+quiet_declared w message None text key before n quiet = refl
+
 quiet_groups : (w : World) (number : Option ℕ) (text : Option (List ℕ)) (e : Event) (before : List Message) (n : ℕ)
     → number_text n (sent_behind (messages_of (entity_sends (known_at w) e number text)) before) ≡ number_text n before
 quiet_groups w (Some id) (Some text) (Sub origin key) before n = quiet_sub _ id _ before n
@@ -833,6 +1056,16 @@ quiet_groups w None text (Pub destination key encoding qos reliable) before n = 
 quiet_groups w (Some id) (Some text) (Queryable origin complete key) before n = quiet_queryable _ id complete _ before n
 quiet_groups w (Some id) None (Queryable origin complete key) before n = refl
 quiet_groups w None text (Queryable origin complete key) before n = refl
+quiet_groups w (Some id) (Some text) (Querier destination key target consolidation timeout qos any_key) before n = quiet_querier _ id _ before n
+quiet_groups w (Some id) None (Querier destination key target consolidation timeout qos any_key) before n = refl
+quiet_groups w None text (Querier destination key target consolidation timeout qos any_key) before n = refl
+quiet_groups w number text (Undeclare querier_sort id) before n =
+    (quiet_leaving (company_at w.settings w.groups Queriers) (option_map querier_shared (querier_at id w.entities.queriers)) before n).2
+quiet_groups w number text (Token key) before n = quiet_declared w token_declaration number text key before n (λ id wire. refl)
+quiet_groups w number text (Undeclare token_sort id) before n = refl
+quiet_groups w number text (Lsub history key) before n = quiet_declared w (token_interest (lsub_mode history)) number text key before n (λ id wire. refl)
+quiet_groups w number text (LivelinessGet key timeout token) before n = quiet_declared w (token_interest Current) number text key before n (λ id wire. refl)
+quiet_groups w number text (Undeclare lsub_sort id) before n = refl
 quiet_groups w number text (Undeclare queryable_sort id) before n = quiet_queryable_end (queryable_at id w.entities.queryables) before n
 quiet_groups w number text (Undeclare sub_kind id) before n = (quiet_leaving (company_at w.settings w.groups Subscribers) (option_map sub_shared (sub_at id w.entities.subs)) before n).0
 quiet_groups w number text (Undeclare pub_kind id) before n = (quiet_leaving (company_at w.settings w.groups Publishers) (option_map pub_shared (pub_at id w.entities.pubs)) before n).1
@@ -847,7 +1080,7 @@ event_told w e before still told utf8 =
     let answered = answered_by (known_at w) (number_for w e) (text_for w e) e in
     let xs = messages_of (sends_of (own_keys_at w) w.entities.pubs (number_for w e) (text_for w e) e) in
     let ys = messages_of (entity_sends (known_at w) e (number_for w e) (text_for w e)) in
-    let behind : IsTold w (sent_behind asked before) = asks_told w (row_of e).key drawn (number_for w e) (text_for w e) (row_of e).to_gets before told in
+    let behind : IsTold w (sent_behind asked before) = asks_told w (row_of e).key drawn (number_for w e) (text_for w e) (to_gets_for (known_at w) e) before told in
     let last : IsTold w (sent_behind answered (sent_behind asked before)) =
     answers_told w (answering (known_at w)) (row_of e).key drawn (text_for w e) (row_of e).to_values (sent_behind asked before) behind in
     let now : IsTold (with_change (change_for w e) w) (sent_behind xs (sent_behind answered (sent_behind asked before))) =
@@ -939,17 +1172,24 @@ one_first : (b : Bool) (message : Message) → length (messages_of (sends_if b m
 one_first true message = omega arith
 one_first false message = omega arith
 
-one_leaving : (c : Company) (x : Option Shared) → (length (messages_of (leaving c subscriber_end x)) ≤ 1) × (length (messages_of (leaving c interest_end x)) ≤ 1)
-one_leaving c None = (omega arith, omega arith)
+one_leaving : (c : Company) (x : Option Shared)
+    → (length (messages_of (leaving c subscriber_end x)) ≤ 1) × (length (messages_of (leaving c interest_end x)) ≤ 1) × (length (messages_of (leaving c querier_end x)) ≤ 1)
+one_leaving c None = (omega arith, omega arith, omega arith)
 one_leaving c (Some x) = go (last_number c x)
   where
-    go : (o : Option ℕ) → (length (messages_of (last_sends subscriber_end o)) ≤ 1) × (length (messages_of (last_sends interest_end o)) ≤ 1)
-    go None = (omega arith, omega arith)
-    go (Some n) = (omega arith, omega arith)
+    go : (o : Option ℕ) → (length (messages_of (last_sends subscriber_end o)) ≤ 1) × (length (messages_of (last_sends interest_end o)) ≤ 1) × (length (messages_of (last_sends querier_end o)) ≤ 1)
+    go None = (omega arith, omega arith, omega arith)
+    go (Some n) = (omega arith, omega arith, omega arith)
 
 one_queryable_end : (o : Option QueryableRow) → length (messages_of (queryable_leaves o)) ≤ 1
 one_queryable_end None = omega arith
 one_queryable_end (Some row) = one_first (has_network row.origin) _
+
+one_declared : (message : ℕ → WireExpr → Message) (k : OwnKeys) (number : Option ℕ) (text : Option (List ℕ)) (key : KeyArg)
+    → length (messages_of (declared_sends message k number text key)) ≤ 1
+one_declared message k (Some id) (Some text) key = omega arith
+one_declared message k (Some id) None key = omega arith
+one_declared message k None text key = omega arith
 
 -- an event that sends of a group sends nothing else
 one_beside : (w : World) (number : Option ℕ) (text : Option (List ℕ)) (e : Event) → length (told_beside (known_at w) number text e) ≤ 1
@@ -963,6 +1203,16 @@ one_beside w None text (Pub destination key encoding qos reliable) = omega arith
 one_beside w (Some id) (Some text) (Queryable origin complete key) = one_first (has_network origin) _
 one_beside w (Some id) None (Queryable origin complete key) = omega arith
 one_beside w None text (Queryable origin complete key) = omega arith
+one_beside w (Some id) (Some text) (Querier destination key target consolidation timeout qos any_key) =
+    one_first (joins_first (company_at w.settings w.groups Queriers) (record { id = id; told = has_network destination; text = text })) _
+one_beside w (Some id) None (Querier destination key target consolidation timeout qos any_key) = omega arith
+one_beside w None text (Querier destination key target consolidation timeout qos any_key) = omega arith
+one_beside w number text (Undeclare querier_sort id) = (one_leaving (company_at w.settings w.groups Queriers) (option_map querier_shared (querier_at id w.entities.queriers))).2
+one_beside w number text (Token key) = one_declared token_declaration (own_keys_at w) number text key
+one_beside w number text (Undeclare token_sort id) = omega arith
+one_beside w number text (Lsub history key) = one_declared (token_interest (lsub_mode history)) (own_keys_at w) number text key
+one_beside w number text (LivelinessGet key timeout token) = one_declared (token_interest Current) (own_keys_at w) number text key
+one_beside w number text (Undeclare lsub_sort id) = omega arith
 one_beside w number text (Undeclare queryable_sort id) = one_queryable_end (queryable_at id w.entities.queryables)
 one_beside w number text (Undeclare sub_kind id) = (one_leaving (company_at w.settings w.groups Subscribers) (option_map sub_shared (sub_at id w.entities.subs))).0
 one_beside w number text (Undeclare pub_kind id) = (one_leaving (company_at w.settings w.groups Publishers) (option_map pub_shared (pub_at id w.entities.pubs))).1
@@ -977,6 +1227,18 @@ one_request default k key values (Some number) None q = omega arith
 one_request default k key values (Some number) (Some text) q =
     request_cases (λ (ms : List Message). length ms ≤ 1) (omega arith) default (wire_form k text (declaration_of k text key)) number q values (omega arith)
 
+one_asked : (default : ℕ) (k : OwnKeys) (key : NamedKey) (values : List QueryValue) (number : Option ℕ) (text : Option (List ℕ)) (to : ToGets)
+    → length (messages_of (request_effects default k key values number text to)) ≤ 1
+one_asked default k key values number text (Asks q) = one_request default k key values number text q
+one_asked default k key values number text NoGet = omega arith
+one_asked default k key values number text (AsksBy id q) = omega arith
+one_asked default k key values number text (Answers response) = omega arith
+one_asked default k key values number text (EndsSide rid) = omega arith
+one_asked default k key values number text (Reaches moment) = omega arith
+one_asked default k key values number text (EndsQuerier id) = omega arith
+one_asked default k key values number text (Cancels token) = omega arith
+one_asked default k key values number text EndsAll = omega arith
+
 one_answer : (a : Answering) (key : NamedKey) (drawn : List QueryValue) (text : Option (List ℕ)) (to : ToValues) → length (messages_of (value_effects a key drawn text to)) ≤ 1
 one_answer a key drawn text to = value_cases (λ (ms : List Message). length ms ≤ 1) (omega arith) (λ r. omega arith) (λ rid. omega arith) a key drawn text to
 
@@ -988,9 +1250,12 @@ alone_answered w number text e =
 
 -- and one that sends a request sends nothing else
 one_event : (w : World) (number : Option ℕ) (text : Option (List ℕ)) (e : Event) → length (told_by_event (known_at w) number text e) ≤ 1
-one_event w number text (Get destination key parameters target consolidation timeout value qos source attachment any_key) =
-    let q = question_in destination parameters target consolidation timeout value qos source attachment any_key in
+one_event w number text (Get destination key parameters target consolidation timeout value qos source attachment any_key token) =
+    let q = question_in destination parameters target consolidation timeout value qos source attachment any_key token in
     subst (λ (ms : List Message). length ms ≤ 1) (sym (append-nil _)) (one_request w.settings.default_timeout (own_keys_at w) (OwnKey key) _ number text q)
+one_event w number text (QuerierGet id parameters value source attachment token) =
+    subst (λ (ms : List Message). length ms ≤ 1) (sym (append-nil _))
+    (one_asked w.settings.default_timeout (own_keys_at w) (QuerierKey id) _ number text (to_gets_for (known_at w) (QuerierGet id parameters value source attachment token)))
 one_event w number text (reply_event value key payload encoding timestamp priority congestion express source attachment) =
     alone_answered w number text (reply_event value key payload encoding timestamp priority congestion express source attachment)
 one_event w number text (ReplyDelete value key timestamp priority congestion express source attachment) =
@@ -998,6 +1263,12 @@ one_event w number text (ReplyDelete value key timestamp priority congestion exp
 one_event w number text (ReplyErr value payload encoding) = alone_answered w number text (ReplyErr value payload encoding)
 one_event w number text (Finish value) = alone_answered w number text (Finish value)
 one_event w number text (Net (request_message request)) = alone_answered w number text (Net (request_message request))
+one_event w number text (Undeclare sub_kind id) = one_beside w number text (Undeclare sub_kind id)
+one_event w number text (Undeclare pub_kind id) = one_beside w number text (Undeclare pub_kind id)
+one_event w number text (Undeclare queryable_sort id) = one_beside w number text (Undeclare queryable_sort id)
+one_event w number text (Undeclare querier_sort id) = one_beside w number text (Undeclare querier_sort id)
+one_event w number text (Undeclare token_sort id) = one_beside w number text (Undeclare token_sort id)
+one_event w number text (Undeclare lsub_sort id) = one_beside w number text (Undeclare lsub_sort id)
 one_event w number text (Key key) = one_beside w number text (Key key)
 one_event w number text (Net (response_message response)) = one_beside w number text (Net (response_message response))
 one_event w number text e = one_beside w number text e

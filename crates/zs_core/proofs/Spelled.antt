@@ -10,13 +10,14 @@ use Rattle.zs_query.specs.Unfinished.{value_at, values_from}
 use Rattle.zs_query.specs.RequestTable.{Handing, with_handed, with_share}
 use Rattle.zs_query.proofs.Ascending.{all_append, all_filter}
 use Rattle.zs_events.specs.declared.event.Event.{Event}
-use Rattle.zs_events.specs.Kinds.{ToGets, NoGet, Asks, Answers, EndsSide, Reaches, EndsAll, ToValues, NoValue, Requested, AnswersBy, AnswersError, SharesValue, GivesBack, row_of}
+use Rattle.zs_events.specs.Kinds.{ToGets, NoGet, Asks, AsksBy, Answers, EndsSide, Reaches, EndsQuerier, Cancels, EndsAll, ToValues, NoValue, Requested, AnswersBy, AnswersError, SharesValue, GivesBack, row_of}
 use Rattle.zs_core.specs.declared.settings.Settings.{Settings}
 use Rattle.zs_core.specs.World.{World}
 use Rattle.zs_core.specs.Entry.{Entry}
 use Rattle.zs_core.specs.Past.{past_of}
 use Rattle.zs_core.specs.Values.{met_by_get, met_by_request, get_request, network_request}
 use Rattle.zs_core.specs.Received.{spoken_by, AreUtf8}
+use Rattle.zs_core.specs.Turns.{to_gets_at}
 use Rattle.zs_core.specs.Stands.{world_after}
 use Rattle.zs_core.proofs.Values.{handing_next}
 use Rattle.zs_core.proofs.Steps.{along}
@@ -60,9 +61,12 @@ next_text rows NoGet (AnswersBy value body quality) number text h utf8 all = all
 next_text rows NoGet (AnswersError value error) number text h utf8 all = all
 next_text rows NoGet (SharesValue value) number text h utf8 all = shared_text value (value_at value h.values) h refl all
 next_text rows NoGet (GivesBack value) number text h utf8 all = all_filter (λ (v : QueryValue). IsUtf8 v.row.key.text) (λ v. not (v.value == value)) h.values all
+next_text rows (AsksBy id q) does number text h utf8 all = all
 next_text rows (Answers response) does number text h utf8 all = all
 next_text rows (EndsSide n) does number text h utf8 all = all
 next_text rows (Reaches moment) does number text h utf8 all = all
+next_text rows (EndsQuerier id) does number text h utf8 all = all
+next_text rows (Cancels token) does number text h utf8 all = all
 next_text rows EndsAll does number text h utf8 all = all
 
 -- so behind each history
@@ -71,7 +75,7 @@ values_spelled s h =
     along s (λ (w : World) (past : List Entry). AreUtf8 past → AreText w.handing.values) (λ utf8. tt)
     (λ w past x c m ih utf8.
     subst (λ (h : Handing). AreText h.values) (sym m.gets.handing)
-    (next_text w.entities.queryables (row_of x.event).to_gets (row_of x.event).to_values x.number x.text w.handing utf8.0 (ih utf8.1))) h
+    (next_text w.entities.queryables (to_gets_at w x.event) (row_of x.event).to_values x.number x.text w.handing utf8.0 (ih utf8.1))) h
 
 -- and what an event's messages name is UTF-8
 pub spoken_spelled : (values : List QueryValue) (to : ToValues) (text : Option (List ℕ)) → AreText values → IfSome text IsUtf8 → IfSome (spoken_by values to text) IsUtf8

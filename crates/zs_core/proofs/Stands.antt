@@ -4,21 +4,22 @@ use Rattle.std.specs.Prelude.{not, ◌&&◌, ◌||◌, is_some, unwrap_or, if◌
 use Rattle.zs_events.specs.declared.event.Event.{Event}
 use Rattle.zs_core.specs.declared.settings.Settings.{Settings}
 use Rattle.zs_core.specs.declared.change.Change.{Change}
-use Rattle.zs_core.specs.declared.change.Change.TheVariants.{Nothing, OfKeys, OfEntities}
+use Rattle.zs_core.specs.declared.change.Change.TheVariants.{Nothing, OfKeys, OfEntities, OfLiveliness}
 use Rattle.zs_core.specs.declared.change.KeyChange.TheVariants.{Declare, Hold, Release}
-use Rattle.zs_core.specs.declared.change.EntityChange.TheVariants.{AddSub, EndSub, AddPub, AddQueryable}
+use Rattle.zs_core.specs.declared.change.EntityChange.TheVariants.{AddSub, EndSub, AddPub, AddQueryable, AddQuerier, EndQuerier}
+use Rattle.zs_core.specs.declared.change.LivelinessChange.TheVariants.{DeclareToken, EndToken, AddLsub, AskTokens}
 use Rattle.zs_core.specs.declared.change.Decision.{Decision}
 use Rattle.zs_events.specs.declared.turn.Refusal.{Refusal}
 use Rattle.zs_events.specs.declared.turn.Turn.{Turn}
 use Rattle.zs_core.specs.Settings.{last_entity, last_query, last_key}
 use Rattle.zs_events.specs.Turn.{answered}
 use Rattle.zs_core.specs.World.{World}
-use Rattle.zs_events.specs.Kinds.{Draws, NoNumber, EntityNumber, QueryNumber, ValueNumber, KeyNumber, Named, row_of}
+use Rattle.zs_events.specs.Kinds.{Draws, NoNumber, EntityNumber, QueryNumber, ValueNumber, TokenNumber, KeyNumber, Named, ToGets, asking_token, token_named, row_of}
 use Rattle.zs_core.specs.Seen.{Sight}
 use Rattle.zs_core.specs.Entry.{Entry, is_closed}
 use Rattle.zs_core.specs.Held.{held_number, is_claimed, named_text}
 use Rattle.zs_core.specs.Keys.{has_claim}
-use Rattle.zs_core.specs.Live.{live_queryables, names_some}
+use Rattle.zs_core.specs.Live.{live_queryables, names_some, to_gets_of}
 use Rattle.zs_tables.specs.declared.queryable.QueryableRow.{QueryableRow}
 use Rattle.zs_query.specs.RequestTable.{Handing}
 use Rattle.zs_core.specs.Values.{met_by, handing_of, values_now, last_value, lacks_values}
@@ -29,17 +30,20 @@ use Rattle.zs_tables.specs.declared.group_kind.GroupKind.{GroupKind}
 use Rattle.zs_tables.specs.declared.group_kind.GroupKind.TheVariants.{Subscribers, Publishers, Queriers}
 use Rattle.zs_core.specs.Publishers.{pub_at}
 use Rattle.zs_core.specs.Sends.{prefix_declaration}
+use Rattle.zs_core.specs.Queriers.{querier_at, querier_declaration}
+use Rattle.zs_core.specs.Cancelling.{last_token, next_token, is_drawn, is_any, is_among, is_taken}
+use Rattle.zs_core.proofs.Cancelling.{AreCancelled, cancelled_more, cancelled_opened, any_told}
 use Rattle.zs_core.specs.Groups.{aggregates_of, group_number, company_of, company_at}
 use Rattle.zs_core.specs.Counters.{is_spent, draws_key, next_value, next_entity, next_key, lacks_number, drawn_number}
 use Rattle.zs_core.specs.Causes.{past_sight, holds, in_order, first_that, refusal_of}
 use Rattle.zs_core.specs.Past.{entry_of, with_entry, past_with, past_of}
 use Rattle.zs_core.specs.Effects.{Known, known_of, own_keys_of, effects_on, turn_of}
 use Rattle.zs_core.specs.Changes.{with_change, change_for}
-use Rattle.zs_core.specs.Turns.{text_for, finds, has_run_out, number_of, number_for, sight, closed_cause, open_cause, cause, own_keys_at, known_at, decision_of, open_decision, decision}
+use Rattle.zs_core.specs.Turns.{text_for, to_gets_at, finds, has_run_out, number_of, number_for, sight, closed_cause, open_cause, cause, own_keys_at, known_at, decision_of, open_decision, decision}
 use Rattle.zs_core.specs.Stands.{new_world, world_of, world_after}
 use Rattle.zs_core.proofs.Decisions.{entry_for, past_with_by, cases}
 use Rattle.zs_core.proofs.Changes.{IsMade, adds, draws_by, draws_new, made}
-use Rattle.zs_core.proofs.Live.{AreLive, live_more, live_none, there_is}
+use Rattle.zs_core.proofs.Live.{AreLive, live_more, live_none, same_gets, there_is}
 use Rattle.zs_core.proofs.Sharing.{grouped_none}
 use Rattle.zs_core.proofs.GroupNumbers.{AreShared, shared_more, members_are, number_next}
 use Rattle.zs_core.proofs.DeclaredKeys.{AreKnown, known_more, held_text_is, count_is}
@@ -47,7 +51,10 @@ use Rattle.zs_core.proofs.Keys.{text_is, number_is, claim_is}
 use Rattle.zs_core.proofs.Causes.{is_first}
 use Rattle.zs_query.specs.declared.open_get.OpenGet.{OpenGet}
 use Rattle.zs_core.specs.Gets.{open_now, is_idle}
-use Rattle.zs_core.proofs.Gets.{AreAsked, asking_by, asked_more, asked_opened}
+use Rattle.zs_core.proofs.Gets.{AreAsked, IsAskedUnder, asking_by, asked_more, asked_opened}
+use Rattle.zs_tables.specs.declared.told_token.ToldToken.{ToldToken}
+use Rattle.zs_core.specs.Tokens.{told_tokens, is_spared, is_pointless}
+use Rattle.zs_core.proofs.Watching.{AreWatched, watched_more}
 
 -- what the tables and counters are behind a past
 pub record AreStanding (s : Settings) (w : World) (past : List Entry) : Type 0 where
@@ -59,7 +66,9 @@ pub record AreStanding (s : Settings) (w : World) (past : List Entry) : Type 0 w
   pub entity : w.counters.entity ≡ next_entity s past
   pub key : w.counters.key ≡ next_key s past
   pub asking : AreAsked s w.asking past
+  pub watched : AreWatched s w past
   pub handing : w.handing ≡ handing_of past
+  pub cancelling : AreCancelled w.cancelling past
 
 settings_step : (w : World) (c : Change) → (with_change c w).settings ≡ w.settings
 settings_step w Nothing = refl
@@ -69,6 +78,11 @@ entity_step : (w : World) (c : Change) → (with_change c w).counters.entity ≡
 entity_step w (OfEntities (AddSub row)) = refl
 entity_step w (OfEntities (AddPub row)) = refl
 entity_step w (OfEntities (AddQueryable row)) = refl
+entity_step w (OfEntities (AddQuerier row)) = refl
+entity_step w (OfLiveliness (DeclareToken id)) = refl
+entity_step w (OfLiveliness (AddLsub row)) = refl
+entity_step w (OfLiveliness (AskTokens row)) = refl
+entity_step w (OfLiveliness (EndToken id)) = refl
 entity_step w (OfEntities (EndSub id)) = refl
 entity_step w Nothing = refl
 entity_step w c = refl
@@ -88,16 +102,22 @@ draws_is w past NoNumber text k = refl
 draws_is w past EntityNumber text k = refl
 draws_is w past QueryNumber text k = refl
 draws_is w past ValueNumber text k = refl
+draws_is w past TokenNumber text k = refl
 
 -- what gets hear of an event is told by the past
 asking_told : (s : Settings) (w : World) (past : List Entry) (x : Entry) → AreStanding s w past
-    → asking_by w.settings.default_timeout w.settings.zid w.entities.queryables w.handing.values (row_of x.event).to_gets (row_of x.event).to_values x.text w.asking
-    ≡ asking_by s.default_timeout s.zid (live_queryables past) (values_now past) (row_of x.event).to_gets (row_of x.event).to_values x.text w.asking
+    → asking_by w.settings.default_timeout w.settings.zid w.entities.queryables w.handing.values (to_gets_at w x.event) (row_of x.event).to_values x.text w.asking
+    ≡ asking_by s.default_timeout s.zid (live_queryables past) (values_now past) (to_gets_of past x.event) (row_of x.event).to_values x.text w.asking
 asking_told s w past x st =
     let settings = st.settings in
     let rows = st.live.queryables.table in
     let handing = st.handing in
-    λ i. asking_by (settings i).default_timeout (settings i).zid (rows i) (handing i).values (row_of x.event).to_gets (row_of x.event).to_values x.text w.asking
+    let to = same_gets w past x.event st.live in
+    λ i. asking_by (settings i).default_timeout (settings i).zid (rows i) (handing i).values (to i) (row_of x.event).to_values x.text w.asking
+
+-- so is under which number a get is asked
+under_told : (w : World) (past : List Entry) (x : Entry) → AreLive w past → IsAskedUnder (to_gets_at w x.event) x.number w.asking.next → IsAskedUnder (to_gets_of past x.event) x.number w.asking.next
+under_told w past x l under = subst (λ (to : ToGets). IsAskedUnder to x.number w.asking.next) (same_gets w past x.event l) under
 
 pub standing_more : (s : Settings) (w : World) (past : List Entry) (x : Entry) (c : Change) → IsMade w x c → AreStanding s w past → AreStanding s (with_change c w) (x ∷ past)
 standing_more s w past x c m st = record {
@@ -116,11 +136,13 @@ standing_more s w past x c m st = record {
   asking =
       asked_more s w.asking (with_change c w).asking past x
       (m.gets.asking ∙ asking_told s w past x st)
-      m.gets.under m.gets.counted st.asking;
+      (under_told w past x st.live m.gets.under) m.gets.counted st.asking;
   handing =
       handing_more (with_change c w).handing w.handing past x w.asking.next
-      (m.gets.handing ∙ ap (λ (rows : List QueryableRow). handing_next rows (row_of x.event).to_gets (row_of x.event).to_values x.number x.text w.handing) st.live.queryables.table)
-      m.gets.under st.handing;
+      (m.gets.handing ∙ (λ i. handing_next (st.live.queryables.table i) (same_gets w past x.event st.live i) (row_of x.event).to_values x.number x.text w.handing))
+      (under_told w past x st.live m.gets.under) st.handing;
+  cancelling = rw m.gets.cancelling (cancelled_more w.cancelling past x st.cancelling);
+  watched = watched_more s w past x c m.fits m.liveliness st.settings st.asking.moment st.watched;
 }
 
 -- what is looked up in the tables is what the events tell
@@ -139,6 +161,7 @@ lacks_is s w past NoNumber text st = refl
 lacks_is s w past EntityNumber text st = ap (is_spent last_entity) st.entity
 lacks_is s w past QueryNumber text st = ap (is_spent last_query) st.asking.next
 lacks_is s w past ValueNumber text st = ap (λ (h : Handing). is_spent last_value h.next) st.handing
+lacks_is s w past TokenNumber text st = ap (is_spent last_token) st.cancelling.next
 lacks_is s w past KeyNumber None st = refl
 lacks_is s w past KeyNumber (Some text) st =
     ap (λ (o : Option ℕ). not (is_some o) && is_spent last_key w.counters.key) (number_is w past text st.known)
@@ -149,6 +172,7 @@ number_drawn s w past NoNumber text st = refl
 number_drawn s w past EntityNumber text st = ap (λ (n : ℕ). Some n) st.entity
 number_drawn s w past QueryNumber text st = ap (λ (n : ℕ). Some n) st.asking.next
 number_drawn s w past ValueNumber text st = ap (λ (h : Handing). Some h.next) st.handing
+number_drawn s w past TokenNumber text st = ap (λ (n : ℕ). Some n) st.cancelling.next
 number_drawn s w past KeyNumber None st = refl
 number_drawn s w past KeyNumber (Some text) st =
     ap (λ (o : Option ℕ). Some (unwrap_or o w.counters.key)) (number_is w past text st.known)
@@ -165,14 +189,22 @@ same_sight s w past e st =
     let handing : w.handing ≡ handing_of past = st.handing in
     let rows : w.entities.queryables ≡ live_queryables past = st.live.queryables.table in
     let owed : is_owed w.handing.values (row_of e).to_values ≡ is_owed (values_now past) (row_of e).to_values = ap (λ (h : Handing). is_owed h.values (row_of e).to_values) handing in
+    let drawn : is_drawn w.cancelling.next (token_named (row_of e).to_gets (row_of e).to_liveliness) ≡ is_drawn (next_token past) (token_named (row_of e).to_gets (row_of e).to_liveliness) =
+    ap (λ (n : ℕ). is_drawn n (token_named (row_of e).to_gets (row_of e).to_liveliness)) st.cancelling.next in
+    let cancelled : is_any (is_among w.cancelling.taken) (asking_token (row_of e).to_gets (row_of e).to_liveliness) ≡ is_any (λ token. is_taken token past) (asking_token (row_of e).to_gets (row_of e).to_liveliness) =
+    any_told w.cancelling past (asking_token (row_of e).to_gets (row_of e).to_liveliness) st.cancelling in
+    let to : to_gets_at w e ≡ to_gets_of past e = same_gets w past e st.live in
     let disjoint : is_disjoint w.handing.values (row_of e).to_values (text_for w e) ≡ is_disjoint (values_now past) (row_of e).to_values (named_text past e) =
     λ i. is_disjoint (handing i).values (row_of e).to_values (text i) in
-    let lacks : lacks_values w.handing.next (met_by w.entities.queryables (row_of e).to_gets (row_of e).to_values (text_for w e)) || has_run_out w (row_of e).draws (text_for w e)
-    ≡ (lacks_values (next_value past) (met_by (live_queryables past) (row_of e).to_gets (row_of e).to_values (named_text past e)) || lacks_number s past (row_of e).draws (named_text past e)) =
-    λ i. lacks_values (handing i).next (met_by (rows i) (row_of e).to_gets (row_of e).to_values (text i)) || spent i in
-    let idle : is_idle w.asking.gets (row_of e).to_gets (text_for w e) ≡ is_idle (open_now s past) (row_of e).to_gets (named_text past e) =
-    ap (λ (gets : List OpenGet). is_idle gets (row_of e).to_gets (text_for w e)) st.asking.gets ∙ ap (is_idle (open_now s past) (row_of e).to_gets) text in
-    λ i. record { text = text i; lives = lives i; claimed = claimed i; owed = owed i; disjoint = disjoint i; lacks = lacks i; idle = idle i }
+    let lacks : lacks_values w.handing.next (met_by w.entities.queryables (to_gets_at w e) (row_of e).to_values (text_for w e)) || has_run_out w (row_of e).draws (text_for w e)
+    ≡ (lacks_values (next_value past) (met_by (live_queryables past) (to_gets_of past e) (row_of e).to_values (named_text past e)) || lacks_number s past (row_of e).draws (named_text past e)) =
+    λ i. lacks_values (handing i).next (met_by (rows i) (to i) (row_of e).to_values (text i)) || spent i in
+    let idle : (is_pointless (row_of e).to_liveliness || is_idle w.asking.gets (row_of e).to_gets (text_for w e)) ≡ (is_pointless (row_of e).to_liveliness || is_idle (open_now s past) (row_of e).to_gets (named_text past e)) =
+    ap (λ (b : Bool). is_pointless (row_of e).to_liveliness || b)
+    (ap (λ (gets : List OpenGet). is_idle gets (row_of e).to_gets (text_for w e)) st.asking.gets ∙ ap (is_idle (open_now s past) (row_of e).to_gets) text) in
+    let spared : is_spared w.liveliness.told (row_of e).to_liveliness ≡ is_spared (told_tokens s past) (row_of e).to_liveliness =
+    ap (λ (tokens : List ToldToken). is_spared tokens (row_of e).to_liveliness) st.watched.told in
+    λ i. record { text = text i; lives = lives i; claimed = claimed i; owed = owed i; drawn = drawn i; cancelled = cancelled i; disjoint = disjoint i; lacks = lacks i; idle = idle i; spared = spared i }
 
 pub same_cause : (s : Settings) (w : World) (past : List Entry) (e : Event) → AreStanding s w past → cause w e ≡ refusal_of s past e
 same_cause s w past e st =
@@ -207,6 +239,7 @@ own_keys_same s w past st = λ i. record {
   count_of = λ n. count_is w past n st.known i;
   number_of = λ text. number_is w past text st.known i;
   published = λ id. prefix_declaration (ap (λ (settings : Settings). settings.tag) st.settings i) (pub_at id (st.live.pubs.table i));
+  queried = λ id. querier_declaration (ap (λ (settings : Settings). settings.tag) st.settings i) (querier_at id (st.live.queriers.table i));
 }
 
 company_same : (s : Settings) (w : World) (past : List Entry) (kind : GroupKind) → AreStanding s w past → company_at w.settings w.groups kind ≡ company_of s kind past
@@ -224,8 +257,11 @@ known_same s w past st =
     let queryables = st.live.queryables.table in
     let settings = st.settings in
     let gets = st.asking.gets in
+    let lsubs = st.live.lsubs.table in
+    let told = st.watched.told in
+    let asking = st.watched.gets in
     let handing = st.handing in
-    λ i. record { keys = keys i; subs = subs i; pubs = pubs i; queryables = queryables i; company = λ kind. company_same s w past kind st i; timeout = (settings i).default_timeout; gets = gets i; zid = (settings i).zid; handing = handing i }
+    λ i. record { keys = keys i; subs = subs i; pubs = pubs i; queryables = queryables i; queriers = (st.live.queriers.table) i; company = λ kind. company_same s w past kind st i; timeout = (settings i).default_timeout; gets = gets i; watch = record { subs = lsubs i; told = told i; gets = asking i }; zid = (settings i).zid; handing = handing i }
 
 -- and so is the turn
 abbrev turn_by : Bool → Option Refusal → Option ℕ → Known → Option (List ℕ) → Event → Turn
@@ -257,8 +293,8 @@ no_numbers s Queriers text = refl
 standing_opened : (s : Settings) → AreStanding s (new_world s) []
 standing_opened s = record {
   settings = refl;
-  live = live_none (new_world s) refl refl refl refl refl;
-  shared = record { subs = grouped_none s.aggregated_subscribers; pubs = grouped_none s.aggregated_publishers; queriers = refl };
+  live = live_none (new_world s) refl refl refl refl refl refl refl refl refl;
+  shared = record { subs = grouped_none s.aggregated_subscribers; pubs = grouped_none s.aggregated_publishers; queriers = grouped_none [] };
   numbers = no_numbers s;
   known = record {
     closed = refl;
@@ -274,7 +310,9 @@ standing_opened s = record {
   entity = refl;
   key = refl;
   asking = asked_opened s;
+  watched = record { gets = refl; below = tt; told = refl };
   handing = refl;
+  cancelling = cancelled_opened;
 }
 
 pub standing : (s : Settings) (h : List Event) → AreStanding s (world_after s h) (past_of s h)

@@ -1,11 +1,16 @@
 -- What one step makes of a state that stands for a history.
 use Rattle.std.proofs.Common.{◌≡◌, List, [], ◌∷◌, Bool, true, refl, sym, ◌∙◌, ap, subst}
-use Rattle.std.specs.Prelude.{ℕ}
+use Rattle.std.specs.Prelude.{ℕ, is_some}
 use Rattle.zs_events.specs.declared.event.Event.{Event}
 use Rattle.zs_core.specs.declared.settings.Settings.{Settings}
 use Rattle.zs_core.specs.declared.change.Change.{Change}
 use Rattle.zs_core.specs.declared.change.Decision.{Decision}
 use Rattle.zs_events.specs.declared.turn.Kind.{Kind}
+use Rattle.zs_events.specs.declared.turn.Kind.TheVariants.{Get, LivelinessGet}
+use Rattle.zs_query.specs.declared.open_get.OpenGet.{OpenGet}
+use Rattle.zs_query.specs.Gets.{get_at}
+use Rattle.zs_tables.specs.LivelinessGets.{is_asking}
+use Rattle.zs_core.specs.Cancelling.{is_among}
 use Rattle.zs_events.specs.Turn.{was_refused}
 use Rattle.zs_core.specs.World.{World}
 use Rattle.zs_core.specs.Entry.{Entry}
@@ -13,12 +18,12 @@ use Rattle.zs_core.specs.DeclaredKeys.{has_holder}
 use Rattle.zs_core.specs.Past.{past_of}
 use Rattle.zs_core.specs.Changes.{with_change, change_for, Fits}
 use Rattle.zs_core.specs.Turns.{is_there, decision}
-use Rattle.zs_core.specs.Stands.{world_of, world_after, Previews, Steps, ClosedIs, IsHeld, IsLive}
+use Rattle.zs_core.specs.Stands.{world_of, world_after, lives, Previews, Steps, ClosedIs, NowIs, IsHeld, IsLive, IsTaken}
 use Rattle.zs_core.proofs.Decisions.{entry_for, cases}
 use Rattle.zs_core.proofs.Changes.{made, IsMade}
 use Rattle.zs_core.proofs.DeclaredKeys.{held_is}
 use Rattle.zs_core.proofs.Live.{there_is}
-use Rattle.zs_core.proofs.Stands.{standing, same_turn, steps}
+use Rattle.zs_core.proofs.Stands.{AreStanding, standing, same_turn, steps}
 
 -- what holds of no past, and goes on with each event that an open session accepts, holds after every history
 pub along : (s : Settings) (P : World → List Entry → Type 0) → P (world_after s []) []
@@ -72,6 +77,17 @@ pub refused_same : (w new : World) (e : Event) (d : Decision) → d ≡ decision
 refused_same w new e d is changed refused =
     changed ∙ ap (λ (d : Decision). with_change d.change w) is ∙ refused_by w e (sym (ap (λ (d : Decision). was_refused d.turn.answer) is) ∙ refused)
 
+-- whether something is live by the tables, where a get is live while it is open
+abbrev pub is_here : Kind → ℕ → World → Bool
+is_here Get id w = is_some (get_at id w.asking.gets)
+is_here LivelinessGet id w = is_asking id w.liveliness.gets
+is_here kind id w = is_there kind id w
+
+here_is : (s : Settings) (w : World) (past : List Entry) (kind : Kind) (id : ℕ) → AreStanding s w past → is_here kind id w ≡ lives s kind id past
+here_is s w past Get id st = ap (λ (gets : List OpenGet). is_some (get_at id gets)) st.asking.gets
+here_is s w past LivelinessGet id st = ap (is_asking id) st.watched.gets
+here_is s w past kind id st = there_is w past kind id st.live
+
 -- what a state is asked is what the events of its history tell
 pub closed_told : (w : World) (answer : Bool) → answer ≡ w.closed → ClosedIs w answer
 closed_told w answer is s h stands = is ∙ ap (λ (v : World). v.closed) stands ∙ (standing s h).known.closed
@@ -80,5 +96,11 @@ pub held_told : (w : World) (n : ℕ) (answer : Bool) → answer ≡ has_holder 
 held_told w n answer is s h stands =
     is ∙ ap (λ (v : World). has_holder n v.keys.holders) stands ∙ held_is (world_after s h) (past_of s h) n (standing s h).known
 
-pub live_told : (w : World) (kind : Kind) (id : ℕ) (answer : Bool) → answer ≡ is_there kind id w → IsLive w kind id answer
-live_told w kind id answer is s h stands = is ∙ ap (is_there kind id) stands ∙ there_is (world_after s h) (past_of s h) kind id (standing s h).live
+pub live_told : (w : World) (kind : Kind) (id : ℕ) (answer : Bool) → answer ≡ is_here kind id w → IsLive w kind id answer
+live_told w kind id answer is s h stands = is ∙ ap (is_here kind id) stands ∙ here_is s (world_after s h) (past_of s h) kind id (standing s h)
+
+pub now_told : (w : World) (answer : ℕ) → answer ≡ w.asking.moment → NowIs w answer
+now_told w answer is s h stands = is ∙ ap (λ (v : World). v.asking.moment) stands ∙ (standing s h).asking.moment
+
+pub taken_told : (w : World) (token : ℕ) (answer : Bool) → answer ≡ is_among w.cancelling.taken token → IsTaken w token answer
+taken_told w token answer is s h stands = is ∙ ap (λ (v : World). is_among v.cancelling.taken token) stands ∙ (standing s h).cancelling.taken token

@@ -8,9 +8,9 @@ use Rattle.zs_query.specs.Unfinished.{value_at, values_from, without_value}
 use Rattle.zs_query.specs.RequestTable.{Handing, with_handed, with_share, with_shared, with_finished}
 use Rattle.zs_query.specs.Drawn.{ValueNews, Drew, GaveBack, just_drawn, giving_back, drawn, unfinished}
 use Rattle.zs_query.proofs.Drawing.{told as values_told}
-use Rattle.zs_events.specs.Kinds.{ToGets, NoGet, Asks, Answers, EndsSide, Reaches, EndsAll, ToValues, NoValue, Requested, AnswersBy, AnswersError, SharesValue, GivesBack, row_of}
+use Rattle.zs_events.specs.Kinds.{ToGets, NoGet, Asks, AsksBy, Answers, EndsSide, Reaches, EndsQuerier, Cancels, EndsAll, ToValues, NoValue, Requested, AnswersBy, AnswersError, SharesValue, GivesBack, row_of}
 use Rattle.zs_core.specs.Entry.{Entry}
-use Rattle.zs_core.specs.Live.{live_queryables}
+use Rattle.zs_core.specs.Live.{live_queryables, to_gets_of}
 use Rattle.zs_core.specs.Values.{met_by_get, met_by_request, met_by, get_request, network_request, share_of, drawn_by, news_by_draw, counted, times_handed, handing_by, value_news, handing_of}
 use Rattle.zs_core.proofs.Gets.{IsAskedUnder}
 
@@ -78,15 +78,18 @@ handing_step rows NoGet (AnswersBy value body quality) number text next handed n
 handing_step rows NoGet (AnswersError value error) number text next handed news under = sym (drew_none handed news)
 handing_step rows NoGet (SharesValue value) number text next handed news under = shared_out handed (value_at value (unfinished news)) news
 handing_step rows NoGet (GivesBack value) number text next handed news under = sym (gave_back handed value news)
+handing_step rows (AsksBy id q) does number text next handed news under = sym (drew_none handed news)
 handing_step rows (Answers response) does number text next handed news under = sym (drew_none handed news)
 handing_step rows (EndsSide n) does number text next handed news under = sym (drew_none handed news)
 handing_step rows (Reaches moment) does number text next handed news under = sym (drew_none handed news)
+handing_step rows (EndsQuerier id) does number text next handed news under = sym (drew_none handed news)
+handing_step rows (Cancels token) does number text next handed news under = sym (drew_none handed news)
 handing_step rows EndsAll does number text next handed news under = sym (drew_none handed news)
 
 -- so behind each event
 pub handing_more : (new h : Handing) (past : List Entry) (x : Entry) (next : ℕ)
-    → new ≡ handing_next (live_queryables past) (row_of x.event).to_gets (row_of x.event).to_values x.number x.text h
-    → IsAskedUnder (row_of x.event).to_gets x.number next → h ≡ handing_of past → new ≡ handing_of (x ∷ past)
+    → new ≡ handing_next (live_queryables past) (to_gets_of past x.event) (row_of x.event).to_values x.number x.text h
+    → IsAskedUnder (to_gets_of past x.event) x.number next → h ≡ handing_of past → new ≡ handing_of (x ∷ past)
 handing_more new h past x next is under same =
-    is ∙ ap (handing_next (live_queryables past) (row_of x.event).to_gets (row_of x.event).to_values x.number x.text) same
-    ∙ handing_step (live_queryables past) (row_of x.event).to_gets (row_of x.event).to_values x.number x.text next (times_handed past) (value_news past) under
+    is ∙ ap (handing_next (live_queryables past) (to_gets_of past x.event) (row_of x.event).to_values x.number x.text) same
+    ∙ handing_step (live_queryables past) (to_gets_of past x.event) (row_of x.event).to_values x.number x.text next (times_handed past) (value_news past) under

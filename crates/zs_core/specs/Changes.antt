@@ -8,30 +8,33 @@ use Rattle.zs_tables.specs.declared.subscriber.SubRow.{SubRow}
 use Rattle.zs_tables.specs.declared.queryable.QueryableRow.{QueryableRow}
 use Rattle.zs_core.specs.declared.declared_key.KeyHolders.{KeyHolders}
 use Rattle.zs_events.specs.declared.event.Event.{Event}
-use Rattle.zs_events.specs.declared.event.Event.TheVariants.{Key, UndeclareKey, Sub, Pub, Queryable, Undeclare, Background, Close, Net, Get, Tick, Reply as reply_event, ReplyDelete, Share, Finish}
-use Rattle.zs_events.specs.declared.event.EntityKind.TheVariants.{Sub as sub_kind, Pub as pub_kind, Queryable as queryable_sort}
-use Rattle.zs_events.specs.declared.event.BackgroundKind.TheVariants.{Sub as background_sub, Queryable as background_queryable}
+use Rattle.zs_events.specs.declared.event.Event.TheVariants.{Key, UndeclareKey, Sub, Pub, Queryable, Querier, Undeclare, Background, Close, Net, Get, QuerierGet, CancelToken, Cancel, Tick, Reply as reply_event, ReplyDelete, Share, Finish, Token, Lsub, LivelinessGet}
+use Rattle.zs_events.specs.declared.event.EntityKind.TheVariants.{Sub as sub_kind, Pub as pub_kind, Queryable as queryable_sort, Querier as querier_sort, Token as token_sort, Lsub as lsub_sort}
+use Rattle.zs_events.specs.declared.event.BackgroundKind.TheVariants.{Sub as background_sub, Queryable as background_queryable, Lsub as background_lsub}
 use Rattle.zs_events.specs.declared.event.KeyArg.{KeyArg}
 use Rattle.zs_events.specs.declared.event.KeyArg.TheVariants.{Number, Declared}
 use Rattle.zs_wire.specs.declared.message.Message.{Message}
-use Rattle.zs_wire.specs.declared.message.Message.TheVariants.{DeclareKeyExpr, Request as request_message, Response as response_message, ResponseFinal}
+use Rattle.zs_wire.specs.declared.message.Message.TheVariants.{DeclareKeyExpr, Request as request_message, Response as response_message, ResponseFinal, DeclareToken as token_message, UndeclareToken as token_end_message, DeclareFinal}
 use Rattle.zs_core.specs.declared.change.Change.{Change}
-use Rattle.zs_core.specs.declared.change.Change.TheVariants.{Nothing, OfKeys, OfEntities, OfNetwork, OfGets, OfValues, Shut}
+use Rattle.zs_core.specs.declared.change.Change.TheVariants.{Nothing, OfKeys, OfEntities, OfNetwork, OfGets, OfValues, OfTokens, Shut, OfLiveliness}
 use Rattle.zs_core.specs.declared.change.KeyChange.{KeyChange}
 use Rattle.zs_core.specs.declared.change.KeyChange.TheVariants.{Declare, Hold, Release}
 use Rattle.zs_core.specs.declared.change.EntityChange.{EntityChange}
-use Rattle.zs_core.specs.declared.change.EntityChange.TheVariants.{AddSub, EndSub, AddPub, EndPub, AddQueryable, EndQueryable, LeaveSub, LeaveQueryable}
+use Rattle.zs_core.specs.declared.change.EntityChange.TheVariants.{AddSub, EndSub, AddPub, EndPub, AddQueryable, EndQueryable, AddQuerier, EndQuerier, LeaveSub, LeaveQueryable}
 use Rattle.zs_core.specs.declared.change.NetworkChange.{NetworkChange}
 use Rattle.zs_core.specs.declared.change.NetworkChange.TheVariants.{TellKey}
+use Rattle.zs_core.specs.declared.change.LivelinessChange.TheVariants.{DeclareToken, EndToken, EndLsub, LeaveLsub, ForgetToken}
 use Rattle.zs_core.specs.declared.change.ValueChange.{ValueChange}
 use Rattle.zs_core.specs.declared.change.ValueChange.TheVariants.{HandOut, AskHere, ShareOf, GiveBack}
+use Rattle.zs_core.specs.declared.change.TokenChange.{TokenChange}
+use Rattle.zs_core.specs.declared.change.TokenChange.TheVariants.{Draw, Take as TakeToken}
 use Rattle.zs_core.specs.declared.change.GetChange.{GetChange}
 use Rattle.zs_core.specs.declared.change.GetChange.TheVariants.{Ask, Take, Final, Advance}
 use Rattle.zs_wire.specs.declared.request.ConsolidationMode.TheVariants.{Auto}
 use Rattle.zs_wire.specs.declared.response.Answered.{Answered}
 use Rattle.zs_wire.specs.declared.response.Answered.TheVariants.{Reply, Err as Error}
 use Rattle.zs_wire.specs.declared.response.Response.{Response}
-use Rattle.zs_query.specs.GetTable.{Asking, with_asked, with_reply, with_final, with_local_final, at_moment, all_ended}
+use Rattle.zs_query.specs.GetTable.{Asking, with_asked, with_reply, with_final, with_local_final, at_moment, without_querier, all_ended}
 use Rattle.zs_query.specs.RequestTable.{Handing, with_handed, with_shared, with_finished}
 use Rattle.zs_query.specs.Unfinished.{value_at, finished}
 use Rattle.zs_query.specs.Asked.{waits}
@@ -45,7 +48,7 @@ use Rattle.zs_wire.specs.declared.request.Request.{Request}
 use Rattle.zs_sample.specs.Reply.{Replied}
 use Rattle.zs_core.specs.Answers.{local_reply}
 use Rattle.zs_core.specs.Values.{met_by_get, met_by_request, get_request, network_request, last_value, lacks_values}
-use Rattle.zs_events.specs.Kinds.{Question, ReplyQuality, put_body, delete_body, response_key}
+use Rattle.zs_events.specs.Kinds.{Question, QuerierQuestion, ReplyQuality, put_body, delete_body, response_key}
 use Rattle.zs_core.specs.Questions.{row_waiting}
 use Rattle.zs_core.specs.Gets.{sample_reply}
 use Rattle.zs_core.specs.Settings.{last_entity, last_query, last_key}
@@ -57,7 +60,13 @@ use Rattle.zs_core.specs.declared.publisher.PubRow.{PubRow}
 use Rattle.zs_core.specs.declared.settings.Settings.{Settings}
 use Rattle.zs_core.specs.Subscribers.{sub_at}
 use Rattle.zs_core.specs.Publishers.{pub_on, pub_at}
-use Rattle.zs_core.specs.Groups.{sub_shared, pub_shared, joined_by, left_found, no_groups}
+use Rattle.zs_core.specs.declared.querier.QuerierSettings.{QuerierSettings}
+use Rattle.zs_core.specs.declared.querier.QuerierRow.{QuerierRow}
+use Rattle.zs_core.specs.Queriers.{querier_on, querier_at, question_of}
+use Rattle.zs_core.specs.Cancelling.{last_token, cancelling_after, asking_cancelled}
+use Rattle.zs_core.specs.Groups.{sub_shared, pub_shared, querier_shared, joined_by, left_found, no_groups}
+use Rattle.zs_core.specs.Liveliness.{shut_liveliness}
+use Rattle.zs_core.specs.LivelinessChanges.{lsub_change, asking_change, told_change, answered_change, liveliness_after, liveliness_by, liveliness_cancelled, next_behind, LivelinessFits}
 use Rattle.zs_core.specs.World.{World, Entities}
 use Rattle.zs_core.specs.Keys.{key_of, wire_of, text_of}
 use Rattle.zs_core.specs.DeclaredKeys.{raised, lowered, own_left}
@@ -87,6 +96,11 @@ queryable_change id origin complete None = Nothing
 queryable_change id origin complete (Some text) =
     OfEntities (AddQueryable (record { id = id; origin = origin; complete = complete; key = undeclared text }))
 
+-- a declared querier
+abbrev pub querier_change : ℕ → KeyArg → QuerierSettings → Option (List ℕ) → Change
+querier_change id key settings None = Nothing
+querier_change id key settings (Some text) = OfEntities (AddQuerier (querier_on id key settings text))
+
 -- what the network tells of a number
 abbrev pub tell_change : ℕ → Option (List ℕ) → Change
 tell_change number None = Nothing
@@ -109,6 +123,11 @@ get_change w q None = Nothing
 get_change w q (Some text) =
     ask_change (row_waiting w.settings.default_timeout w.asking.moment w.asking.next text q (met_by_get w.entities.queryables q text))
     (get_request w.asking.next text q) (met_by_get w.entities.queryables q text)
+
+-- a get of a querier, where that is live
+abbrev pub querier_get_change : World → QuerierQuestion → Option QuerierRow → Change
+querier_get_change w q None = Nothing
+querier_get_change w q (Some row) = get_change w (question_of row q) (Some row.key.text)
 
 -- a request from the network on the key of this text
 abbrev pub request_change : World → Request → Option (List ℕ) → Change
@@ -133,6 +152,9 @@ message_change w (DeclareKeyExpr number wire) = tell_change number (wire_of w wi
 message_change w (request_message request) = request_change w request (wire_of w request.wire)
 message_change w (response_message response) = response_change response response.answered (text_of w (response_key response.answered response.wire))
 message_change w (ResponseFinal rid) = OfGets (Final rid)
+message_change w (token_message id wire interest) = told_change w.liveliness.gets id interest (wire_of w wire)
+message_change w (token_end_message id wire interest) = OfLiveliness (ForgetToken id)
+message_change w (DeclareFinal interest) = answered_change interest
 message_change w message = Nothing
 
 -- what an accepted event changes
@@ -146,9 +168,27 @@ change_for w (Queryable origin complete key) = queryable_change w.counters.entit
 change_for w (Undeclare sub_kind id) = OfEntities (EndSub id)
 change_for w (Undeclare pub_kind id) = OfEntities (EndPub id)
 change_for w (Undeclare queryable_sort id) = OfEntities (EndQueryable id)
+change_for w (Undeclare querier_sort id) = OfEntities (EndQuerier id)
+change_for w (Querier destination key target consolidation timeout qos any_key) =
+    querier_change w.counters.entity key
+    (record {
+      destination = destination;
+      target = target;
+      consolidation = consolidation;
+      timeout = timeout;
+      qos = qos;
+      any_key = any_key;
+    })
+    (key_of w key)
+change_for w (Token key) = OfLiveliness (DeclareToken w.counters.entity)
+change_for w (Undeclare token_sort id) = OfLiveliness (EndToken id)
+change_for w (Lsub history key) = lsub_change w.counters.entity history (key_of w key)
+change_for w (Undeclare lsub_sort id) = OfLiveliness (EndLsub id)
+change_for w (Background background_lsub id) = OfLiveliness (LeaveLsub id)
+change_for w (LivelinessGet key timeout token) = asking_change w.settings.default_timeout w.asking.moment w.counters.entity timeout token (key_of w key)
 change_for w (Background background_sub id) = OfEntities (LeaveSub id)
 change_for w (Background background_queryable id) = OfEntities (LeaveQueryable id)
-change_for w (Get destination key parameters target consolidation timeout value qos source attachment any_key) =
+change_for w (Get destination key parameters target consolidation timeout value qos source attachment any_key token) =
     get_change w
     (record {
       destination = destination;
@@ -161,8 +201,16 @@ change_for w (Get destination key parameters target consolidation timeout value 
       source = source;
       attachment = attachment;
       any_key = any_key;
+      querier = None;
+      token = token;
     })
     (key_of w key)
+change_for w (QuerierGet id parameters value source attachment token) =
+    querier_get_change w
+    (record { parameters = parameters; value = value; source = source; attachment = attachment; token = token })
+    (querier_at id w.entities.queriers)
+change_for w CancelToken = OfTokens Draw
+change_for w (Cancel token) = OfTokens (TakeToken token)
 change_for w (reply_event value key payload encoding timestamp priority congestion express source attachment) =
     answer_change w.settings.zid (record { priority = priority; congestion = congestion; express = express })
     (put_body payload encoding timestamp source attachment) (value_at value w.handing.values) (key_of w key)
@@ -198,6 +246,7 @@ abbrev pub next_entity_after : EntityChange → ℕ → ℕ
 next_entity_after (AddSub row) next = next + 1
 next_entity_after (AddPub row) next = next + 1
 next_entity_after (AddQueryable row) next = next + 1
+next_entity_after (AddQuerier row) next = next + 1
 next_entity_after change next = next
 
 -- the subscribers
@@ -218,6 +267,17 @@ queryables_after (AddQueryable row) rows = rows ++ row ∷ []
 queryables_after (EndQueryable id) rows = filter (λ row. not (row.id == id)) rows
 queryables_after change rows = rows
 
+-- the queriers
+abbrev pub queriers_after : EntityChange → List QuerierRow → List QuerierRow
+queriers_after (AddQuerier row) rows = rows ++ row ∷ []
+queriers_after (EndQuerier id) rows = filter (λ row. not (row.id == id)) rows
+queriers_after change rows = rows
+
+-- the gets: those that a querier asked end with it
+abbrev pub asking_left : EntityChange → Asking → Asking
+asking_left (EndQuerier id) a = without_querier id a
+asking_left change a = a
+
 -- the subscribers that were left to themselves, and the queryables
 abbrev pub left_after : EntityChange → List ℕ → List ℕ
 left_after (LeaveSub id) ids = placed_by (λ n. n) id ids
@@ -236,6 +296,10 @@ groups_after s before (EndSub id) gs = record gs {
 groups_after s before (AddPub row) gs = record gs { publishers = joined_by s.aggregated_publishers (pub_shared row) gs.publishers }
 groups_after s before (EndPub id) gs = record gs {
   publishers = left_found s.aggregated_publishers (option_map pub_shared (pub_at id before.pubs)) gs.publishers;
+}
+groups_after s before (AddQuerier row) gs = record gs { queriers = joined_by [] (querier_shared row) gs.queriers }
+groups_after s before (EndQuerier id) gs = record gs {
+  queriers = left_found [] (option_map querier_shared (querier_at id before.queriers)) gs.queriers;
 }
 groups_after s before change gs = gs
 
@@ -285,23 +349,35 @@ with_change (OfEntities change) w = record w {
     subs = subs_after change w.entities.subs;
     pubs = pubs_after change w.entities.pubs;
     queryables = queryables_after change w.entities.queryables;
+    queriers = queriers_after change w.entities.queriers;
     left_subs = left_after change w.entities.left_subs;
     left_queryables = left_queryables_after change w.entities.left_queryables;
   };
   groups = groups_after w.settings w.entities change w.groups;
+  asking = asking_left change w.asking;
 }
 with_change (OfNetwork change) w = record w { keys = record w.keys { told = told_after change w.keys.told } }
-with_change (OfGets change) w = record w { asking = asking_after change w.asking }
+with_change (OfGets change) w = record w { asking = asking_after change w.asking; liveliness = liveliness_by change w.liveliness }
+with_change (OfLiveliness change) w = record w {
+  counters = record w.counters { entity = next_behind change w.counters.entity };
+  liveliness = liveliness_after change w.liveliness;
+}
 with_change (OfValues change) w = record w {
   asking = asking_beside change w.handing.values w.asking;
   handing = handing_after change w.handing;
 }
+with_change (OfTokens change) w = record w {
+  asking = asking_cancelled change w.asking;
+  liveliness = liveliness_cancelled change w.liveliness;
+  cancelling = cancelling_after change w.cancelling;
+}
 with_change Shut w = record w {
   closed = true;
-  entities = record w.entities { subs = []; pubs = []; queryables = [] };
+  entities = record w.entities { subs = []; pubs = []; queryables = []; queriers = [] };
   keys = record w.keys { own = []; holders = [] };
   groups = no_groups;
   asking = all_ended w.asking;
+  liveliness = shut_liveliness w.liveliness;
 }
 
 -- what a change takes for granted: a number that it draws is the next one, and is there; a number that it names stands for a key
@@ -315,6 +391,7 @@ abbrev pub EntitiesFit : World → EntityChange → Type 0
 EntitiesFit w (AddSub row) = (row.id ≡ w.counters.entity) × (is_spent last_entity w.counters.entity ≡ false)
 EntitiesFit w (AddPub row) = (row.id ≡ w.counters.entity) × (is_spent last_entity w.counters.entity ≡ false)
 EntitiesFit w (AddQueryable row) = (row.id ≡ w.counters.entity) × (is_spent last_entity w.counters.entity ≡ false)
+EntitiesFit w (AddQuerier row) = (row.id ≡ w.counters.entity) × (is_spent last_entity w.counters.entity ≡ false)
 EntitiesFit w change = Unit {0}
 
 abbrev pub GetsFit : World → GetChange → Type 0
@@ -334,9 +411,15 @@ ValuesFit w (AskHere get row met) =
 ValuesFit w (ShareOf value) = is_spent last_value w.handing.next ≡ false
 ValuesFit w (GiveBack value) = Unit {0}
 
+abbrev pub TokensFit : World → TokenChange → Type 0
+TokensFit w Draw = is_spent last_token w.cancelling.next ≡ false
+TokensFit w (TakeToken token) = Unit {0}
+
 abbrev pub Fits : World → Change → Type 0
 Fits w (OfKeys change) = KeysFit w change
 Fits w (OfEntities change) = EntitiesFit w change
 Fits w (OfGets change) = GetsFit w change
+Fits w (OfLiveliness change) = LivelinessFits w.counters.entity change
 Fits w (OfValues change) = ValuesFit w change
+Fits w (OfTokens change) = TokensFit w change
 Fits w change = Unit {0}

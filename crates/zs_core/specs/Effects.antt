@@ -1,35 +1,42 @@
 -- What an event is answered and brings about, told by the events alone.
-use Rattle.std.specs.Prelude.{ℕ, List, [], ◌∷◌, ◌++◌, Option, Some, None, option_map, if◌then◌else◌}
+use Rattle.std.specs.Prelude.{ℕ, List, [], ◌∷◌, ◌++◌, Option, Some, None, option_map, if◌then◌else◌, Bool, true, false}
 use Rattle.zs_tables.specs.declared.subscriber.SubRow.{SubRow}
 use Rattle.zs_tables.specs.declared.queryable.QueryableRow.{QueryableRow}
 use Rattle.zs_events.specs.declared.event.Event.{Event}
-use Rattle.zs_events.specs.declared.event.Event.TheVariants.{Sub, Pub, Queryable, Undeclare, Close}
+use Rattle.zs_events.specs.declared.event.Event.TheVariants.{Sub, Pub, Queryable, Querier, Undeclare, Close, Token, Lsub, LivelinessGet}
 use Rattle.zs_core.specs.declared.settings.Settings.{Settings}
 use Rattle.zs_events.specs.declared.turn.Effect.{Effect}
-use Rattle.zs_events.specs.declared.turn.Effect.TheVariants.{End}
+use Rattle.zs_events.specs.declared.turn.Effect.TheVariants.{End, Send}
 use Rattle.zs_events.specs.declared.turn.Turn.{Turn}
 use Rattle.zs_events.specs.Turn.{answered}
-use Rattle.zs_events.specs.Kinds.{Publishes, NoContent, OwnContent, ByPublisher, row_of}
+use Rattle.zs_events.specs.Kinds.{Publishes, NoContent, OwnContent, ByPublisher, ToGets, row_of}
 use Rattle.zs_core.specs.Entry.{Entry, is_closed}
 use Rattle.zs_core.specs.Held.{held_text, held_count, held_number, named_text}
-use Rattle.zs_core.specs.Live.{live_subs, live_pubs, live_queryables}
+use Rattle.zs_core.specs.Live.{live_subs, live_pubs, live_queryables, live_queriers, live_lsubs}
 use Rattle.zs_events.specs.declared.event.EntityKind.{EntityKind}
-use Rattle.zs_events.specs.declared.event.EntityKind.TheVariants.{Sub as sub_kind, Pub as pub_kind, Queryable as queryable_sort}
-use Rattle.zs_events.specs.declared.turn.Kind.TheVariants.{Subscriber, Queryable as queryable_kind}
+use Rattle.zs_events.specs.declared.event.EntityKind.TheVariants.{Sub as sub_kind, Pub as pub_kind, Queryable as queryable_sort, Querier as querier_sort, Token as token_sort, Lsub as lsub_sort}
+use Rattle.zs_events.specs.declared.turn.Kind.TheVariants.{Subscriber, Queryable as queryable_kind, LivelinessSubscriber}
 use Rattle.zs_core.specs.declared.publisher.PubRow.{PubRow}
 use Rattle.zs_events.specs.declared.event.KeyArg.{KeyArg}
 use Rattle.zs_wire.specs.declared.wire_expr.WireExpr.{WireExpr}
-use Rattle.zs_wire.specs.declared.message.Message.TheVariants.{DeclareSubscriber, DeclareQueryable, UndeclareQueryable, Interest}
-use Rattle.zs_wire.specs.declared.interest.InterestMode.TheVariants.{CurrentFuture}
-use Rattle.zs_wire.specs.declared.interest.InterestWhat.TheVariants.{Subscribers as of_subscribers}
+use Rattle.zs_wire.specs.declared.message.Message.TheVariants.{DeclareSubscriber, DeclareQueryable, UndeclareQueryable, Interest, DeclareToken, UndeclareToken}
+use Rattle.zs_wire.specs.declared.interest.InterestMode.TheVariants.{CurrentFuture, Current, Future, Final}
+use Rattle.zs_wire.specs.declared.interest.InterestWhat.TheVariants.{Subscribers as of_subscribers, Queryables as of_queryables, Tokens as of_tokens}
+use Rattle.zs_wire.specs.declared.message.Message.{Message}
+use Rattle.zs_wire.specs.declared.interest.InterestMode.{InterestMode}
 use Rattle.zs_tables.specs.Recipients.{has_network}
 use Rattle.zs_tables.specs.declared.group_kind.GroupKind.{GroupKind}
-use Rattle.zs_tables.specs.declared.group_kind.GroupKind.TheVariants.{Subscribers, Publishers}
+use Rattle.zs_tables.specs.declared.group_kind.GroupKind.TheVariants.{Subscribers, Publishers, Queriers}
 use Rattle.zs_core.specs.Subscribers.{sub_at, sub_ends}
-use Rattle.zs_core.specs.Groups.{Company, company_of, sub_shared, pub_shared, joins_first, sends_if, leaving, subscriber_end, interest_end}
+use Rattle.zs_core.specs.Groups.{Company, company_of, sub_shared, pub_shared, querier_shared, joins_first, sends_if, leaving, subscriber_end, interest_end, querier_end}
 use Rattle.zs_core.specs.Publishers.{pub_at, resolved}
 use Rattle.zs_core.specs.Queryables.{queryable_at, queryable_ends}
+use Rattle.zs_core.specs.declared.querier.QuerierRow.{QuerierRow}
+use Rattle.zs_core.specs.Queriers.{querier_at, querier_declaration, to_gets_by}
 use Rattle.zs_core.specs.Gets.{open_now}
+use Rattle.zs_tables.specs.declared.liveliness_sub.LivelinessSub.{LivelinessSub}
+use Rattle.zs_core.specs.Tokens.{told_tokens, asking_now}
+use Rattle.zs_core.specs.LivelinessEffects.{Watch, watch_effects, lsub_ends}
 use Rattle.zs_core.specs.GetEffects.{request_effects, told_effects, with_gets}
 use Rattle.zs_query.specs.declared.open_get.OpenGet.{OpenGet}
 use Rattle.zs_query.specs.declared.query_value.QueryValue.{QueryValue}
@@ -70,22 +77,28 @@ abbrev pub undeclared_ends : EntityKind → ℕ → List Effect
 undeclared_ends sub_kind id = End Subscriber id ∷ []
 undeclared_ends pub_kind id = []
 undeclared_ends queryable_sort id = End queryable_kind id ∷ []
+undeclared_ends querier_sort id = []
+undeclared_ends token_sort id = []
+undeclared_ends lsub_sort id = End LivelinessSubscriber id ∷ []
 
-abbrev pub ends_of : List QueryableRow → List SubRow → Event → List Effect
-ends_of queryables rows (Undeclare kind id) = undeclared_ends kind id
-ends_of queryables rows Close = queryable_ends queryables ++ sub_ends rows
-ends_of queryables rows e = []
+abbrev pub ends_of : List QueryableRow → List SubRow → List LivelinessSub → Event → List Effect
+ends_of queryables rows lsubs (Undeclare kind id) = undeclared_ends kind id
+ends_of queryables rows lsubs Close = queryable_ends queryables ++ sub_ends rows ++ lsub_ends lsubs
+ends_of queryables rows lsubs e = []
 
--- what effects are read off: the keys that this session declared, the live subscribers, publishers and queryables, the groups of
--- each kind, how long a get waits that doesn't say it, the open gets, the session's identifier, and the query values
+-- what effects are read off: the keys that this session declared, the live subscribers, publishers, queryables and queriers, the groups of
+-- each kind, how long a get waits that doesn't say it, the open gets, what is known of liveliness, the session's identifier, and the
+-- query values
 pub record Known : Type 0 where
   pub keys : OwnKeys
   pub subs : List SubRow
   pub pubs : List PubRow
   pub queryables : List QueryableRow
+  pub queriers : List QuerierRow
   pub company : GroupKind → Company
   pub timeout : ℕ
   pub gets : List OpenGet
+  pub watch : Watch
   pub zid : ℕ
   pub handing : Handing
 
@@ -98,9 +111,27 @@ abbrev pub queryable_leaves : Option QueryableRow → List Effect
 queryable_leaves None = []
 queryable_leaves (Some row) = sends_if (has_network row.origin) (UndeclareQueryable row.id)
 
--- what is sent where an entity is declared and where it ends. Subscribers and publishers join the group of their text and leave it:
+-- what is sent of liveliness where it is declared, given the message of a number and a key
+abbrev pub declared_sends : (ℕ → WireExpr → Message) → OwnKeys → Option ℕ → Option (List ℕ) → KeyArg → List Effect
+declared_sends message k (Some id) (Some text) key = Send (message id (key_wire k text key)) ∷ []
+declared_sends message k None text key = []
+declared_sends message k (Some id) None key = []
+
+-- what a subscriber to liveliness asks of tokens, and a get of them: those that stand, those that come, or both
+abbrev pub lsub_mode : Bool → InterestMode
+lsub_mode true = CurrentFuture
+lsub_mode false = Future
+
+abbrev pub token_interest : InterestMode → ℕ → WireExpr → Message
+token_interest mode id wire = Interest id mode of_tokens (Some wire)
+
+-- a token's declaration
+abbrev pub token_declaration : ℕ → WireExpr → Message
+token_declaration id wire = DeclareToken id wire None
+
+-- what is sent where an entity is declared and where it ends. Subscribers, publishers and queriers join the group of their text and leave it:
 -- the declaration of a group that had no members is sent, and the end of one that has none left. A queryable has a declaration of
--- its own, where the network is in its origin
+-- its own, where the network is in its origin, and so has each token; a subscriber to liveliness and a get of tokens ask the network
 abbrev pub entity_sends : Known → Event → Option ℕ → Option (List ℕ) → List Effect
 entity_sends known (Sub origin key) (Some id) (Some text) =
     sends_if (joins_first (known.company Subscribers) (record { id = id; told = has_network origin; text = text }))
@@ -115,11 +146,25 @@ entity_sends known (Undeclare pub_kind id) number text =
 entity_sends known (Queryable origin complete key) (Some id) (Some text) =
     sends_if (has_network origin) (DeclareQueryable id complete (key_wire known.keys text key))
 entity_sends known (Undeclare queryable_sort id) number text = queryable_leaves (queryable_at id known.queryables)
+entity_sends known (Querier destination key target consolidation timeout qos any_key) (Some id) (Some text) =
+    sends_if (joins_first (known.company Queriers) (record { id = id; told = has_network destination; text = text }))
+    (Interest id CurrentFuture of_queryables (Some (key_wire known.keys text key)))
+entity_sends known (Undeclare querier_sort id) number text =
+    leaving (known.company Queriers) querier_end (option_map querier_shared (querier_at id known.queriers))
+entity_sends known (Token key) number text = declared_sends token_declaration known.keys number text key
+entity_sends known (Undeclare token_sort id) number text = Send (UndeclareToken id None None) ∷ []
+entity_sends known (Lsub history key) number text = declared_sends (token_interest (lsub_mode history)) known.keys number text key
+entity_sends known (Undeclare lsub_sort id) number text = Send (Interest id Final of_tokens None) ∷ []
+entity_sends known (LivelinessGet key timeout token) number text = declared_sends (token_interest Current) known.keys number text key
 entity_sends known e number text = []
+
+-- what an event is to gets
+abbrev pub to_gets_for : Known → Event → ToGets
+to_gets_for known e = to_gets_by known.queriers (row_of e).to_gets
 
 -- the query values that an event draws, given the number that it is answered and the text of its key
 abbrev pub draws_of : Known → Option ℕ → Option (List ℕ) → Event → List QueryValue
-draws_of known number text e = drawn_by known.queryables known.handing (row_of e).to_gets (row_of e).to_values number text
+draws_of known number text e = drawn_by known.queryables known.handing (to_gets_for known e) (row_of e).to_values number text
 
 -- what is known where query values are answered
 abbrev pub answering : Known → Answering
@@ -129,12 +174,13 @@ answering known = record { zid = known.zid; keys = known.keys; gets = known.gets
 -- what it hands out, then what ends
 abbrev pub effects_on : Known → Option ℕ → Option (List ℕ) → Event → List Effect
 effects_on known number text e =
-    with_gets (row_of e).to_gets
+    with_gets (to_gets_for known e)
     (with_values (row_of e).to_values
-    (sends_of known.keys known.pubs number text e ++ entity_sends known e number text ++ hands_of known.subs known.pubs text e ++ ends_of known.queryables known.subs e)
+    (sends_of known.keys known.pubs number text e ++ entity_sends known e number text ++ hands_of known.subs known.pubs text e
+    ++ watch_effects known.watch number text (row_of e).to_liveliness (ends_of known.queryables known.subs known.watch.subs e))
     (value_effects (answering known) (row_of e).key (draws_of known number text e) text (row_of e).to_values))
-    (request_effects known.timeout known.keys (row_of e).key (draws_of known number text e) number text (row_of e).to_gets)
-    (told_effects known.gets text (row_of e).to_gets)
+    (request_effects known.timeout known.keys (row_of e).key (draws_of known number text e) number text (to_gets_for known e))
+    (told_effects known.gets known.watch.gets text (to_gets_for known e))
 
 -- what the past tells of declared keys
 abbrev pub own_keys_of : Settings → List Entry → OwnKeys
@@ -144,6 +190,7 @@ own_keys_of s past = record {
   count_of = λ n. held_count n past;
   number_of = λ text. held_number text past;
   published = λ id. prefix_declaration s.tag (pub_at id (live_pubs past));
+  queried = λ id. querier_declaration s.tag (querier_at id (live_queriers past));
 }
 
 abbrev pub known_of : Settings → List Entry → Known
@@ -152,9 +199,11 @@ known_of s past = record {
   subs = live_subs past;
   pubs = live_pubs past;
   queryables = live_queryables past;
+  queriers = live_queriers past;
   company = λ kind. company_of s kind past;
   timeout = s.default_timeout;
   gets = open_now s past;
+  watch = record { subs = live_lsubs past; told = told_tokens s past; gets = asking_now s past };
   zid = s.zid;
   handing = handing_of past;
 }

@@ -14,7 +14,7 @@ use Rattle.zs_events.specs.Kinds.{ToGets, NoGet, ToValues, Requested, GivesBack,
 use Rattle.zs_core.specs.declared.settings.Settings.{Settings}
 use Rattle.zs_core.specs.Entry.{Entry, is_closed}
 use Rattle.zs_core.specs.Held.{named_text}
-use Rattle.zs_core.specs.Live.{live_queryables}
+use Rattle.zs_core.specs.Live.{live_queryables, to_gets_of}
 use Rattle.zs_core.specs.Values.{met_by, times_handed, values_now}
 use Rattle.zs_core.specs.Causes.{refusal_of}
 
@@ -60,7 +60,7 @@ ends_request request values to does = false
 abbrev pub times_ended : ℕ → List Entry → ℕ
 times_ended request [] = 0
 times_ended request (x ∷ past) =
-    if ends_request request (values_now past) (row_of x.event).to_gets (row_of x.event).to_values then times_ended request past + 1 else times_ended request past
+    if ends_request request (values_now past) (to_gets_of past x.event) (row_of x.event).to_values then times_ended request past + 1 else times_ended request past
 
 -- whether a value of a request is unfinished
 abbrev pub is_asked_still : ℕ → List QueryValue → Bool

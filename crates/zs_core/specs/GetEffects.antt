@@ -1,5 +1,5 @@
 -- What an accepted event brings about for gets.
-use Rattle.std.specs.Prelude.{ℕ, List, [], ◌∷◌, ◌++◌, map, Option, Some, None, if◌then◌else◌}
+use Rattle.std.specs.Prelude.{ℕ, List, [], ◌∷◌, ◌++◌, map, filter, Option, Some, None, if◌then◌else◌}
 use Rattle.std.specs.List.{flat_map}
 use Rattle.zs_sample.specs.Reply.{Replied}
 use Rattle.zs_wire.specs.declared.message.Message.TheVariants.{Request as request_message}
@@ -14,7 +14,8 @@ use Rattle.zs_query.specs.declared.outcome.Outcome.{Outcome}
 use Rattle.zs_query.specs.declared.outcome.Outcome.TheVariants as outcome
 use Rattle.zs_query.specs.declared.outcome.Peek.{Peek}
 use Rattle.zs_query.specs.declared.outcome.Peek.TheVariants as peek
-use Rattle.zs_query.specs.Gets.{get_at, peek_at, final_outcome, ends_at}
+use Rattle.zs_query.specs.Gets.{get_at, peek_at, final_outcome, ends_at, timeout_error}
+use Rattle.zs_query.specs.Asked.{News, QuerierEnds, CancelledBy, is_end}
 use Rattle.zs_events.specs.declared.turn.Effect.{Effect}
 use Rattle.zs_events.specs.declared.turn.Effect.TheVariants.{Send, Hand, End}
 use Rattle.zs_events.specs.declared.turn.HandOver.TheVariants.{Reply as reply_for, Query as query_for}
@@ -22,9 +23,14 @@ use Rattle.zs_query.specs.QueryData.{query_of}
 use Rattle.zs_query.specs.declared.query_value.QueryValue.{QueryValue}
 use Rattle.zs_events.specs.declared.turn.Kind.TheVariants.{Get as get_kind}
 use Rattle.zs_core.specs.Sends.{OwnKeys, wire_form, declaration_of}
-use Rattle.zs_events.specs.Kinds.{NamedKey, Question, ToGets, NoGet, Asks, Answers, EndsSide, Reaches, EndsAll}
+use Rattle.zs_events.specs.Kinds.{NamedKey, Question, ToGets, NoGet, Asks, AsksBy, Answers, EndsSide, Reaches, EndsQuerier, Cancels, EndsAll}
 use Rattle.zs_core.specs.Questions.{request_of}
 use Rattle.zs_core.specs.Gets.{sample_reply, error_reply}
+use Rattle.zs_core.specs.declared.state.ended_gets.Ender.{Ender}
+use Rattle.zs_core.specs.declared.state.ended_gets.Ender.TheVariants.{Querier as by_querier, Token as by_token}
+use Rattle.zs_core.specs.LivelinessEffects.{hand_answer, end_asking, cancelled_ends, asking_ends}
+use Rattle.zs_tables.specs.LivelinessGets.{over_at}
+use Rattle.zs_tables.specs.declared.liveliness_get.LivelinessGet.{LivelinessGet}
 
 -- a reply for the get of a number
 abbrev pub hand_reply : ℕ → Replied → Effect
@@ -83,29 +89,48 @@ final_effects number out = []
 abbrev pub last_hands : ℕ × List Replied → List Effect
 last_hands end = map (hand_reply end.0) end.1
 
--- all that these ends hand out, and then the ends
-abbrev pub ends_effects : List (ℕ × List Replied) → List Effect
-ends_effects ends = flat_map last_hands ends ++ map end_get (map (λ end. end.0) ends)
+-- all that these ends hand out and the errors for these gets of tokens, and then the ends of both
+abbrev pub ends_effects : List (ℕ × List Replied) → List ℕ → List Effect
+ends_effects ends over =
+    flat_map last_hands ends ++ map (hand_answer timeout_error) over ++ map end_get (map (λ end. end.0) ends) ++ map end_asking over
 
--- what an event that asks nothing brings about where these gets are open, given the text of its key
-abbrev pub told_effects : List OpenGet → Option (List ℕ) → ToGets → List Effect
-told_effects gets text NoGet = []
-told_effects gets text (Asks question) = []
-told_effects gets text (Answers response) = response_effects gets response response.answered text
-told_effects gets text (EndsSide rid) = final_effects rid (final_outcome Network (get_at rid gets))
-told_effects gets text (Reaches moment) = ends_effects (ends_at moment gets)
-told_effects gets text EndsAll = map end_get (map (λ g. g.row.number) gets)
+-- the news that the code names
+abbrev pub ender_news : Ender → News
+ender_news (by_querier id) = QuerierEnds id
+ender_news (by_token token) = CancelledBy token
+
+-- the numbers of the gets that news ends, whatever is missing, and the ends alone
+abbrev pub ended_numbers : News → List OpenGet → List ℕ
+ended_numbers news gets = map (λ g. g.row.number) (filter (λ g. is_end g.row news) gets)
+
+abbrev pub cut_effects : News → List OpenGet → List Effect
+cut_effects news gets = map end_get (ended_numbers news gets)
+
+-- what an event that asks nothing brings about where these gets are open, and these of tokens, given the text of its key
+abbrev pub told_effects : List OpenGet → List LivelinessGet → Option (List ℕ) → ToGets → List Effect
+told_effects gets asking text NoGet = []
+told_effects gets asking text (Asks question) = []
+told_effects gets asking text (AsksBy id question) = []
+told_effects gets asking text (Answers response) = response_effects gets response response.answered text
+told_effects gets asking text (EndsSide rid) = final_effects rid (final_outcome Network (get_at rid gets))
+told_effects gets asking text (Reaches moment) = ends_effects (ends_at moment gets) (over_at moment asking)
+told_effects gets asking text (EndsQuerier id) = cut_effects (QuerierEnds id) gets
+told_effects gets asking text (Cancels token) = cut_effects (CancelledBy token) gets ++ cancelled_ends token asking
+told_effects gets asking text EndsAll = map end_get (map (λ g. g.row.number) gets) ++ asking_ends asking
 
 -- and one that asks a get
 abbrev pub request_effects : ℕ → OwnKeys → NamedKey → List QueryValue → Option ℕ → Option (List ℕ) → ToGets → List Effect
 request_effects default k key values number text (Asks question) = asked_effects default k key values number text question
 request_effects default k key values number text to = []
 
--- the same with what the event brings about beside: the close alone brings about both
+-- the same with what the event brings about beside: the close and the end of a querier bring about both
 abbrev pub with_gets : ToGets → List Effect → List Effect → List Effect → List Effect
 with_gets NoGet others asked told = others
 with_gets (Asks question) others asked told = asked
+with_gets (AsksBy id question) others asked told = others
 with_gets (Answers response) others asked told = told
 with_gets (EndsSide rid) others asked told = told
 with_gets (Reaches moment) others asked told = told
+with_gets (EndsQuerier id) others asked told = others ++ told
+with_gets (Cancels token) others asked told = told
 with_gets EndsAll others asked told = others ++ told

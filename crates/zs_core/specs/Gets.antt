@@ -14,11 +14,11 @@ use Rattle.zs_query.specs.declared.outcome.Outcome.TheVariants as outcome
 use Rattle.zs_query.specs.declared.outcome.Peek.{Peek}
 use Rattle.zs_query.specs.declared.outcome.Peek.TheVariants as peek
 use Rattle.zs_query.specs.Gets.{get_at, peek_at, final_outcome}
-use Rattle.zs_query.specs.Asked.{News, Quiet, ReplyTo, FinalOf, AtMoment, AllEnd, Asked, heard, open_gets}
-use Rattle.zs_events.specs.Kinds.{Question, ToGets, NoGet, Asks, Answers, EndsSide, Reaches, EndsAll, ToValues, row_of}
+use Rattle.zs_query.specs.Asked.{News, Quiet, ReplyTo, FinalOf, AtMoment, QuerierEnds, CancelledBy, AllEnd, Asked, heard, open_gets}
+use Rattle.zs_events.specs.Kinds.{Question, ToGets, NoGet, Asks, AsksBy, Answers, EndsSide, Reaches, EndsQuerier, Cancels, EndsAll, ToValues, row_of}
 use Rattle.zs_core.specs.declared.settings.Settings.{Settings}
 use Rattle.zs_core.specs.Entry.{Entry}
-use Rattle.zs_core.specs.Live.{appended, live_queryables}
+use Rattle.zs_core.specs.Live.{appended, live_queryables, to_gets_of}
 use Rattle.zs_core.specs.Questions.{is_some_met, row_asked}
 use Rattle.zs_core.specs.Values.{met_by_get, values_now}
 use Rattle.zs_core.specs.Replies.{reply_on, error_on}
@@ -43,9 +43,12 @@ response_news response (Error value) text = Quiet
 abbrev pub news_by : ToGets → Option (List ℕ) → News
 news_by NoGet text = Quiet
 news_by (Asks question) text = Quiet
+news_by (AsksBy id question) text = Quiet
 news_by (Answers response) text = response_news response response.answered text
 news_by (EndsSide number) text = FinalOf number Network
 news_by (Reaches moment) text = AtMoment moment
+news_by (EndsQuerier id) text = QuerierEnds id
+news_by (Cancels token) text = CancelledBy token
 news_by EndsAll text = AllEnd
 
 -- and of one that says nothing to gets: what it does with the query values of one
@@ -77,8 +80,8 @@ moment_of (x ∷ past) = moment_by (row_of x.event).to_gets (moment_of past)
 abbrev pub asked : Settings → List Entry → List Asked
 asked s [] = []
 asked s (x ∷ past) =
-    appended (heard (news_of s.zid (values_now past) (row_of x.event).to_gets (row_of x.event).to_values x.text) (asked s past))
-    (asked_by s.default_timeout (moment_of past) (live_queryables past) (row_of x.event).to_gets x.number x.text)
+    appended (heard (news_of s.zid (values_now past) (to_gets_of past x.event) (row_of x.event).to_values x.text) (asked s past))
+    (asked_by s.default_timeout (moment_of past) (live_queryables past) (to_gets_of past x.event) x.number x.text)
 
 -- the open ones, with what their replies make them keep
 abbrev pub open_now : Settings → List Entry → List OpenGet

@@ -12,13 +12,14 @@ use Rattle.zs_tables.specs.declared.subscriber.SubRow.{SubRow}
 use Rattle.zs_wire.specs.declared.message.Message.{Message}
 use Rattle.zs_wire.specs.declared.message.Message.TheVariants.{UndeclareSubscriber, Interest}
 use Rattle.zs_wire.specs.declared.interest.InterestMode.TheVariants.{Final}
-use Rattle.zs_wire.specs.declared.interest.InterestWhat.TheVariants.{Subscribers as of_subscribers}
+use Rattle.zs_wire.specs.declared.interest.InterestWhat.TheVariants.{Subscribers as of_subscribers, Nothing as of_nothing}
 use Rattle.zs_events.specs.declared.turn.Effect.{Effect}
 use Rattle.zs_events.specs.declared.turn.Effect.TheVariants.{Send}
 use Rattle.zs_core.specs.declared.publisher.PubRow.{PubRow}
+use Rattle.zs_core.specs.declared.querier.QuerierRow.{QuerierRow}
 use Rattle.zs_core.specs.declared.settings.Settings.{Settings}
 use Rattle.zs_core.specs.Entry.{Entry}
-use Rattle.zs_core.specs.Live.{live_subs, live_pubs}
+use Rattle.zs_core.specs.Live.{live_subs, live_pubs, live_queriers}
 
 -- the first of these keys that includes a key
 abbrev pub aggregate_of : List Key → List ℕ → Option Key
@@ -42,12 +43,15 @@ shares aggregates text x = x.told && bytes_eq (share_text aggregates x.text) tex
 abbrev pub sharing : List Key → List ℕ → List Shared → List ℕ
 sharing aggregates text xs = map (λ x. x.id) (filter (shares aggregates text) xs)
 
--- a subscriber and a publisher as groups see them
+-- a subscriber, a publisher and a querier as groups see them
 abbrev pub sub_shared : SubRow → Shared
 sub_shared row = record { id = row.id; told = has_network row.origin; text = row.key.text }
 
 abbrev pub pub_shared : PubRow → Shared
 pub_shared row = record { id = row.id; told = has_network row.destination; text = row.key.text }
+
+abbrev pub querier_shared : QuerierRow → Shared
+querier_shared row = record { id = row.id; told = has_network row.settings.destination; text = row.key.text }
 
 -- nobody
 abbrev pub is_empty : List ℕ → Bool
@@ -70,7 +74,7 @@ abbrev pub left_found : List Key → Option Shared → List Group → List Group
 left_found aggregates None gs = gs
 left_found aggregates (Some x) gs = left_by aggregates x gs
 
--- the aggregates of a kind
+-- the aggregates of a kind: queriers share by their own keys alone
 abbrev pub aggregates_of : GroupKind → Settings → List Key
 aggregates_of Subscribers s = s.aggregated_subscribers
 aggregates_of Publishers s = s.aggregated_publishers
@@ -80,7 +84,7 @@ aggregates_of Queriers s = []
 abbrev pub live_shared : GroupKind → List Entry → List Shared
 live_shared Subscribers past = map sub_shared (live_subs past)
 live_shared Publishers past = map pub_shared (live_pubs past)
-live_shared Queriers past = []
+live_shared Queriers past = map querier_shared (live_queriers past)
 
 -- the group of a text: the live entities of the kind that share its declaration
 abbrev pub group : Settings → GroupKind → List ℕ → List Entry → List ℕ
@@ -142,3 +146,6 @@ subscriber_end number = UndeclareSubscriber number
 
 abbrev pub interest_end : ℕ → Message
 interest_end number = Interest number Final of_subscribers None
+
+abbrev pub querier_end : ℕ → Message
+querier_end number = Interest number Final of_nothing None

@@ -10,10 +10,11 @@ use Rattle.zs_wire.specs.declared.message.Message.TheVariants.{DeclareKeyExpr}
 use Rattle.zs_wire.specs.declared.wire_expr.Mapping.{Mapping}
 use Rattle.zs_wire.specs.declared.wire_expr.Mapping.TheVariants.{Sender, Receiver}
 use Rattle.zs_wire.specs.declared.wire_expr.WireExpr.{WireExpr}
-use Rattle.zs_events.specs.Kinds.{NamedKey, NoKey, OwnKey, PublisherKey, WireKey, row_of}
+use Rattle.zs_events.specs.Kinds.{NamedKey, NoKey, OwnKey, PublisherKey, QuerierKey, WireKey, row_of}
 use Rattle.zs_core.specs.Entry.{Entry, is_closed}
 use Rattle.zs_core.specs.Publishers.{pub_at}
-use Rattle.zs_core.specs.Live.{live_pubs}
+use Rattle.zs_core.specs.Queriers.{querier_at}
+use Rattle.zs_core.specs.Live.{live_pubs, live_queriers}
 
 -- whether an event declared a key and was answered this number
 abbrev pub declares_number : ℕ → Event → Option ℕ → Bool
@@ -110,6 +111,7 @@ abbrev pub text_named : List Entry → NamedKey → Option (List ℕ)
 text_named past NoKey = None
 text_named past (OwnKey key) = key_text past key
 text_named past (PublisherKey id) = option_map (λ row. row.key.text) (pub_at id (live_pubs past))
+text_named past (QuerierKey id) = option_map (λ row. row.key.text) (querier_at id (live_queriers past))
 text_named past (WireKey wire) = wire_text past wire
 
 -- the text that the key of an event stands for

@@ -12,9 +12,10 @@ use Rattle.zs_events.specs.declared.turn.Refusal.{Refusal}
 use Rattle.zs_events.specs.declared.turn.Refusal.TheVariants.{BadKeyExpr}
 use Rattle.zs_tables.specs.Contents.{numbers_of}
 use Rattle.zs_core.specs.declared.state.keys.KeyName.{KeyName}
-use Rattle.zs_core.specs.declared.state.keys.KeyName.TheVariants.{Own, Publisher, Wire}
-use Rattle.zs_events.specs.Kinds.{NamedKey, NoKey, OwnKey, PublisherKey, WireKey, is_nothing}
+use Rattle.zs_core.specs.declared.state.keys.KeyName.TheVariants.{Own, Publisher, Querier, Wire}
+use Rattle.zs_events.specs.Kinds.{NamedKey, NoKey, OwnKey, PublisherKey, QuerierKey, WireKey, is_nothing}
 use Rattle.zs_core.specs.Publishers.{pub_at}
+use Rattle.zs_core.specs.Queriers.{querier_at}
 use Rattle.zs_core.specs.World.{World, tables_of}
 
 -- the text of a key with a text behind it, if there is a key
@@ -42,6 +43,7 @@ abbrev pub text_of : World → NamedKey → Option (List ℕ)
 text_of w NoKey = None
 text_of w (OwnKey key) = key_of w key
 text_of w (PublisherKey id) = option_map (λ row. row.key.text) (pub_at id w.entities.pubs)
+text_of w (QuerierKey id) = option_map (λ row. row.key.text) (querier_at id w.entities.queriers)
 text_of w (WireKey wire) = wire_of w wire
 
 -- whether a key of this text stands under a number
@@ -59,6 +61,7 @@ has_claim w (Some number) (Some text) = is_key_of text (key_at number w.keys.own
 abbrev pub named_by : KeyName → NamedKey
 named_by (Own key) = OwnKey key.now
 named_by (Publisher id) = PublisherKey id
+named_by (Querier id) = QuerierKey id
 named_by (Wire wire) = WireKey wire.now
 
 -- a key argument that names a number, with nothing behind it
@@ -72,6 +75,7 @@ abbrev pub is_number_alone : NamedKey → Bool
 is_number_alone NoKey = false
 is_number_alone (OwnKey key) = is_number key
 is_number_alone (PublisherKey id) = false
+is_number_alone (QuerierKey id) = false
 is_number_alone (WireKey wire) = not (wire.scope == 0) && is_nothing wire.suffix
 
 -- the key that a text is, or why it is refused: there is no text, or it is not canonical

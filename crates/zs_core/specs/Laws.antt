@@ -1,7 +1,7 @@
 -- What the tables hold after every history, and how events are answered, told by the events alone: each law is the clause of a
 -- public function.
-use Rattle.std.specs.Prelude.{◌≡◌, ◌≤◌, ℕ, length, Bool, true, false, List, Option, Some, None, option_map, IsUtf8, if◌then◌else◌}
-use Rattle.std.specs.List.{AllByRecursion}
+use Rattle.std.specs.Prelude.{◌≡◌, ◌≤◌, ℕ, length, Bool, true, false, List, [], Option, Some, None, option_map, IsUtf8, if◌then◌else◌, ◌∷◌, ◌++◌, ◌==◌, not, filter}
+use Rattle.std.specs.List.{AllByRecursion, find}
 use Rattle.std.specs.Option.{IfSome}
 use Rattle.zs_wire.specs.declared.wire_expr.Mapping.{Mapping}
 use Rattle.zs_tables.specs.Ascending.{Ascend}
@@ -15,16 +15,20 @@ use Rattle.zs_events.specs.declared.event.KeyArg.{KeyArg}
 use Rattle.zs_core.specs.declared.settings.Settings.{Settings}
 use Rattle.zs_events.specs.declared.turn.Refusal.{Refusal}
 use Rattle.zs_events.specs.Kinds.{row_of}
-use Rattle.zs_core.specs.Entry.{is_closed}
+use Rattle.zs_core.specs.Entry.{is_closed, Entry}
 use Rattle.zs_core.specs.Held.{times_declared, is_held, held_text, held_count, key_text, told_text, mapped_text, named_text}
-use Rattle.zs_core.specs.Live.{live_subs, live_pubs, live_queryables}
+use Rattle.zs_core.specs.Live.{live_subs, live_pubs, live_queryables, live_queriers, live_tokens, live_lsubs}
+use Rattle.zs_core.specs.Tokens.{tokens_asked, ends_asking, asking_now, token_text}
 use Rattle.zs_core.specs.Groups.{group, group_number}
 use Rattle.zs_core.specs.Counters.{next_entity, next_key, drawn_number, next_query}
 use Rattle.zs_core.specs.Gets.{moment_of, open_now}
 use Rattle.zs_core.specs.Causes.{has_cause, refusal_of}
 use Rattle.zs_core.specs.Values.{handing_of}
+use Rattle.zs_core.specs.Cancelling.{next_token, is_among, is_taken}
 use Rattle.zs_core.specs.Finals.{finals_among, finals_due, times_ended, is_over}
 use Rattle.zs_core.specs.Past.{past_of, entry_of}
+use Rattle.zs_core.specs.GetEffects.{ended_numbers}
+use Rattle.zs_query.specs.Asked.{CancelledBy}
 use Rattle.zs_core.specs.Effects.{effects}
 use Rattle.zs_core.specs.Received.{messages_of, sent, spoken_text, AreReadAs, AreSpelled, AreUtf8}
 use Rattle.zs_core.specs.Covered.{IsCovered}
@@ -44,6 +48,37 @@ PublishersAreLive = (s : Settings) (h : List Event) → (world_after s h).entiti
 -- and that of queryables
 abbrev pub QueryablesAreLive : Type 0
 QueryablesAreLive = (s : Settings) (h : List Event) → (world_after s h).entities.queryables ≡ live_queryables (past_of s h)
+
+-- and that of queriers
+abbrev pub QueriersAreLive : Type 0
+QueriersAreLive = (s : Settings) (h : List Event) → (world_after s h).entities.queriers ≡ live_queriers (past_of s h)
+
+-- and that of this session's tokens
+abbrev pub TokensAreLive : Type 0
+TokensAreLive = (s : Settings) (h : List Event) → (world_after s h).liveliness.tokens ≡ live_tokens (past_of s h)
+
+-- and that of the subscribers to liveliness
+abbrev pub LsubsAreLive : Type 0
+LsubsAreLive = (s : Settings) (h : List Event) → (world_after s h).liveliness.subs ≡ live_lsubs (past_of s h)
+
+-- the table of gets of tokens holds those that are open
+abbrev pub AskingsAreTold : Type 0
+AskingsAreTold = (s : Settings) (h : List Event) → (world_after s h).liveliness.gets ≡ asking_now s (past_of s h)
+
+-- the table of told tokens has under each number the key that was told first of it and not ended since, and none else; they ascend
+abbrev pub TokensAreTold : Type 0
+TokensAreTold =
+    (s : Settings) (h : List Event)
+    → ((n : ℕ) → option_map (λ t. t.key.text) (find (λ t. t.number == n) (world_after s h).liveliness.told) ≡ token_text s n (past_of s h))
+    × Ascend (λ t. t.number) (world_after s h).liveliness.told
+
+-- open behind one more event are those that were open and that it does not end, and the one that it asks: so none that ended is open
+-- again
+abbrev pub AskingsGoOn : Type 0
+AskingsGoOn =
+    (s : Settings) (x : Entry) (past : List Entry)
+    → asking_now s (x ∷ past)
+    ≡ filter (λ g. not (ends_asking g x.event)) (asking_now s past) ++ tokens_asked s.default_timeout (moment_of past) (row_of x.event).to_liveliness x.number x.text
 
 -- the live subscribers stand in ascending number, and so no number is there twice
 abbrev pub SubscribersAscend : Type 0
@@ -103,6 +138,19 @@ abbrev pub RequestsEndOnce : Type 0
 RequestsEndOnce =
     (s : Settings) (h : List Event) (request : ℕ)
     → times_ended request (past_of s h) ≡ (if is_over request (past_of s h) then 1 else 0)
+
+-- the counter of cancellation tokens stands at how many were drawn, and a token is among the taken ones where an event cancelled it
+abbrev pub CancellationsAreTold : Type 0
+CancellationsAreTold =
+    (s : Settings) (h : List Event)
+    → ((world_after s h).cancelling.next ≡ next_token (past_of s h))
+    × ((token : ℕ) → is_among (world_after s h).cancelling.taken token ≡ is_taken token (past_of s h))
+
+-- no open get has a cancellation token that was taken: so a token that is cancelled again ends no get
+abbrev pub TakenTokensEndNothing : Type 0
+TakenTokensEndNothing =
+    (s : Settings) (h : List Event) (token : ℕ)
+    → is_taken token (past_of s h) ≡ true → ended_numbers (CancelledBy token) (open_now s (past_of s h)) ≡ []
 
 -- a session is closed where an event closed it
 abbrev pub ClosedIsTold : Type 0

@@ -5,8 +5,10 @@ pub mod Held
 pub mod Subscribers
 pub mod Publishers
 pub mod Queryables
+pub mod Queriers
 pub mod Live
 pub mod Groups
+pub mod Cancelling
 pub mod Counters
 pub mod Seen
 pub mod Causes
@@ -32,3 +34,7 @@ pub mod Changes
 pub mod Turns
 pub mod Stands
 pub mod Laws
+pub mod Liveliness
+pub mod LivelinessChanges
+pub mod LivelinessEffects
+pub mod Tokens

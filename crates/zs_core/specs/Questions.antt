@@ -12,12 +12,13 @@ use Rattle.zs_sample.specs.Encoding.{encoding_of}
 use Rattle.zs_tables.specs.Recipients.{has_session, has_network}
 use Rattle.zs_query.specs.declared.get_row.GetRow.{GetRow}
 use Rattle.zs_events.specs.declared.event.Event.{Event}
-use Rattle.zs_events.specs.declared.event.Event.TheVariants.{Get}
+use Rattle.zs_events.specs.declared.event.Event.TheVariants.{Get, QuerierGet}
 use Rattle.zs_events.specs.declared.event.KeyArg.{KeyArg}
-use Rattle.zs_events.specs.Kinds.{Question}
+use Rattle.zs_events.specs.Kinds.{Question, QuerierQuestion}
+use Rattle.zs_core.specs.declared.state.questions.QuerierQuestion.{QuerierQuestion as named_querier_question}
 use Rattle.zs_core.specs.declared.state.questions.Question.{Question as named_question}
 
--- the question that the code names
+-- the questions that the code names
 abbrev pub question_by : named_question → Question
 question_by q = record {
   destination = q.destination;
@@ -30,6 +31,17 @@ question_by q = record {
   source = q.source;
   attachment = q.attachment.now;
   any_key = q.any_key;
+  querier = q.querier;
+  token = q.token;
+}
+
+abbrev pub querier_question_by : named_querier_question → QuerierQuestion
+querier_question_by q = record {
+  parameters = q.parameters.now;
+  value = q.value.now;
+  source = q.source;
+  attachment = q.attachment.now;
+  token = q.token;
 }
 
 -- its parameters, as the bytes of their text, without the signs at the end that say nothing there
@@ -68,8 +80,8 @@ row_asked default moment number text q = record {
   local_wanted = has_session q.destination;
   network_wanted = has_network q.destination;
   deadline = min (moment + timeout_of default q) last_moment;
-  querier = None;
-  token = None;
+  querier = q.querier;
+  token = q.token;
 }
 
 -- a value as it is sent: the empty encoding is the default
@@ -100,6 +112,10 @@ is_some_met (queryable ∷ met) = true
 abbrev pub row_waiting : ℕ → ℕ → ℕ → List ℕ → Question → List ℕ → GetRow
 row_waiting default moment number text q met = record (row_asked default moment number text q) { local_wanted = is_some_met met }
 
--- the event that asks it on a key
+-- the event that asks it on a key, where no querier does
 abbrev pub get_event : KeyArg → Question → Event
-get_event key q = Get q.destination key q.parameters q.target q.consolidation q.timeout q.value q.qos q.source q.attachment q.any_key
+get_event key q = Get q.destination key q.parameters q.target q.consolidation q.timeout q.value q.qos q.source q.attachment q.any_key q.token
+
+-- the event by which a querier asks one
+abbrev pub querier_get_event : ℕ → QuerierQuestion → Event
+querier_get_event id q = QuerierGet id q.parameters q.value q.source q.attachment q.token

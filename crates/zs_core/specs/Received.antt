@@ -4,6 +4,8 @@ use Rattle.std.specs.List.{AllByRecursion}
 use Rattle.std.specs.Option.{IfSome}
 use Rattle.zs_wire.specs.declared.message.Message.{Message}
 use Rattle.zs_wire.specs.declared.message.Message.TheVariants.{DeclareKeyExpr, UndeclareKeyExpr, DeclareSubscriber, DeclareQueryable, DeclareToken, UndeclareToken, Interest, Push, Request, Response}
+use Rattle.zs_wire.specs.declared.interest.InterestWhat.TheVariants.{Queryables as of_queryables, Tokens as of_tokens}
+use Rattle.zs_wire.specs.declared.interest.InterestWhat.{InterestWhat}
 use Rattle.zs_wire.specs.declared.wire_expr.WireExpr.{WireExpr}
 use Rattle.zs_events.specs.declared.event.Event.{Event}
 use Rattle.zs_events.specs.declared.turn.Effect.{Effect}
@@ -63,11 +65,17 @@ wire_in (Request request) = Some request.wire
 wire_in (Response response) = Some response.wire
 wire_in message = None
 
+-- what the key of an interest has to be read as: that of an interest in tokens, or in queryables, is the event's
+abbrev pub interest_means : Settings → InterestWhat → Option (List ℕ) → Option (List ℕ)
+interest_means s of_tokens text = text
+interest_means s of_queryables text = text
+interest_means s what text = option_map (share_text s.aggregated_publishers) text
+
 -- what the key of a message has to be read as, of an event on a key of this text: the declaration of a group names the text that
--- the group shares, and each other message the key's
+-- the group shares, which of queriers is their own, and each other message the key's
 abbrev pub meant_by : Settings → Option (List ℕ) → Message → Option (List ℕ)
 meant_by s text (DeclareSubscriber id wire) = option_map (share_text s.aggregated_subscribers) text
-meant_by s text (Interest id mode what wire) = option_map (share_text s.aggregated_publishers) text
+meant_by s text (Interest id mode what wire) = interest_means s what text
 meant_by s text message = text
 
 -- the text that an event's messages name: that of its key, and of an error that of its query's key, where these values are unfinished

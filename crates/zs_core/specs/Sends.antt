@@ -13,7 +13,7 @@ use Rattle.zs_events.specs.declared.event.KeyArg.{KeyArg}
 use Rattle.zs_events.specs.declared.event.KeyArg.TheVariants.{Text, Number, Declared as declared_text}
 use Rattle.zs_events.specs.declared.turn.Effect.{Effect}
 use Rattle.zs_events.specs.declared.turn.Effect.TheVariants.{Send}
-use Rattle.zs_events.specs.Kinds.{NamedKey, OwnKey, PublisherKey, Content, Publishes, NoContent, OwnContent, ByPublisher, row_of}
+use Rattle.zs_events.specs.Kinds.{NamedKey, OwnKey, PublisherKey, QuerierKey, Content, Publishes, NoContent, OwnContent, ByPublisher, row_of}
 use Rattle.zs_keys.specs.Key.{Key as a_key}
 use Rattle.zs_core.specs.declared.publisher.PubRow.{PubRow}
 use Rattle.zs_core.specs.Publishers.{resolved}
@@ -28,6 +28,8 @@ pub record OwnKeys : Type 0 where
   pub number_of : List ℕ → Option ℕ
   -- the declaration of a publisher's key, by the publisher's number
   pub published : ℕ → Option Declared
+  -- and that of a querier's
+  pub queried : ℕ → Option Declared
 
 -- whether a text begins with what a number stands for, which is as long as was declared
 abbrev pub has_front : List ℕ → ℕ → Option (List ℕ) → Bool
@@ -71,6 +73,7 @@ group_wire aggregates text own = unwrap_or (option_map (λ a. full_wire a.text) 
 abbrev pub declaration_of : OwnKeys → List ℕ → NamedKey → Option Declared
 declaration_of k text (OwnKey key) = declared_by k text key
 declaration_of k text (PublisherKey id) = k.published id
+declaration_of k text (QuerierKey id) = k.queried id
 declaration_of k text key = None
 
 -- a declared key is sent where its text is not held yet

@@ -3,12 +3,12 @@ use Rattle.std.specs.Prelude.{ℕ, Bool, true, false, not, ◌&&◌, ◌||◌, �
 use Rattle.zs_events.specs.declared.event.Event.{Event}
 use Rattle.zs_events.specs.declared.turn.Effect.{Effect}
 use Rattle.zs_events.specs.declared.turn.Kind.{Kind}
-use Rattle.zs_events.specs.declared.turn.Kind.TheVariants.{Subscriber, Publisher, Queryable}
+use Rattle.zs_events.specs.declared.turn.Kind.TheVariants.{Subscriber, Publisher, Queryable, Querier, Token, LivelinessSubscriber}
 use Rattle.zs_events.specs.declared.turn.Refusal.{Refusal}
-use Rattle.zs_events.specs.declared.turn.Refusal.TheVariants.{SessionClosedError, NotFound, UnknownScope, BadKeyExpr, ReplyDisjoint, NotDeclared, IdsExhausted, Ignored}
+use Rattle.zs_events.specs.declared.turn.Refusal.TheVariants.{SessionClosedError, NotFound, UnknownScope, BadKeyExpr, QueryCancelled, ReplyDisjoint, NotDeclared, IdsExhausted, Ignored}
 use Rattle.zs_core.specs.declared.change.Change.{Change}
-use Rattle.zs_core.specs.declared.change.Change.TheVariants.{Nothing, OfGets, OfValues}
-use Rattle.zs_core.specs.declared.change.GetChange.TheVariants.{Ask, Take}
+use Rattle.zs_core.specs.declared.change.Change.TheVariants.{Nothing, OfGets, OfValues, OfLiveliness}
+use Rattle.zs_core.specs.declared.change.GetChange.TheVariants.{Ask, Take, Final}
 use Rattle.zs_core.specs.declared.change.ValueChange.TheVariants.{AskHere, GiveBack}
 use Rattle.zs_core.specs.declared.change.Decision.{Decision}
 use Rattle.zs_tables.specs.Numbers.{key_at, number_at}
@@ -19,27 +19,35 @@ use Rattle.zs_wire.specs.declared.response.Response.{Response}
 use Rattle.zs_wire.specs.declared.wire_expr.WireExpr.{WireExpr}
 use Rattle.zs_core.specs.Settings.{last_entity, last_query, last_key}
 use Rattle.zs_events.specs.Turn.{answered}
-use Rattle.zs_events.specs.Kinds.{Speaker, Application, Anytime, Network, NamedKey, OwnKey, PublisherKey, WireKey, Draws, NoNumber, EntityNumber, ValueNumber, KeyNumber, Named, Content, Question, ReplyQuality, PublisherContent, Publishes, OwnContent, ByPublisher, Row, AnswersBy, AnswersError, said_by, publisher_named, row_of, QueryNumber, Answers, told_on}
-use Rattle.zs_core.specs.Seen.{Sight, is_not_found, is_unknown, is_bad}
+use Rattle.zs_events.specs.Kinds.{Speaker, Application, Anytime, Network, NamedKey, OwnKey, PublisherKey, WireKey, ToGets, asking_token, token_named, Draws, NoNumber, EntityNumber, ValueNumber, TokenNumber, KeyNumber, Named, Content, Question, ReplyQuality, PublisherContent, Publishes, OwnContent, ByPublisher, Row, AnswersBy, AnswersError, said_by, publisher_named, row_of, QueryNumber, Answers, told_on, TellsToken}
+use Rattle.zs_core.specs.Seen.{Sight, is_not_found, is_unknown, is_bad_key}
 use Rattle.zs_core.specs.Counters.{is_spent}
-use Rattle.zs_core.specs.Values.{met_by, get_request, last_value, lacks_values}
+use Rattle.zs_core.specs.Values.{met_by, met_by_get, get_request, last_value, lacks_values}
 use Rattle.zs_core.specs.Answers.{is_owed, is_disjoint_from, is_disjoint, is_refused_on, local_reply}
 use Rattle.zs_core.specs.DeclaredKeys.{holders_of}
 use Rattle.std.specs.List.{list_any}
 use Rattle.zs_core.specs.Subscribers.{is_sub}
 use Rattle.zs_core.specs.Publishers.{is_pub, pub_at, resolved}
+use Rattle.zs_core.specs.Queriers.{is_querier, querier_at, querier_declaration, to_gets_by}
+use Rattle.zs_core.specs.Cancelling.{last_token, is_drawn, is_any, is_among}
+use Rattle.zs_core.specs.Tokens.{is_spared, is_pointless}
 use Rattle.zs_core.specs.Live.{is_subscriber, is_queryable}
-use Rattle.zs_core.specs.Sends.{OwnKeys, prefix_declaration, publication_sends}
+use Rattle.zs_core.specs.Sends.{OwnKeys, wire_form, declaration_of, prefix_declaration, publication_sends}
 use Rattle.zs_sample.specs.Reply.{Replied}
 use Rattle.zs_query.specs.declared.open_get.OpenGet.{OpenGet}
-use Rattle.zs_query.specs.Gets.{get_at, peek_at}
-use Rattle.zs_core.specs.Gets.{is_unmet, is_idle_response, is_idle}
-use Rattle.zs_core.specs.GetEffects.{hand_query, request_sends, unmet_effects, ask_effects, reply_effects, response_effects}
+use Rattle.zs_query.specs.Gets.{get_at, peek_at, final_outcome}
+use Rattle.zs_query.specs.declared.side.Side.TheVariants.{Network as network_side}
+use Rattle.zs_core.specs.Gets.{is_unmet, is_unwanted, is_idle_response, is_idle}
+use Rattle.zs_core.specs.GetEffects.{hand_query, request_sends, unmet_effects, ask_effects, reply_effects, response_effects, final_effects}
 use Rattle.zs_core.specs.Effects.{Known, answering, key_wire, publication_on, hands_for, effects_on}
 use Rattle.zs_core.specs.Groups.{company_at}
 use Rattle.zs_core.specs.World.{World}
 use Rattle.zs_core.specs.Keys.{has_claim, key_of, wire_of, text_of}
 use Rattle.zs_core.specs.Changes.{response_change, ask_change, replied_change, answer_change, change_for}
+use Rattle.zs_core.specs.LivelinessChanges.{told_change}
+use Rattle.zs_core.specs.LivelinessEffects.{Watch, watch_effects, token_hands}
+use Rattle.zs_core.specs.declared.change.LivelinessChange.TheVariants.{ForgetToken}
+use Rattle.zs_wire.specs.declared.sample_kind.SampleKind.TheVariants.{Delete as delete_kind}
 use Rattle.zs_keys.specs.Text.{is_canonical}
 use Rattle.zs_events.specs.declared.event.KeyArg.{KeyArg}
 use Rattle.zs_query.specs.declared.query_value.QueryValue.{QueryValue}
@@ -59,13 +67,21 @@ abbrev pub is_there : Kind → ℕ → World → Bool
 is_there Subscriber id w = is_sub id w.entities.subs
 is_there Publisher id w = is_pub id w.entities.pubs
 is_there Queryable id w = list_any (λ row. row.id == id) w.entities.queryables
+is_there Querier id w = is_querier id w.entities.queriers
+is_there Token id w = list_any (λ other. other == id) w.liveliness.tokens
+is_there LivelinessSubscriber id w = list_any (λ row. row.id == id) w.liveliness.subs
 is_there kind id w = false
+
+-- the numbers of a kind that were left to themselves
+abbrev pub left_of : Kind → World → List ℕ
+left_of Subscriber w = w.entities.left_subs
+left_of Queryable w = w.entities.left_queryables
+left_of LivelinessSubscriber w = w.liveliness.left
+left_of kind w = []
 
 -- whether it was left to itself
 abbrev pub is_left : Kind → ℕ → World → Bool
-is_left kind id w =
-    if is_subscriber kind then list_any (λ other. other == id) w.entities.left_subs
-    else is_queryable kind && list_any (λ other. other == id) w.entities.left_queryables
+is_left kind id w = list_any (λ other. other == id) (left_of kind w)
 
 -- whether what an event names can be named, if it names anything
 abbrev pub finds : World → Option Named → Bool
@@ -78,6 +94,7 @@ has_run_out w NoNumber text = false
 has_run_out w EntityNumber text = is_spent last_entity w.counters.entity
 has_run_out w QueryNumber text = is_spent last_query w.asking.next
 has_run_out w ValueNumber text = is_spent last_value w.handing.next
+has_run_out w TokenNumber text = is_spent last_token w.cancelling.next
 has_run_out w KeyNumber None = false
 has_run_out w KeyNumber (Some text) = not (is_some (number_at text w.keys.own)) && is_spent last_key w.counters.key
 
@@ -87,11 +104,16 @@ number_of w NoNumber text = None
 number_of w EntityNumber text = Some w.counters.entity
 number_of w QueryNumber text = Some w.asking.next
 number_of w ValueNumber text = Some w.handing.next
+number_of w TokenNumber text = Some w.cancelling.next
 number_of w KeyNumber None = None
 number_of w KeyNumber (Some text) = Some (unwrap_or (number_at text w.keys.own) w.counters.key)
 
 abbrev pub number_for : World → Event → Option ℕ
 number_for w e = number_of w (row_of e).draws (text_for w e)
+
+-- what an event is to gets
+abbrev pub to_gets_at : World → Event → ToGets
+to_gets_at w e = to_gets_by w.entities.queriers (row_of e).to_gets
 
 -- what the tables say of an event
 abbrev pub sight : World → Event → Sight
@@ -100,11 +122,14 @@ sight w e = record {
   lives = finds w (row_of e).names;
   claimed = has_claim w (row_of e).claims (text_for w e);
   owed = is_owed w.handing.values (row_of e).to_values;
+  drawn = is_drawn w.cancelling.next (token_named (row_of e).to_gets (row_of e).to_liveliness);
+  cancelled = is_any (is_among w.cancelling.taken) (asking_token (row_of e).to_gets (row_of e).to_liveliness);
   disjoint = is_disjoint w.handing.values (row_of e).to_values (text_for w e);
   lacks =
-      lacks_values w.handing.next (met_by w.entities.queryables (row_of e).to_gets (row_of e).to_values (text_for w e))
+      lacks_values w.handing.next (met_by w.entities.queryables (to_gets_at w e) (row_of e).to_values (text_for w e))
       || has_run_out w (row_of e).draws (text_for w e);
-  idle = is_idle w.asking.gets (row_of e).to_gets (text_for w e);
+  idle = is_pointless (row_of e).to_liveliness || is_idle w.asking.gets (row_of e).to_gets (text_for w e);
+  spared = is_spared w.liveliness.told (row_of e).to_liveliness;
 }
 
 -- the refusal where the test holds, else the next one
@@ -117,9 +142,10 @@ abbrev pub first_cause : Row → Sight → Option Refusal
 first_cause row seen =
     refused_if (is_not_found row seen) NotFound
     (refused_if (is_unknown row seen) UnknownScope
-    (refused_if (is_bad seen.text) BadKeyExpr
+    (refused_if (is_bad_key seen) BadKeyExpr
+    (refused_if seen.cancelled QueryCancelled
     (refused_if seen.disjoint ReplyDisjoint
-    (refused_if row.gives_part NotDeclared (refused_if seen.lacks IdsExhausted (refused_if seen.idle Ignored None))))))
+    (refused_if row.gives_part NotDeclared (refused_if seen.lacks IdsExhausted (refused_if seen.idle Ignored None)))))))
 
 -- why a closed session refuses what is said so
 abbrev pub refused_closed : Speaker → Option Refusal
@@ -145,7 +171,12 @@ own_keys_at w = record {
   count_of = λ n. holders_of n w.keys.holders;
   number_of = λ text. number_at text w.keys.own;
   published = λ id. prefix_declaration w.settings.tag (pub_at id w.entities.pubs);
+  queried = λ id. querier_declaration w.settings.tag (querier_at id w.entities.queriers);
 }
+
+-- what is known of liveliness, by the tables
+abbrev pub watch_at : World → Watch
+watch_at w = record { subs = w.liveliness.subs; told = w.liveliness.told; gets = w.liveliness.gets }
 
 abbrev pub known_at : World → Known
 known_at w = record {
@@ -153,9 +184,11 @@ known_at w = record {
   subs = w.entities.subs;
   pubs = w.entities.pubs;
   queryables = w.entities.queryables;
+  queriers = w.entities.queriers;
   company = λ kind. company_at w.settings w.groups kind;
   timeout = w.settings.default_timeout;
   gets = w.asking.gets;
+  watch = watch_at w;
   zid = w.settings.zid;
   handing = w.handing;
 }
@@ -167,7 +200,7 @@ effects_of w e = effects_on (known_at w) (number_for w e) (text_for w e) e
 -- why a key is refused, if it is
 abbrev pub key_cause : World → NamedKey → Option Refusal
 key_cause w key =
-    first_cause (record (said_by Network) { key = key }) (record { text = text_of w key; lives = true; claimed = true; owed = true; disjoint = false; lacks = false; idle = false })
+    first_cause (record (said_by Network) { key = key }) (record { text = text_of w key; lives = true; claimed = true; owed = true; drawn = true; cancelled = false; disjoint = false; lacks = false; idle = false; spared = false })
 
 -- a refused event changes nothing
 abbrev pub unless_refused : Option Refusal → Change → Change
@@ -207,7 +240,7 @@ abbrev pub published_decision : World → ℕ → PublisherContent → Decision
 published_decision w id c =
     decision_of
     (first_cause (record (said_by Application) { key = PublisherKey id; names = publisher_named id })
-    (record { text = text_of w (PublisherKey id); lives = finds w (publisher_named id); claimed = true; owed = true; disjoint = false; lacks = false; idle = false }))
+    (record { text = text_of w (PublisherKey id); lives = finds w (publisher_named id); claimed = true; owed = true; drawn = true; cancelled = false; disjoint = false; lacks = false; idle = false; spared = false }))
     None (published_effects w id (text_of w (PublisherKey id)) (resolved w.entities.pubs (ByPublisher id c))) Nothing
 
 -- what an open session makes of a reply that a queryable's request takes, on this text
@@ -232,7 +265,7 @@ abbrev pub answer_on : World → ℕ → KeyArg → ReplyQuality → Body → Op
 answer_on w value key quality body o text =
     decision_of
     (first_cause (answer_row value key quality body)
-    (record { text = text; lives = true; claimed = true; owed = is_some o; disjoint = is_disjoint_from o text; lacks = false; idle = false }))
+    (record { text = text; lives = true; claimed = true; owed = is_some o; drawn = true; cancelled = false; disjoint = is_disjoint_from o text; lacks = false; idle = false; spared = false }))
     None (answer_effects (answering (known_at w)) (OwnKey key) o quality body text) (answer_change w.settings.zid quality body o text)
 
 abbrev pub answer_decision : World → ℕ → KeyArg → ReplyQuality → Body → Decision
@@ -243,7 +276,7 @@ abbrev pub error_answered : World → ℕ → Value → Option QueryValue → De
 error_answered w value error o =
     decision_of
     (first_cause (record (said_by Anytime) { to_values = AnswersError value error })
-    (record { text = None; lives = true; claimed = true; owed = is_some o; disjoint = false; lacks = false; idle = false }))
+    (record { text = None; lives = true; claimed = true; owed = is_some o; drawn = true; cancelled = false; disjoint = false; lacks = false; idle = false; spared = false }))
     None (answer_error_effects (answering (known_at w)) o error) Nothing
 
 abbrev pub error_answer_decision : World → ℕ → Value → Decision
@@ -255,35 +288,53 @@ finished_decision w value Unknown = decision_of (Some NotFound) None [] Nothing
 finished_decision w value MoreLeft = decision_of None None [] (OfValues (GiveBack value))
 finished_decision w value (Last row) = decision_of None None (finish_effects w.asking.gets (Last row)) (OfValues (GiveBack value))
 
+-- the form of a named key in a message
+abbrev pub named_wire : World → List ℕ → NamedKey → WireExpr
+named_wire w text key = wire_form (own_keys_at w) text (declaration_of (own_keys_at w) text key)
+
 -- what it makes of a get on this text, which meets these queryables
-abbrev pub asked_decision : World → KeyArg → Question → List ℕ → List ℕ → Decision
+abbrev pub asked_decision : World → NamedKey → Question → List ℕ → List ℕ → Decision
 asked_decision w key q text met =
     decision_of None (Some w.asking.next)
-    (ask_effects w.settings.default_timeout (key_wire (own_keys_at w) text key) w.asking.next q
+    (ask_effects w.settings.default_timeout (named_wire w text key) w.asking.next q
     (values_from w.handing.next w.handing.handed (get_request w.asking.next text q) met))
     (ask_change (row_waiting w.settings.default_timeout w.asking.moment w.asking.next text q met) (get_request w.asking.next text q) met)
 
 -- the same of one that meets nobody here, and of one that meets somebody
-abbrev pub unmet_decision : World → KeyArg → Question → List ℕ → Decision
+abbrev pub unmet_decision : World → NamedKey → Question → List ℕ → Decision
 unmet_decision w key q text =
     decision_of None (Some w.asking.next)
-    (unmet_effects w.settings.default_timeout (key_wire (own_keys_at w) text key) w.asking.next q)
+    (unmet_effects w.settings.default_timeout (named_wire w text key) w.asking.next q)
     (OfGets (Ask (row_waiting w.settings.default_timeout w.asking.moment w.asking.next text q [])))
 
-abbrev pub met_decision : World → KeyArg → Question → List ℕ → List ℕ → Decision
+abbrev pub met_decision : World → NamedKey → Question → List ℕ → List ℕ → Decision
 met_decision w key q text met =
     decision_of None (Some w.asking.next)
-    (request_sends w.settings.default_timeout (key_wire (own_keys_at w) text key) w.asking.next q
+    (request_sends w.settings.default_timeout (named_wire w text key) w.asking.next q
     ++ map hand_query (values_from w.handing.next w.handing.handed (get_request w.asking.next text q) met))
     (OfValues (AskHere
     (record (row_asked w.settings.default_timeout w.asking.moment w.asking.next text q) { local_wanted = true })
     (get_request w.asking.next text q) met))
+
+-- what it makes of a get on this text, whose token was drawn, if it has one
+abbrev pub ask_decision : World → NamedKey → Question → List ℕ → Decision
+ask_decision w key q text =
+    if is_any (is_among w.cancelling.taken) q.token then decision_of (Some QueryCancelled) None [] Nothing
+    else if lacks_values w.handing.next (met_by_get w.entities.queryables q text) || is_spent last_query w.asking.next
+    then decision_of (Some IdsExhausted) None [] Nothing
+    else asked_decision w key q text (met_by_get w.entities.queryables q text)
 
 -- what gets make of a reply to one of them
 abbrev pub heard_reply : List OpenGet → ℕ → Replied → Decision
 heard_reply gets number reply =
     decision_of (refused_if (is_unmet (peek_at (get_at number gets) reply)) Ignored None) None
     (reply_effects (peek_at (get_at number gets) reply) number reply) (OfGets (Take number reply))
+
+-- and of the network's final for one
+abbrev pub heard_final : List OpenGet → ℕ → Decision
+heard_final gets number =
+    decision_of (refused_if (is_unwanted (final_outcome network_side (get_at number gets))) Ignored None) None
+    (final_effects number (final_outcome network_side (get_at number gets))) (OfGets (Final number))
 
 -- and what an open session makes of a response with a value, and with an error
 abbrev pub reply_row : Response → Body → Row
@@ -293,7 +344,7 @@ abbrev pub reply_decision_on : World → Response → Body → Option (List ℕ)
 reply_decision_on w response body text =
     decision_of
     (first_cause (reply_row response body)
-    (record { text = text; lives = true; claimed = true; owed = true; disjoint = false; lacks = false; idle = is_idle_response w.asking.gets response (Reply body) text }))
+    (record { text = text; lives = true; claimed = true; owed = true; drawn = true; cancelled = false; disjoint = false; lacks = false; idle = is_idle_response w.asking.gets response (Reply body) text; spared = false }))
     None (response_effects w.asking.gets response (Reply body) text) (response_change response (Reply body) text)
 
 abbrev pub reply_decision : World → Response → Body → Decision
@@ -303,3 +354,17 @@ abbrev pub error_decision : World → Response → Value → Decision
 error_decision w response value =
     decision_of (refused_if (is_idle_response w.asking.gets response (Error value) None) Ignored None) None
     (response_effects w.asking.gets response (Error value) None) Nothing
+
+-- what an open session makes of a token that the network tells on a key
+abbrev pub told_decision : World → ℕ → Option ℕ → List ℕ → Decision
+told_decision w id interest text =
+    decision_of None None (watch_effects (watch_at w) None (Some text) (TellsToken id interest) []) (told_change w.liveliness.gets id interest (Some text))
+
+-- and of one that it ends, whose key has this text, if it has one
+abbrev pub ended_decision : World → ℕ → Option ℕ → Option (List ℕ) → Decision
+ended_decision w id interest text = decision_of None None (token_hands delete_kind (is_some interest) text w.liveliness.subs) (OfLiveliness (ForgetToken id))
+
+-- one of an unknown number that ends on a key which is named
+abbrev pub ended_on : World → ℕ → WireExpr → Option ℕ → Decision
+ended_on w id wire interest =
+    decision_of (key_cause w (WireKey wire)) None (token_hands delete_kind (is_some interest) (wire_of w wire) w.liveliness.subs) (OfLiveliness (ForgetToken id))

@@ -15,7 +15,7 @@ use Rattle.zs_query.specs.RequestTable.{Handing}
 use Rattle.zs_query.specs.Drawn.{ValueNews, Drew, GaveBack, drawn, unfinished}
 use Rattle.zs_events.specs.Kinds.{Question, ToGets, NoGet, Asks, ToValues, Requested, SharesValue, GivesBack, row_of}
 use Rattle.zs_core.specs.Entry.{Entry}
-use Rattle.zs_core.specs.Live.{live_queryables}
+use Rattle.zs_core.specs.Live.{live_queryables, to_gets_of}
 use Rattle.zs_core.specs.Questions.{parameters_of, sent_value}
 
 -- whether a request is for complete queryables alone
@@ -91,7 +91,7 @@ counted (q ∷ qs) n = n + 1
 abbrev pub times_handed : List Entry → ℕ
 times_handed [] = 0
 times_handed (x ∷ past) =
-    counted (met_by (live_queryables past) (row_of x.event).to_gets (row_of x.event).to_values x.text) (times_handed past)
+    counted (met_by (live_queryables past) (to_gets_of past x.event) (row_of x.event).to_values x.text) (times_handed past)
 
 -- what the values are where this was heard of them: those that are unfinished, and the number behind the last one that was drawn,
 -- where so many requests met queryables
@@ -102,8 +102,8 @@ handing_by handed news = record { handed = handed; values = unfinished news; nex
 abbrev pub value_news : List Entry → List ValueNews
 value_news [] = []
 value_news (x ∷ past) =
-    news_by_draw (row_of x.event).to_gets (row_of x.event).to_values
-    (drawn_by (live_queryables past) (handing_by (times_handed past) (value_news past)) (row_of x.event).to_gets (row_of x.event).to_values x.number x.text)
+    news_by_draw (to_gets_of past x.event) (row_of x.event).to_values
+    (drawn_by (live_queryables past) (handing_by (times_handed past) (value_news past)) (to_gets_of past x.event) (row_of x.event).to_values x.number x.text)
     ∷ value_news past
 
 -- the values after these events

@@ -4,9 +4,12 @@ use Rattle.zs_tables.specs.declared.subscriber.SubRow.{SubRow}
 use Rattle.zs_tables.specs.declared.queryable.QueryableRow.{QueryableRow}
 use Rattle.zs_tables.specs.Groups.{AllGroups}
 use Rattle.zs_core.specs.declared.publisher.PubRow.{PubRow}
+use Rattle.zs_core.specs.declared.querier.QuerierRow.{QuerierRow}
+use Rattle.zs_core.specs.Cancelling.{Cancelling}
 use Rattle.zs_tables.specs.Numbers.{NumberedKey}
 use Rattle.zs_tables.specs.Contents.{Contents}
 use Rattle.zs_query.specs.GetTable.{Asking}
+use Rattle.zs_core.specs.Liveliness.{Liveliness}
 use Rattle.zs_query.specs.RequestTable.{Handing}
 use Rattle.zs_core.specs.declared.declared_key.KeyHolders.{KeyHolders}
 
@@ -20,6 +23,7 @@ pub record Entities : Type 0 where
   pub subs : List SubRow
   pub pubs : List PubRow
   pub queryables : List QueryableRow
+  pub queriers : List QuerierRow
   -- the numbers of the subscribers and of the queryables that were left to themselves
   pub left_subs : List ℕ
   pub left_queryables : List ℕ
@@ -41,7 +45,9 @@ pub record World : Type 0 where
   -- those that share a network declaration
   pub groups : AllGroups
   pub asking : Asking
+  pub liveliness : Liveliness
   pub handing : Handing
+  pub cancelling : Cancelling
 
 -- the tables that find subscribers by number, as they are at this moment
 abbrev pub tables_of : World → Contents

@@ -3,12 +3,13 @@ ghost use Rattle.zs_core.specs.Turns.{decision_of};
 
 use crate::met::Met;
 use crate::publisher::PubRow;
+use crate::querier::QuerierRow;
 use std::alloc::Global;
 use zs_events::{Answer, Effects, Refusal, Turn};
 use zs_keys::KeyExpr;
 use zs_query::{GetRow, RequestRow};
 use zs_sample::Reply;
-use zs_tables::{QueryableRow, SubRow};
+use zs_tables::{LivelinessGet, LivelinessSub, QueryableRow, SubRow, ToldToken};
 
 /// What an accepted event makes of the keys that the session declared.
 #[derive(Drop)]
@@ -36,6 +37,10 @@ pub enum EntityChange {
     AddQueryable { row: QueryableRow },
     /// A queryable ends.
     EndQueryable { id: u32 },
+    /// A querier is declared: it draws a number.
+    AddQuerier { row: QuerierRow },
+    /// A querier ends, and its gets with it.
+    EndQuerier { id: u32 },
     /// A subscriber is left to itself.
     LeaveSub { id: u32 },
     /// A queryable is left to itself.
@@ -47,6 +52,29 @@ pub enum EntityChange {
 pub enum NetworkChange {
     /// A number stands for a key from now on.
     TellKey { number: u16, key: KeyExpr<'static> },
+}
+
+/// What an accepted event makes of liveliness.
+#[derive(Drop)]
+pub enum LivelinessChange {
+    /// A token is declared: it draws a number.
+    DeclareToken { id: u32 },
+    /// A token of this session ends.
+    EndToken { id: u32 },
+    /// A subscriber to liveliness is declared: it draws a number.
+    AddLsub { row: LivelinessSub },
+    /// A subscriber to liveliness ends.
+    EndLsub { id: u32 },
+    /// A subscriber to liveliness is left to itself.
+    LeaveLsub { id: u32 },
+    /// The tokens that live are asked for: that draws a number.
+    AskTokens { row: LivelinessGet },
+    /// A get of tokens has had all, and ends.
+    EndAsking { number: u32 },
+    /// The network told a token.
+    RecordToken { token: ToldToken },
+    /// The network ended a token.
+    ForgetToken { number: u32 },
 }
 
 /// What an accepted event makes of the gets.
@@ -86,8 +114,17 @@ pub enum ValueChange {
     },
 }
 
+/// What an accepted event makes of the cancellation tokens.
+#[derive(Drop)]
+pub enum TokenChange {
+    /// A token is made: it draws a number.
+    Draw,
+    /// A token is taken, and its gets end.
+    Take { token: u32 },
+}
+
 /// What an accepted event changes, with the copies that it needs. It names one area, but for
-/// the close, and for query values whose requests are gets.
+/// the close, and for what ends gets or asks one beside: query values, queriers and cancellation tokens.
 #[derive(Drop)]
 pub enum Change {
     Nothing,
@@ -95,7 +132,9 @@ pub enum Change {
     OfEntities(EntityChange),
     OfNetwork(NetworkChange),
     OfGets(GetChange),
+    OfLiveliness(LivelinessChange),
     OfValues(ValueChange),
+    OfTokens(TokenChange),
     /// The session is closed.
     Shut,
 }

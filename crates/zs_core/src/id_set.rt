@@ -1,4 +1,4 @@
-ghost use Rattle.std.specs.Prelude.{◌≡◌, ◌==◌, [], OnOk, OnErr};
+ghost use Rattle.std.specs.Prelude.{◌≡◌, ◌==◌, [], OnOk, OnErr, not, filter};
 ghost use Rattle.std.specs.List.{list_any};
 ghost use Rattle.zs_tables.specs.Ascending.{Ascend, IsPlaceOf, placed_by};
 
@@ -42,6 +42,19 @@ impl IdSet {
         }
     }
 
+    /// Takes a number out, if it is there.
+    pub fn remove(&mut self, id: u32)
+        ensures { self.new ≡ filter (λ n. not (n == id)) self.old }
+    {
+        take_out(&mut self.ids, id);
+    }
+
+    pub fn clear(&mut self)
+        ensures { self.new ≡ [] }
+    {
+        self.ids.clear();
+    }
+
     pub fn contains(&self, id: u32) -> bool
         ensures { result ≡ list_any (λ other. other == id) self.now }
     {
@@ -49,6 +62,17 @@ impl IdSet {
             Ok(_) => true,
             Err(_) => false,
         }
+    }
+}
+
+/// Takes a number out, if it is there.
+fn take_out(ids: &mut Vec<u32>, id: u32)
+    requires { Ascend (λ id. id) ids.old.items }
+    ensures ids { ids.new.items ≡ filter (λ n. not (n == id)) ids.old.items }
+    ensures ascending { Ascend (λ id. id) ids.new.items }
+{
+    if let Ok(at) = id_place(ids, id) {
+        let _ = ids.remove(at);
     }
 }
 

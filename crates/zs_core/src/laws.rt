@@ -1,6 +1,6 @@
 //! Laws over the definitions: each is the contract of a function that does nothing.
 
-ghost use Rattle.zs_core.specs.Laws.{TableIsLive, SubscribersAscend, PublishersAreLive, QueryablesAreLive, GroupsAreLive, KeysAreHeld, HoldersAreCounted, KeysAreTold, CountersAreTold, ClosedIsTold, TextsAreNamed, NumbersAreDrawn, HeldTextsKeepNumbers, KeyNumbersAreNew, ListsAreTests, FirstCause, RefusalsHaveCauses, WireFormsAreRead, OneMessageAtMost, SubscribersAreCovered, GetsAreTold, MomentsAreTold, ValuesAreTold, FinalsAreDue, RequestsEndOnce};
+ghost use Rattle.zs_core.specs.Laws.{TableIsLive, SubscribersAscend, PublishersAreLive, QueryablesAreLive, QueriersAreLive, GroupsAreLive, KeysAreHeld, HoldersAreCounted, KeysAreTold, CountersAreTold, ClosedIsTold, TextsAreNamed, NumbersAreDrawn, HeldTextsKeepNumbers, KeyNumbersAreNew, ListsAreTests, FirstCause, RefusalsHaveCauses, WireFormsAreRead, OneMessageAtMost, SubscribersAreCovered, GetsAreTold, MomentsAreTold, ValuesAreTold, TokensAreTold, CancellationsAreTold, TakenTokensEndNothing, FinalsAreDue, RequestsEndOnce, TokensAreLive, LsubsAreLive, AskingsAreTold, AskingsGoOn};
 
 /// After any history the table of subscribers holds those that were declared and not ended since, and no others.
 pub fn table_is_live()
@@ -20,6 +20,39 @@ pub fn publishers_are_live()
 /// After any history the table of queryables holds those that were declared and not ended since, and no others.
 pub fn queryables_are_live()
     ensures { QueryablesAreLive }
+{}
+
+/// After any history the table of queriers holds those that were declared and not ended since, and no others.
+pub fn queriers_are_live()
+    ensures { QueriersAreLive }
+{}
+
+/// After any history the table of this session's tokens holds those that were declared and not ended since, and no others.
+pub fn tokens_are_live()
+    ensures { TokensAreLive }
+{}
+
+/// After any history the table of subscribers to liveliness holds those that were declared and not ended since, and no
+/// others.
+pub fn lsubs_are_live()
+    ensures { LsubsAreLive }
+{}
+
+/// After any history the table of tokens that the network told has under each number the key that it told first of it, in
+/// no answer to a get, and has not ended since; and no others.
+pub fn tokens_are_told()
+    ensures { TokensAreTold }
+{}
+
+/// After any history the table of liveliness gets holds those that the events tell to be open, and no others.
+pub fn askings_are_told()
+    ensures { AskingsAreTold }
+{}
+
+/// Behind any event the open liveliness gets are those that were open before it and that it doesn't end, and the one that
+/// it asks. So each ends at most once.
+pub fn askings_go_on()
+    ensures { AskingsGoOn }
 {}
 
 /// After any history the group of a text has as members the live entities of its kind that the network is told of and that
@@ -65,6 +98,17 @@ pub fn moments_are_told()
 /// next number is how many were drawn.
 pub fn values_are_told()
     ensures { ValuesAreTold }
+{}
+
+/// After any history the counter of cancellation tokens stands at how many were drawn, and those are marked as taken which an
+/// event cancelled, and no others.
+pub fn cancellations_are_told()
+    ensures { CancellationsAreTold }
+{}
+
+/// After any history no open get has a cancellation token that was taken: so one that is cancelled again ends no get.
+pub fn taken_tokens_end_nothing()
+    ensures { TakenTokensEndNothing }
 {}
 
 /// A request from the network is sent its final at once where it meets no queryable, else when its last value is given back

@@ -6,11 +6,14 @@ use self::answers::ReplyQuality;
 use self::content::{
     delete_body, error_value, local_content, publisher_delete, publisher_put, put_body,
 };
-use self::questions::Question;
+use self::questions::{QuerierQuestion, Question};
 use crate::change::{Change, Decision};
 use crate::declared_key::KeyHolders;
 use crate::id_set::IdSet;
+use crate::liveliness::Liveliness;
 use crate::pub_table::PubTable;
+use crate::querier::QuerierSettings;
+use crate::querier_table::QuerierTable;
 use crate::settings::Settings;
 use std::alloc::{AllocError, Global};
 use std::marker::Model;
@@ -20,21 +23,26 @@ use zs_tables::{Groups, QueryableTable, Tables};
 
 mod answers;
 mod backgrounds;
+mod cancelling;
 mod content;
 mod declared_keys;
+mod ended_gets;
 mod get_effects;
 mod gets;
 mod groups;
 mod keys;
+mod liveliness;
 mod messages;
 mod publications;
 mod publishers;
+mod queriers;
 mod queryables;
 mod questions;
 mod recipients;
 mod status;
 mod stepping;
 mod subscribers;
+mod tokens;
 mod values;
 mod wires;
 
@@ -51,11 +59,15 @@ pub struct SessionState {
     holders: Vec<KeyHolders>,
     publishers: PubTable,
     queryables: QueryableTable,
+    queriers: QuerierTable,
     left_subs: IdSet,
     left_queryables: IdSet,
     groups: Groups,
     asking: GetTable,
+    liveliness: Liveliness,
     handing: RequestTable,
+    next_token: u32,
+    taken_tokens: IdSet,
 }
 
 impl Model for SessionState {
@@ -71,18 +83,21 @@ impl Model for SessionState {
         subs = s.tables.rows;
         pubs = s.publishers;
         queryables = s.queryables;
+        queriers = s.queriers;
         left_subs = s.left_subs;
         left_queryables = s.left_queryables;
       };
       keys = record { own = s.tables.own; holders = s.holders.items; told = s.tables.told };
       groups = s.groups;
       asking = s.asking;
+      liveliness = s.liveliness;
       handing = s.handing;
+      cancelling = record { next = s.next_token; taken = s.taken_tokens };
     } };
 
     ghost use Rattle.zs_core.specs.Bounds.{AreBelow};
 
-    ghost invariant = { λ s. AreBelow s.next_entity s.tables.rows s.publishers s.queryables s.groups };
+    ghost invariant = { λ s. AreBelow s.next_entity s.tables.rows s.publishers s.queryables s.queriers s.groups };
 }
 
 impl SessionState {
@@ -121,6 +136,48 @@ impl SessionState {
                 kind: EntityKind::Queryable,
                 id,
             } => self.decide_undeclare_queryable(*id),
+            Event::Querier {
+                destination,
+                key,
+                target,
+                consolidation,
+                timeout,
+                qos,
+                any_key,
+            } => {
+                let settings = QuerierSettings {
+                    destination: *destination,
+                    target: *target,
+                    consolidation: *consolidation,
+                    timeout: *timeout,
+                    qos: *qos,
+                    any_key: *any_key,
+                };
+                self.decide_querier(key, settings)
+            }
+            Event::Undeclare {
+                kind: EntityKind::Querier,
+                id,
+            } => self.decide_undeclare_querier(*id),
+            Event::Token { key } => self.decide_token(key),
+            Event::Undeclare {
+                kind: EntityKind::Token,
+                id,
+            } => self.decide_undeclare_token(*id),
+            Event::Lsub { history, key } => self.decide_lsub(*history, key),
+            Event::Undeclare {
+                kind: EntityKind::Lsub,
+                id,
+            } => self.decide_undeclare_lsub(*id),
+            Event::Background {
+                kind: BackgroundKind::Lsub,
+                id,
+            } => self.decide_background_lsub(*id),
+            Event::LivelinessGet {
+                key,
+                timeout,
+                token,
+            } => self.decide_liveliness_get(key, *timeout, *token),
             Event::Background {
                 kind: BackgroundKind::Sub,
                 id,
@@ -191,6 +248,7 @@ impl SessionState {
                 source,
                 attachment,
                 any_key,
+                token,
             } => {
                 let question = Question {
                     destination: *destination,
@@ -203,9 +261,30 @@ impl SessionState {
                     source: *source,
                     attachment,
                     any_key: *any_key,
+                    querier: None,
+                    token: *token,
                 };
                 self.decide_get(key, question)
             }
+            Event::QuerierGet {
+                id,
+                parameters,
+                value,
+                source,
+                attachment,
+                token,
+            } => {
+                let question = QuerierQuestion {
+                    parameters,
+                    value,
+                    source: *source,
+                    attachment,
+                    token: *token,
+                };
+                self.decide_querier_get(*id, question)
+            }
+            Event::CancelToken => self.decide_cancel_token(),
+            Event::Cancel { token } => self.decide_cancel(*token),
             Event::Reply {
                 value,
                 key,
@@ -274,7 +353,9 @@ impl SessionState {
             Change::OfEntities(change) => self.change_entities(change),
             Change::OfNetwork(change) => self.change_network(change),
             Change::OfGets(change) => self.change_gets(change),
+            Change::OfLiveliness(change) => self.change_liveliness(change),
             Change::OfValues(change) => self.change_values(change),
+            Change::OfTokens(change) => self.change_tokens(change),
             Change::Shut => {
                 self.shut();
                 Ok(())
@@ -294,14 +375,21 @@ fn closed_decision(alloc: Global, event: &Event) -> Decision
         | Event::ReplyDelete { .. }
         | Event::ReplyErr { .. }
         | Event::Finish { .. }
+        | Event::Cancel { .. }
         | Event::Tick { .. }
         | Event::Close => Decision::quiet(alloc, None, Change::Nothing),
         Event::Net(_) => Decision::refused(alloc, Refusal::Ignored),
         Event::Key { .. }
         | Event::UndeclareKey { .. }
         | Event::Sub { .. }
+        | Event::Token { .. }
+        | Event::Lsub { .. }
+        | Event::LivelinessGet { .. }
         | Event::Pub { .. }
         | Event::Queryable { .. }
+        | Event::Querier { .. }
+        | Event::QuerierGet { .. }
+        | Event::CancelToken
         | Event::Share { .. }
         | Event::Put { .. }
         | Event::Delete { .. }

@@ -251,7 +251,7 @@ pub(super) fn text_of_encoding(alloc: Global, encoding: &Text) -> Result<Text, A
 }
 
 /// The encoding where none is named.
-fn default_encoding() -> Text
+pub(super) fn default_encoding() -> Text
     ensures { result ≡ default_encoding }
 {
     Text::fixed("zenoh/bytes")

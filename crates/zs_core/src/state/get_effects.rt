@@ -6,6 +6,7 @@ ghost use Rattle.zs_core.specs.GetEffects.{hand_reply, end_get, reply_effects, f
 ghost use Rattle.std.specs.List.{flat_map};
 ghost use Rattle.zs_core.specs.GetEffects.{last_hands};
 
+use super::tokens::{push_asking_ends, push_timeouts};
 use std::alloc::{AllocError, Global};
 use zs_events::{Effect, Effects, HandOver, Kind};
 use zs_query::{Ends, Outcome, Peek, Replies};
@@ -60,14 +61,16 @@ fn last_effects(alloc: Global, number: u32, replies: Replies) -> Result<Effects,
     Ok(effects)
 }
 
-/// All that these ends hand out, and then the ends.
-pub(super) fn ends_effects(alloc: Global, ends: Ends) -> Result<Effects, AllocError>
-    ensures { IfOk result (λ effects. effects ≡ ends_effects ends) }
+/// All that these ends hand out and the errors for these gets of tokens, and then the ends of both.
+pub(super) fn ends_effects(alloc: Global, ends: Ends, over: &[u32]) -> Result<Effects, AllocError>
+    ensures { IfOk result (λ effects. effects ≡ ends_effects ends over.now) }
 {
     let numbers = ends.numbers(alloc)?;
     let mut effects = Effects::new(alloc);
     hand_ends(ends, &mut effects)?;
+    push_timeouts(alloc, over, &mut effects)?;
     push_get_ends(&numbers, &mut effects)?;
+    push_asking_ends(over, &mut effects)?;
     Ok(effects)
 }
 

@@ -1,15 +1,15 @@
 //! Gets, and what comes in for them.
 
-ghost use Rattle.std.specs.Prelude.{◌≡◌, Some, true, IfOk, OnOk, OnErr, IsOk};
+ghost use Rattle.std.specs.Prelude.{◌≡◌, Some, None, true, IfOk, OnOk, OnErr, IsOk};
 ghost use Rattle.zs_keys.specs.Text.{is_canonical};
 ghost use Rattle.zs_keys.specs.Key.{undeclared};
-ghost use Rattle.zs_core.specs.Turns.{own_keys_at, open_decision, unmet_decision, met_decision, heard_reply, reply_decision_on, reply_decision, error_decision};
+ghost use Rattle.zs_core.specs.Turns.{named_wire, open_decision, ask_decision, unmet_decision, met_decision, heard_reply, heard_final, reply_decision_on, reply_decision, error_decision};
 ghost use Rattle.zs_core.specs.Gets.{sample_reply, error_reply, is_unmet, is_unwanted};
 ghost use Rattle.zs_core.specs.GetEffects.{request_sends, unmet_effects};
 ghost use Rattle.zs_core.specs.Replies.{reply_on, error_on};
 ghost use Rattle.zs_core.specs.Values.{met_by_get};
-ghost use Rattle.zs_core.specs.Questions.{question_by, parameters_of, row_asked, request_of, get_event};
-ghost use Rattle.zs_core.specs.Effects.{key_wire};
+ghost use Rattle.zs_core.specs.Questions.{question_by, querier_question_by, parameters_of, row_asked, request_of, get_event, querier_get_event};
+ghost use Rattle.zs_core.specs.Keys.{named_by};
 ghost use Rattle.zs_events.specs.declared.event.Event.{Event};
 ghost use Rattle.zs_wire.specs.declared.message.Message.{Message};
 ghost use Rattle.zs_core.specs.Changes.{GetsFit, HasRoom, with_change};
@@ -17,8 +17,11 @@ ghost use Rattle.zs_core.specs.Changes.{GetsFit, HasRoom, with_change};
 use super::SessionState;
 use super::content::{reply_content, sample_of};
 use super::get_effects::{end_get, ends_effects, final_effects, hand_reply, reply_effects};
-use super::keys::into_owned;
-use super::questions::{Question, get_request, parameters_of, request_of, row_waiting};
+use super::keys::{KeyName, into_owned};
+use super::queriers::key_of;
+use super::questions::{
+    QuerierQuestion, Question, get_request, parameters_of, question_of, request_of, row_waiting,
+};
 use super::recipients::{has_network, has_session};
 use crate::change::{Change, Decision, GetChange, ValueChange};
 use crate::met::Met;
@@ -30,17 +33,54 @@ use zs_sample::{Encoding, Parameters, QoSType, Reply, ReplyError};
 use zs_wire::{Answered, Body, EntityGlobalId, Message, Response, Value};
 
 impl SessionState {
+    #[tactic(auto, using(crate::proofs::Asking::asked_plainly))]
     pub(super) fn decide_get(
         &self,
         key: &KeyArg,
         question: Question<'_>,
     ) -> Result<Decision, AllocError>
+        requires { question.querier ≡ None }
         ensures { IfOk result (λ made. made ≡ open_decision self.now (get_event key.now (question_by question.entry))) }
     {
-        let resolved = match self.resolve(key)? {
-            Ok(key) => key,
-            Err(refusal) => return Ok(Decision::refused(self.alloc, refusal)),
+        if !self.is_drawn(question.token) {
+            return Ok(Decision::refused(self.alloc, Refusal::NotFound));
+        }
+        match self.resolve(key)? {
+            Ok(resolved) => self.ask(KeyName::Own(key), resolved, question),
+            Err(refusal) => Ok(Decision::refused(self.alloc, refusal)),
+        }
+    }
+
+    /// A get of a querier: most of what it asks is what the querier says.
+    pub(super) fn decide_querier_get(
+        &self,
+        id: u32,
+        asked: QuerierQuestion<'_>,
+    ) -> Result<Decision, AllocError>
+        ensures { IfOk result (λ made. made ≡ open_decision self.now (querier_get_event id (querier_question_by asked.entry))) }
+    {
+        let Some(row) = self.queriers.get(id) else {
+            return Ok(Decision::refused(self.alloc, Refusal::NotFound));
         };
+        if !self.is_drawn(asked.token) {
+            return Ok(Decision::refused(self.alloc, Refusal::NotFound));
+        }
+        self.ask(KeyName::Querier(id), key_of(row), question_of(row, asked))
+    }
+
+    /// A get on a key, whose cancellation token was drawn, if it has one.
+    fn ask(
+        &self,
+        key: KeyName<'_>,
+        resolved: KeyExpr<'_>,
+        question: Question<'_>,
+    ) -> Result<Decision, AllocError>
+        requires plain { resolved ≡ undeclared resolved.text }
+        ensures { IfOk result (λ made. made ≡ ask_decision self.now (named_by key.entry) (question_by question.entry) resolved.entry.text) }
+    {
+        if self.was_cancelled(question.token) {
+            return Ok(Decision::refused(self.alloc, Refusal::QueryCancelled));
+        }
         let met = self.met_by_get(&resolved, question)?;
         if self.lacks_values(&met) || u32::MAX - self.asking.next() < 1 {
             return Ok(Decision::refused(self.alloc, Refusal::IdsExhausted));
@@ -55,14 +95,14 @@ impl SessionState {
     /// A get that meets no queryable of this session: the network is asked, or else it ends at once.
     fn ask_network(
         &self,
-        key: &KeyArg,
+        key: KeyName<'_>,
         resolved: KeyExpr<'_>,
         question: Question<'_>,
         parameters: &Parameters<'_>,
     ) -> Result<Decision, AllocError>
         requires plain { resolved ≡ undeclared resolved.text }
         requires parameters { parameters.now ≡ parameters_of (question_by question) }
-        ensures { IfOk result (λ made. made ≡ unmet_decision self.now key.now (question_by question.entry) resolved.entry.text) }
+        ensures { IfOk result (λ made. made ≡ unmet_decision self.now (named_by key.entry) (question_by question.entry) resolved.entry.text) }
     {
         let number = self.asking.next();
         let effects = self.unmet_effects(key, resolved.as_str(), question, parameters)?;
@@ -74,7 +114,7 @@ impl SessionState {
     /// One that meets these: each is handed the query.
     fn ask_here(
         &self,
-        key: &KeyArg,
+        key: KeyName<'_>,
         resolved: KeyExpr<'_>,
         question: Question<'_>,
         parameters: &Parameters<'_>,
@@ -83,7 +123,7 @@ impl SessionState {
         requires plain { resolved ≡ undeclared resolved.text }
         requires parameters { parameters.now ≡ parameters_of (question_by question) }
         requires room { HasRoom self.now met }
-        ensures { IfOk result (λ made. made ≡ met_decision self.now key.now (question_by question.entry) resolved.entry.text met) }
+        ensures { IfOk result (λ made. made ≡ met_decision self.now (named_by key.entry) (question_by question.entry) resolved.entry.text met) }
     {
         let number = self.asking.next();
         let row = get_request(self.alloc, number, &resolved, question, parameters)?;
@@ -126,14 +166,14 @@ impl SessionState {
     /// A get that the network answers is sent.
     fn request_sends(
         &self,
-        key: &KeyArg,
+        key: KeyName<'_>,
         text: &str,
         question: Question<'_>,
         parameters: &Parameters<'_>,
     ) -> Result<Effects, AllocError>
         requires { parameters.now ≡ parameters_of (question_by question) }
         ensures { IfOk result (λ effects. effects
-            ≡ request_sends self.now.settings.default_timeout (key_wire (own_keys_at self.now) text.now key.now) self.now.asking.next (question_by question.entry)) }
+            ≡ request_sends self.now.settings.default_timeout (named_wire self.now text.now (named_by key.entry)) self.now.asking.next (question_by question.entry)) }
     {
         let mut effects = Effects::new(self.alloc);
         if !has_network(question.destination) {
@@ -146,14 +186,14 @@ impl SessionState {
     /// One that no queryable of this session answers ends at once, if the network doesn't either.
     fn unmet_effects(
         &self,
-        key: &KeyArg,
+        key: KeyName<'_>,
         text: &str,
         question: Question<'_>,
         parameters: &Parameters<'_>,
     ) -> Result<Effects, AllocError>
         requires { parameters.now ≡ parameters_of (question_by question) }
         ensures { IfOk result (λ effects. effects
-            ≡ unmet_effects self.now.settings.default_timeout (key_wire (own_keys_at self.now) text.now key.now) self.now.asking.next (question_by question.entry)) }
+            ≡ unmet_effects self.now.settings.default_timeout (named_wire self.now text.now (named_by key.entry)) self.now.asking.next (question_by question.entry)) }
     {
         let mut effects = Effects::new(self.alloc);
         if !has_network(question.destination) {
@@ -167,18 +207,19 @@ impl SessionState {
     /// The request of the next get.
     fn request(
         &self,
-        key: &KeyArg,
+        key: KeyName<'_>,
         text: &str,
         question: Question<'_>,
         parameters: &Parameters<'_>,
     ) -> Result<Effect, AllocError>
         requires { parameters.now ≡ parameters_of (question_by question) }
         ensures { IfOk result (λ effect. effect
-            ≡ Effect.Send (Message.Request (request_of self.now.settings.default_timeout (key_wire (own_keys_at self.now) text.now key.now) self.now.asking.next (question_by question.entry)))) }
+            ≡ Effect.Send (Message.Request (request_of self.now.settings.default_timeout (named_wire self.now text.now (named_by key.entry)) self.now.asking.next (question_by question.entry)))) }
     {
         let default = self.settings.default_timeout;
         let number = self.asking.next();
-        let wire = self.own_wire(key, text)?;
+        let declared = self.declaration_of(key, text)?;
+        let wire = self.wire_form(text, declared)?;
         let request = request_of(self.alloc, default, wire, number, question, parameters)?;
         Ok(Effect::Send(Message::Request(request)))
     }
@@ -187,7 +228,8 @@ impl SessionState {
         ensures { IfOk result (λ made. made ≡ open_decision self.now (Event.Tick now)) }
     {
         let ends = self.asking.gets().peek_tick(now)?;
-        let effects = ends_effects(self.alloc, ends)?;
+        let over = self.liveliness.gets().over_at(self.alloc, now)?;
+        let effects = ends_effects(self.alloc, ends, &over)?;
         let change = Change::OfGets(GetChange::Advance { moment: now });
         Ok(Decision::of(effects, change))
     }
@@ -244,13 +286,7 @@ impl SessionState {
     pub(super) fn decide_response_final(&self, rid: u32) -> Result<Decision, AllocError>
         ensures { IfOk result (λ made. made ≡ open_decision self.now (Event.Net (Message.ResponseFinal rid))) }
     {
-        let change = Change::OfGets(GetChange::Final { number: rid });
-        let outcome = self.asking.gets().peek_final(rid, Side::Network)?;
-        if is_unwanted(&outcome) {
-            return Ok(Decision::refused(self.alloc, Refusal::Ignored));
-        }
-        let effects = final_effects(self.alloc, rid, outcome)?;
-        Ok(Decision::of(effects, change))
+        hear_final(self.alloc, self.asking.gets(), rid)
     }
 
     pub(super) fn change_gets(&mut self, change: GetChange) -> Result<(), AllocError>
@@ -267,6 +303,7 @@ impl SessionState {
             }
             GetChange::Advance { moment } => {
                 self.asking.advance(moment);
+                self.liveliness.advance(moment);
                 Ok(())
             }
         }
@@ -284,6 +321,19 @@ fn hear_reply(alloc: Global, gets: &Gets, number: u32, reply: Reply) -> Result<D
     }
     let effects = reply_effects(alloc, peek, number, &reply)?;
     let change = Change::OfGets(GetChange::Take { number, reply });
+    Ok(Decision::of(effects, change))
+}
+
+/// What gets make of the network's final for one of them.
+fn hear_final(alloc: Global, gets: &Gets, number: u32) -> Result<Decision, AllocError>
+    ensures { IfOk result (λ made. made ≡ heard_final gets.now number) }
+{
+    let outcome = gets.peek_final(number, Side::Network)?;
+    if is_unwanted(&outcome) {
+        return Ok(Decision::refused(alloc, Refusal::Ignored));
+    }
+    let effects = final_effects(alloc, number, outcome)?;
+    let change = Change::OfGets(GetChange::Final { number });
     Ok(Decision::of(effects, change))
 }
 

@@ -16,6 +16,8 @@ pub(super) enum KeyName<'a> {
     Own(&'a KeyArg),
     /// The key of the publisher of that number.
     Publisher(u32),
+    /// The key of the querier of that number.
+    Querier(u32),
     Wire(&'a WireExpr),
 }
 

@@ -10,7 +10,7 @@ use zs_events::{Event, Refusal};
 use zs_wire::{Message, WireExpr};
 
 impl SessionState {
-    /// What a message from the network makes of an open session. Those of liveliness and matching
+    /// What a message from the network makes of an open session. Those of matching
     /// change nothing, but their keys must be known ones.
     pub(super) fn decide_message(&self, message: &Message) -> Result<Decision, AllocError>
         ensures { IfOk result (λ made. made ≡ open_decision self.now (Event.Net message.now)) }
@@ -21,17 +21,21 @@ impl SessionState {
                 let content = incoming_content(self.alloc, push)?;
                 self.decide_incoming(&push.wire, content)
             }
-            Message::DeclareSubscriber { wire, .. }
-            | Message::DeclareQueryable { wire, .. }
-            | Message::DeclareToken { wire, .. } => self.decide_heard(wire),
+            Message::DeclareSubscriber { wire, .. } | Message::DeclareQueryable { wire, .. } =>
+                self.decide_heard(wire),
+            Message::DeclareToken { id, wire, interest } => {
+                self.decide_told_token(*id, wire, *interest)
+            }
+            Message::UndeclareToken { id, wire, interest } => {
+                self.decide_ended_token(*id, wire, *interest)
+            }
+            Message::DeclareFinal { interest } => self.decide_answered(*interest),
             Message::Request(request) => self.decide_request(request),
             Message::Response(response) => self.decide_response(response),
             Message::ResponseFinal { rid } => self.decide_response_final(*rid),
             Message::UndeclareKeyExpr { .. }
             | Message::UndeclareSubscriber { .. }
             | Message::UndeclareQueryable { .. }
-            | Message::UndeclareToken { .. }
-            | Message::DeclareFinal { .. }
             | Message::Interest { .. }
             | Message::Close => Ok(Decision::quiet(self.alloc, None, Change::Nothing)),
         }

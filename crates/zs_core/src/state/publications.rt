@@ -1,6 +1,8 @@
-ghost use Rattle.std.specs.Prelude.{◌≡◌, ◌⊎◌, ◌+◌, ◌++◌, ◌<◌, Some, None, true, false, IfOk, OnOk};
+ghost use Rattle.std.specs.Prelude.{◌≡◌, ◌⊎◌, ◌+◌, ◌++◌, ◌<◌, Some, None, true, false, IfOk, OnOk, IsSome};
 ghost use Rattle.zs_keys.specs.Key.{undeclared};
-ghost use Rattle.zs_tables.specs.Contents.{text_meant, IsByNumber};
+ghost use Rattle.std.specs.Option.{ForSome};
+ghost use Rattle.zs_tables.specs.Numbers.{key_at};
+ghost use Rattle.zs_tables.specs.Contents.{text_meant, IsByNumber, numbers_of};
 ghost use Rattle.zs_tables.specs.Recipients.{has_session, has_network, recipients};
 ghost use Rattle.zs_events.specs.Kinds.{OwnKey, WireKey, OwnContent, is_nothing};
 ghost use Rattle.zs_core.specs.World.{World, tables_of};
@@ -104,12 +106,17 @@ impl SessionState {
     }
 
     /// The declaration of a key that stands for that text: one from the network has none.
-    fn declaration_of(&self, key: KeyName<'_>, text: &str) -> Result<Option<Declared>, AllocError>
+    pub(super) fn declaration_of(
+        &self,
+        key: KeyName<'_>,
+        text: &str,
+    ) -> Result<Option<Declared>, AllocError>
         ensures { IfOk result (λ declared. declared ≡ declaration_of (own_keys_at self.now) text.now (named_by key.entry)) }
     {
         match key {
             KeyName::Own(key) => self.declared_by(key, text),
             KeyName::Publisher(id) => Ok(self.published(id)),
+            KeyName::Querier(id) => Ok(self.queried(id)),
             KeyName::Wire(_) => Ok(None),
         }
     }
@@ -206,6 +213,7 @@ fn key_ref<'a>(key: KeyName<'a>, resolved: &'a KeyExpr<'a>) -> KeyRef<'a>
     match key {
         KeyName::Own(key) => own_ref(key, resolved),
         KeyName::Publisher(_) => KeyRef::Text(resolved),
+        KeyName::Querier(_) => KeyRef::Text(resolved),
         KeyName::Wire(wire) => wire_ref(wire, resolved),
     }
 }
@@ -253,7 +261,7 @@ fn ids_by<L: Ledger>(
 {
     match key {
         KeyRef::Text(_) => ids_by_text(alloc, tables, local, text, steps),
-        KeyRef::Number(..) => walk(alloc, tables, local, key, text, steps),
+        KeyRef::Number(mapping, number) => ids_by_number(alloc, tables, local, mapping, number),
     }
 }
 
@@ -274,25 +282,19 @@ fn ids_by_text<L: Ledger>(
     Ok(ids)
 }
 
-/// They are found from each to the next.
-fn walk<L: Ledger>(
+/// They are read off the list that the number keeps: no key is tested, and no step counted.
+fn ids_by_number(
     alloc: Global,
     tables: &Tables,
     local: bool,
-    key: KeyRef<'_>,
-    text: &KeyExpr<'_>,
-    steps: &mut Steps<L>,
+    mapping: Mapping,
+    number: u16,
 ) -> Result<Vec<u32>, AllocError>
-    requires { text_meant key tables.now ≡ Some text.now.text }
-    ensures ids { IfOk result (λ ids. ids.items ≡ recipients local text.now.text tables.now.rows) }
-    ensures uncounted { IsByNumber key.entry → steps.new ≡ steps.old }
+    requires { IsSome (key_at number (numbers_of mapping tables.now)) }
+    ensures { IfOk result (λ ids. ForSome (key_at number (numbers_of mapping tables.now)) (λ key. ids.items ≡ recipients local key.text tables.now.rows)) }
 {
     let mut ids = Vec::new(alloc);
-    let mut after = None;
-    'recipients: while let Some(id) = tables.next_recipient(key, local, after, steps) {
-        ids.push(id)?;
-        after = Some(id);
-    }
+    tables.recipients_of_number_into(mapping, number, local, &mut ids)?;
     Ok(ids)
 }
 

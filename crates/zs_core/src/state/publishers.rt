@@ -242,7 +242,7 @@ fn key_of(row: &PubRow) -> KeyExpr<'_>
 }
 
 /// The declared part of a key, if it is named by one. One that is too long for a declaration is want of memory.
-fn prefix_of(key: &KeyArg, resolved: &KeyExpr<'_>) -> Result<Option<Prefix>, AllocError>
+pub(super) fn prefix_of(key: &KeyArg, resolved: &KeyExpr<'_>) -> Result<Option<Prefix>, AllocError>
     ensures { IfOk result (λ prefix. prefix ≡ prefix_of key.now resolved.now.text) }
 {
     match key {

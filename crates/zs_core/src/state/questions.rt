@@ -4,11 +4,14 @@ ghost use Rattle.std.specs.Prelude.{◌≡◌, IfOk, encode_utf8_all};
 ghost use Rattle.zs_keys.specs.Key.{undeclared};
 ghost use Rattle.zs_core.specs.Questions.{question_by, parameters_of, mode_by, mode_of, timeout_of, row_asked, sent_value, request_of};
 ghost use Rattle.std.specs.Option.{option_map};
+ghost use Rattle.zs_core.specs.Queriers.{question_of};
+ghost use Rattle.zs_core.specs.Questions.{querier_question_by};
 ghost use Rattle.zs_core.specs.Values.{get_request};
 
 use super::content::text_of_encoding;
 use super::keys::into_owned;
 use super::recipients::has_network;
+use crate::querier::QuerierRow;
 use std::alloc::{AllocError, Global};
 use zs_events::clone_bytes;
 use zs_keys::KeyExpr;
@@ -32,6 +35,39 @@ pub(super) struct Question<'a> {
     pub(super) source: Option<SourceInfo>,
     pub(super) attachment: &'a Option<ZBytes>,
     pub(super) any_key: bool,
+    /// The querier that asks, if one does.
+    pub(super) querier: Option<u32>,
+    pub(super) token: Option<u32>,
+}
+
+/// What a get of a querier asks, but for what the querier says.
+#[derive(Clone, Copy)]
+pub(super) struct QuerierQuestion<'a> {
+    pub(super) parameters: &'a Text,
+    pub(super) value: &'a Option<Value>,
+    pub(super) source: Option<SourceInfo>,
+    pub(super) attachment: &'a Option<ZBytes>,
+    pub(super) token: Option<u32>,
+}
+
+/// What a get of a querier asks: most of it is what the querier says.
+pub(super) fn question_of<'a>(row: &QuerierRow, asked: QuerierQuestion<'a>) -> Question<'a>
+    ensures { question_by result ≡ question_of row.now (querier_question_by asked.entry) }
+{
+    Question {
+        destination: row.settings.destination,
+        parameters: asked.parameters,
+        target: row.settings.target,
+        consolidation: row.settings.consolidation,
+        timeout: row.settings.timeout,
+        value: asked.value,
+        qos: row.settings.qos,
+        source: asked.source,
+        attachment: asked.attachment,
+        any_key: row.settings.any_key,
+        querier: Some(row.id),
+        token: asked.token,
+    }
 }
 
 /// Its parameters, with the name that says that replies on any key are taken, where it says so.
@@ -99,8 +135,8 @@ pub(super) fn row_waiting(
         local_wanted: here,
         network_wanted: has_network(question.destination),
         deadline: moment.saturating_add(timeout_of(default, question)),
-        querier: None,
-        token: None,
+        querier: question.querier,
+        token: question.token,
     }
 }
 

@@ -6,7 +6,9 @@ ghost use Rattle.zs_core.specs.Stands.{world_after, Steps, Previews};
 use super::SessionState;
 use crate::change::Decision;
 use crate::id_set::IdSet;
+use crate::liveliness::Liveliness;
 use crate::pub_table::PubTable;
+use crate::querier_table::QuerierTable;
 use crate::settings::Settings;
 use std::alloc::{AllocError, Global};
 use zs_events::{Event, Turn};
@@ -29,11 +31,15 @@ impl SessionState {
             holders: Vec::new(alloc),
             publishers: PubTable::new(alloc),
             queryables: QueryableTable::new(alloc),
+            queriers: QuerierTable::new(alloc),
             left_subs: IdSet::new(alloc),
             left_queryables: IdSet::new(alloc),
             groups: Groups::new(alloc),
             asking: GetTable::new(alloc, settings.query_start),
+            liveliness: Liveliness::new(alloc),
             handing: RequestTable::new(alloc),
+            next_token: 0,
+            taken_tokens: IdSet::new(alloc),
         })
     }
 

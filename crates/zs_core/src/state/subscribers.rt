@@ -15,6 +15,7 @@ use super::groups::{join_group, joins_first, last_number, leave_group};
 use super::keys::into_owned;
 use super::queryables::push_queryable_ends;
 use super::recipients::has_network;
+use super::tokens::{push_asking_ends, push_lsub_ends};
 use crate::change::{Change, Decision, EntityChange};
 use crate::key_list::{KeyList, copy_of};
 use std::alloc::{AllocError, Global};
@@ -125,11 +126,14 @@ impl SessionState {
         ensures { IfOk result (λ made. made ≡ open_decision self.now Event.Close) }
     {
         let gets = self.asking.gets().numbers()?;
+        let asking = self.liveliness.gets().numbers(self.alloc)?;
         let mut effects = Effects::new(self.alloc);
         effects.push(Effect::Send(Message::Close))?;
         push_queryable_ends(&mut effects, self.queryables.rows())?;
         push_ends(&mut effects, self.tables.rows())?;
+        push_lsub_ends(&mut effects, self.liveliness.subs().rows())?;
         push_get_ends(&gets, &mut effects)?;
+        push_asking_ends(&asking, &mut effects)?;
         Ok(Decision::of(effects, Change::Shut))
     }
 
@@ -152,6 +156,11 @@ impl SessionState {
             EntityChange::AddQueryable { row } => self.add_queryable(row),
             EntityChange::EndQueryable { id } => {
                 self.end_queryable(id);
+                Ok(())
+            }
+            EntityChange::AddQuerier { row } => self.add_querier(row),
+            EntityChange::EndQuerier { id } => {
+                self.end_querier(id);
                 Ok(())
             }
             EntityChange::LeaveSub { id } => self.leave_sub(id),
@@ -198,8 +207,10 @@ impl SessionState {
         self.holders.clear();
         self.publishers.clear();
         self.queryables.clear();
+        self.queriers.clear();
         self.groups = Groups::new(self.alloc);
         self.asking.close();
+        self.liveliness.shut();
     }
 }
 

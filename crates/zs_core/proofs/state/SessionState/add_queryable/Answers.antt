@@ -2,6 +2,7 @@ use Rattle.std.proofs.Common.{◌≡◌, ◌≤◌, ◌+◌, sym, ◌∙◌, ap,
 use Rattle.zs_core.specs.declared.publisher.PubRow.{PubRow}
 use Rattle.zs_tables.specs.declared.subscriber.SubRow.{SubRow}
 use Rattle.zs_tables.specs.declared.queryable.QueryableRow.{QueryableRow}
+use Rattle.zs_core.specs.declared.querier.QuerierRow.{QuerierRow}
 use Rattle.zs_core.specs.World.{World}
 use Rattle.zs_core.proofs.Bounds.{groups_weaker, rows_push, rows_weaker}
 use Rattle.zs_core.proofs.state.SessionState.add_queryable.Goals as goal
@@ -16,4 +17,6 @@ invariant_of-self-2 c =
       queryables = rw (c.in_ok-add.ensures.ok) (rows_push (λ (row : QueryableRow). row.id) c.self.inside.next_entity c.self.inside.queryables c.args.row id c.self.invariant.queryables);
       sub_groups = groups_weaker c.self.inside.next_entity (c.self.inside.next_entity + 1) c.self.inside.groups.subscribers up c.self.invariant.sub_groups;
       pub_groups = groups_weaker c.self.inside.next_entity (c.self.inside.next_entity + 1) c.self.inside.groups.publishers up c.self.invariant.pub_groups;
+      queriers = rows_weaker (λ (row : QuerierRow). row.id) c.self.inside.next_entity c.self.inside.queriers c.self.invariant.queriers;
+      querier_groups = groups_weaker c.self.inside.next_entity (c.self.inside.next_entity + 1) c.self.inside.groups.queriers up c.self.invariant.querier_groups;
     }

@@ -4,6 +4,7 @@ use Rattle.zs_tables.specs.Contents.{Contents}
 use Rattle.zs_tables.specs.declared.subscriber.SubRow.{SubRow}
 use Rattle.zs_tables.specs.declared.queryable.QueryableRow.{QueryableRow}
 use Rattle.zs_core.specs.declared.publisher.PubRow.{PubRow}
+use Rattle.zs_core.specs.declared.querier.QuerierRow.{QuerierRow}
 use Rattle.zs_core.specs.World.{World}
 use Rattle.zs_core.specs.Groups.{sub_shared, share_text}
 use Rattle.zs_core.proofs.Bounds.{no_member, groups_weaker, more_below, rows_push, rows_weaker}
@@ -28,4 +29,7 @@ invariant_of-self-2 c =
           (more_below c.self.inside.next_entity (c.self.inside.next_entity + 1) c.self.inside.settings.aggregated_subscribers (sub_shared c.args.row) c.self.inside.groups.subscribers up less c.self.invariant.sub_groups);
       pub_groups = rw (ap (λ (gs : AllGroups). gs.publishers) c.in_ok-add_to_group.ensures.groups)
           (groups_weaker c.self.inside.next_entity (c.self.inside.next_entity + 1) c.self.inside.groups.publishers up c.self.invariant.pub_groups);
+      queriers = rows_weaker (λ (row : QuerierRow). row.id) c.self.inside.next_entity c.self.inside.queriers c.self.invariant.queriers;
+      querier_groups = rw (ap (λ (gs : AllGroups). gs.queriers) c.in_ok-add_to_group.ensures.groups)
+          (groups_weaker c.self.inside.next_entity (c.self.inside.next_entity + 1) c.self.inside.groups.queriers up c.self.invariant.querier_groups);
     }

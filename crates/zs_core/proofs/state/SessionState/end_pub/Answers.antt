@@ -9,4 +9,6 @@ invariant_of-self c = record {
   queryables = c.self.invariant.queryables;
   sub_groups = rw c.leave_pub_group.ensures c.self.invariant.sub_groups;
   pub_groups = rw c.leave_pub_group.ensures (less_below c.self.inside.next_entity _ _ _ c.self.invariant.pub_groups);
+  queriers = c.self.invariant.queriers;
+  querier_groups = rw c.leave_pub_group.ensures c.self.invariant.querier_groups;
 }

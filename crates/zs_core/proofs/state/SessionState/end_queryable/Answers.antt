@@ -9,4 +9,6 @@ invariant_of-self c = record {
   queryables = rw c.remove.ensures.rows (rows_less (λ (row : QueryableRow). row.id) c.self.inside.next_entity c.args.id _ c.self.invariant.queryables);
   sub_groups = c.self.invariant.sub_groups;
   pub_groups = c.self.invariant.pub_groups;
+  queriers = c.self.invariant.queriers;
+  querier_groups = c.self.invariant.querier_groups;
 }

@@ -1,41 +1,67 @@
-use Rattle.std.proofs.Common.{◌≡◌, ◌∙◌, ℕ, sym, refl, false, ap}
+use Rattle.std.proofs.Common.{◌≡◌, ◌∙◌, ℕ, List, is_some, sym, refl, false, ap}
 use Rattle.zs_events.specs.declared.turn.Kind.{Kind}
 use Rattle.zs_events.specs.declared.turn.Kind.TheVariants.{Subscriber, LivelinessSubscriber, Publisher, Queryable, Querier, Token, Listener, Get, LivelinessGet}
 use Rattle.zs_core.specs.World.{World}
 use Rattle.zs_core.specs.Subscribers.{is_sub}
 use Rattle.zs_core.specs.Publishers.{is_pub}
-use Rattle.zs_core.specs.Turns.{is_there}
-use Rattle.zs_core.proofs.Steps.{live_told}
+use Rattle.zs_core.specs.Queriers.{is_querier}
+use Rattle.zs_query.specs.Gets.{get_at}
+use Rattle.zs_query.specs.GetTable.{Asking}
+use Rattle.zs_core.proofs.Steps.{is_here, live_told}
+use Rattle.std.specs.Prelude.{◌==◌}
+use Rattle.std.specs.List.{list_any}
+use Rattle.zs_tables.specs.declared.liveliness_sub.LivelinessSub.{LivelinessSub}
+use Rattle.zs_tables.specs.LivelinessGets.{is_asking}
 use Rattle.zs_core.proofs.state.SessionState.is_live.Goals as goal
 
 pub returns-in-Subscriber : goal.returns-in-Subscriber
 returns-in-Subscriber c =
     let rows : c.self.inside.tables.rows ≡ c.args.self.now.entities.subs = ap (λ (w : World). w.entities.subs) c.self.view_is in
     live_told c.args.self.now c.args.kind c.args.id c.has.result
-    (c.has.ensures ∙ ap (is_sub c.args.id) rows ∙ sym (ap (λ (kind : Kind). is_there kind c.args.id c.args.self.now) c.in-Subscriber.is))
+    (c.has.ensures ∙ ap (is_sub c.args.id) rows ∙ sym (ap (λ (kind : Kind). is_here kind c.args.id c.args.self.now) c.in-Subscriber.is))
 
 pub returns-in-Publisher : goal.returns-in-Publisher
 returns-in-Publisher c =
     let rows : c.self.inside.publishers ≡ c.args.self.now.entities.pubs = ap (λ (w : World). w.entities.pubs) c.self.view_is in
     live_told c.args.self.now c.args.kind c.args.id c.has-in-Publisher.result
-    (c.has-in-Publisher.ensures ∙ ap (is_pub c.args.id) rows ∙ sym (ap (λ (kind : Kind). is_there kind c.args.id c.args.self.now) c.in-Publisher.is))
+    (c.has-in-Publisher.ensures ∙ ap (is_pub c.args.id) rows ∙ sym (ap (λ (kind : Kind). is_here kind c.args.id c.args.self.now) c.in-Publisher.is))
 
 pub returns-in-Queryable : goal.returns-in-Queryable
 returns-in-Queryable c =
     live_told c.args.self.now c.args.kind c.args.id c.has_queryable.result
-    (c.has_queryable.ensures ∙ sym (ap (λ (kind : Kind). is_there kind c.args.id c.args.self.now) c.in-Queryable.is))
+    (c.has_queryable.ensures ∙ sym (ap (λ (kind : Kind). is_here kind c.args.id c.args.self.now) c.in-Queryable.is))
 
--- nothing of any other kind is there
-other_kind : (w : World) (id : ℕ) (kind : Kind) → (kind ≡ Subscriber → ⊥) → (kind ≡ Publisher → ⊥) → (kind ≡ Queryable → ⊥) → false ≡ is_there kind id w
-other_kind w id Subscriber s p q = absurd (s refl)
-other_kind w id Publisher s p q = absurd (p refl)
-other_kind w id LivelinessSubscriber s p q = refl
-other_kind w id Queryable s p q = absurd (q refl)
-other_kind w id Querier s p q = refl
-other_kind w id Token s p q = refl
-other_kind w id Listener s p q = refl
-other_kind w id Get s p q = refl
-other_kind w id LivelinessGet s p q = refl
+pub returns-in-Querier : goal.returns-in-Querier
+returns-in-Querier c =
+    let rows : c.self.inside.queriers ≡ c.args.self.now.entities.queriers = ap (λ (w : World). w.entities.queriers) c.self.view_is in
+    live_told c.args.self.now c.args.kind c.args.id c.has-in-Querier.result
+    (c.has-in-Querier.ensures ∙ ap (is_querier c.args.id) rows ∙ sym (ap (λ (kind : Kind). is_here kind c.args.id c.args.self.now) c.in-Querier.is))
 
-pub returns-in_default : goal.returns-in_default
-returns-in_default c = live_told c.args.self.now c.args.kind c.args.id false (other_kind c.args.self.now c.args.id c.args.kind c.in_default.not-Subscriber c.in_default.not-Publisher c.in_default.not-Queryable)
+pub returns-in-Get : goal.returns-in-Get
+returns-in-Get c =
+    let gets : c.gets.result.now ≡ c.args.self.now.asking.gets = c.gets.ensures ∙ ap (λ (w : World). w.asking.gets) c.self.view_is in
+    live_told c.args.self.now c.args.kind c.args.id c.is_open.result
+    (c.is_open.ensures ∙ ap (λ gs. is_some (get_at c.args.id gs)) gets ∙ sym (ap (λ (kind : Kind). is_here kind c.args.id c.args.self.now) c.in-Get.is))
+
+pub returns-in-Token : goal.returns-in-Token
+returns-in-Token c =
+    let tokens : c.self.inside.liveliness.tokens ≡ c.args.self.now.liveliness.tokens = ap (λ (w : World). w.liveliness.tokens) c.self.view_is in
+    live_told c.args.self.now c.args.kind c.args.id c.has_token.result
+    (c.has_token.ensures ∙ ap (λ (ids : List ℕ). list_any (λ other. other == c.args.id) ids) tokens ∙ sym (ap (λ (kind : Kind). is_here kind c.args.id c.args.self.now) c.in-Token.is))
+
+pub returns-in-LivelinessSubscriber : goal.returns-in-LivelinessSubscriber
+returns-in-LivelinessSubscriber c =
+    let subs : c.self.inside.liveliness.subs ≡ c.args.self.now.liveliness.subs = ap (λ (w : World). w.liveliness.subs) c.self.view_is in
+    live_told c.args.self.now c.args.kind c.args.id c.has-in-LivelinessSubscriber.result
+    (c.has-in-LivelinessSubscriber.ensures ∙ ap (λ (rows : List LivelinessSub). list_any (λ row. row.id == c.args.id) rows) (c.subs.ensures ∙ subs)
+    ∙ sym (ap (λ (kind : Kind). is_here kind c.args.id c.args.self.now) c.in-LivelinessSubscriber.is))
+
+pub returns-in-LivelinessGet : goal.returns-in-LivelinessGet
+returns-in-LivelinessGet c =
+    let gets : c.gets-in-LivelinessGet.result.now ≡ c.args.self.now.liveliness.gets = c.gets-in-LivelinessGet.ensures ∙ ap (λ (w : World). w.liveliness.gets) c.self.view_is in
+    live_told c.args.self.now c.args.kind c.args.id c.is_open-in-LivelinessGet.result
+    (c.is_open-in-LivelinessGet.ensures ∙ ap (is_asking c.args.id) gets ∙ sym (ap (λ (kind : Kind). is_here kind c.args.id c.args.self.now) c.in-LivelinessGet.is))
+
+pub returns-in-Listener : goal.returns-in-Listener
+returns-in-Listener c =
+    live_told c.args.self.now c.args.kind c.args.id false (sym (ap (λ (kind : Kind). is_here kind c.args.id c.args.self.now) c.in-Listener.is))

@@ -1,0 +1,12 @@
+use Rattle.std.proofs.Common.{◌≡◌, ◌∙◌, ap, sym, List}
+use Rattle.zs_tables.specs.Ascending.{Ascend}
+use Rattle.zs_tables.specs.declared.told_token.ToldToken.{ToldToken}
+use Rattle.zs_core.specs.Past.{past_of}
+use Rattle.zs_core.proofs.Tokens.{text_under, texts_told, tokens_ascend}
+use Rattle.zs_core.proofs.Stands.{standing}
+use Rattle.zs_core.proofs.laws.tokens_are_told.Goals as goal
+
+pub returns : goal.returns
+returns c = λ s h.
+    let told = (standing s h).watched.told in
+    ((λ n. ap (λ (tokens : List ToldToken). text_under n tokens) told ∙ texts_told s (past_of s h) n), rw told (tokens_ascend s (past_of s h)))

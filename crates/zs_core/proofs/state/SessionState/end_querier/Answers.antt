@@ -1,0 +1,15 @@
+use Rattle.std.proofs.Common.{[]}
+use Rattle.zs_core.specs.declared.querier.QuerierRow.{QuerierRow}
+use Rattle.zs_core.proofs.Bounds.{less_below, rows_less}
+use Rattle.zs_core.proofs.state.SessionState.end_querier.Goals as goal
+
+pub invariant_of-self : goal.invariant_of-self
+invariant_of-self c = record {
+  subs = c.self.invariant.subs;
+  pubs = c.self.invariant.pubs;
+  queryables = c.self.invariant.queryables;
+  queriers = rw c.remove.ensures (rows_less (λ (row : QuerierRow). row.id) c.self.inside.next_entity c.args.id _ c.self.invariant.queriers);
+  sub_groups = rw c.leave_querier_group.ensures c.self.invariant.sub_groups;
+  pub_groups = rw c.leave_querier_group.ensures c.self.invariant.pub_groups;
+  querier_groups = rw c.leave_querier_group.ensures (less_below c.self.inside.next_entity [] _ _ c.self.invariant.querier_groups);
+}
