@@ -10,6 +10,8 @@ pub mod PlainEvents
 pub mod HexDigits
 pub mod Joining
 pub mod Examples
+pub mod QueryExamples
+pub mod LivelinessExamples
 pub mod FirstLine
 pub mod Answering
 pub mod ReadingFields

@@ -1,21 +1,22 @@
 -- The events of lines without line feeds are plain.
-use Rattle.std.proofs.Common.{ℕ, ◌≡◌, true, false, List, [], ◌∷◌, length, Option, None, IfSome, refl, subst, arith, cond, codes}
+use Rattle.std.proofs.Common.{ℕ, ◌≡◌, true, false, List, [], ◌∷◌, length, Option, Some, None, IfSome, refl, subst, arith, cond, codes}
 use Rattle.std.specs.Str.{is_utf8, bytes_eq}
-use Rattle.std.proofs.lemmas.Bool.{and_from}
+use Rattle.std.proofs.lemmas.Bool.{and_parts, and_from}
 use Rattle.std.proofs.lemmas.Str.{IsUtf8-from_is_utf8}
+use Rattle.zs_wire.specs.declared.message.Message.TheVariants.{UndeclareToken}
 use Rattle.zs_wire.specs.declared.wire_expr.WireExpr.{WireExpr}
 use Rattle.zs_events.specs.declared.event.EntityKind.{EntityKind}
 use Rattle.zs_events.specs.declared.event.Event.{Event}
-use Rattle.zs_events.specs.declared.event.Event.TheVariants.{Undeclare}
+use Rattle.zs_events.specs.declared.event.Event.TheVariants.{Undeclare, Net}
 use Rattle.zs_script.specs.Lines.{fields}
 use Rattle.zs_script.specs.Symbols.{u32_max, entity_kind_of}
 use Rattle.zs_script.specs.Parts.{number, form}
-use Rattle.zs_script.specs.Grammar.{by_word, declare_of, sub_of, pub_of, queryable_of, undeclare_entity_of, undeclared_by, undeclare_of, background_of, put_of, delete_of, publisher_put_of, publisher_delete_of, get_of, reply_of, reply_delete_of, reply_error_of, share_of, finish_of, tick_of, close_of, key_expr_of, unkey_expr_of, push_put_of, push_delete_of, push_by, push_of, request_of, response_put_of, response_delete_of, response_error_of, response_by, response_on, response_of, response_final_of, net_close_of, net_by, net_of, event_by, event_of_fields, event_of}
+use Rattle.zs_script.specs.Grammar.{by_word, declare_of, sub_of, pub_of, queryable_of, querier_of, token_of, lsub_of, undeclare_entity_of, undeclared_by, undeclare_of, background_of, put_of, delete_of, publisher_put_of, publisher_delete_of, cancel_token_of, cancel_of, get_of, querier_get_of, liveliness_get_of, reply_of, reply_delete_of, reply_error_of, share_of, finish_of, tick_of, close_of, key_expr_of, unkey_expr_of, net_token_of, net_untoken_of, declare_final_of, push_put_of, push_delete_of, push_by, push_of, request_of, response_put_of, response_delete_of, response_error_of, response_by, response_on, response_of, response_final_of, net_close_of, net_by, net_of, event_by, event_of_fields, event_of}
 use Rattle.zs_script.specs.Plain.{has_no_line_feed}
 use Rattle.zs_script.specs.Laws.{EventsArePlain}
 use Rattle.zs_script.proofs.PlainTexts.{fields-plain}
 use Rattle.zs_script.proofs.PlainSymbols.{PlainWire, on-then, on-any, on-choice, fields-utf8, both-texts}
-use Rattle.zs_script.proofs.PlainParts.{AreTexts, PlainEvent, default-plain, wire-read, number-read, form-plain}
+use Rattle.zs_script.proofs.PlainParts.{AreTexts, PlainWireIf, PlainEvent, default-plain, wire-read, number-read, form-plain}
 
 abbrev IsPlainIf : Option Event → Type 0
 IsPlainIf found = IfSome found PlainEvent
@@ -38,6 +39,15 @@ pub-plain = form-plain _ _ (λ _ _ _ k _ e _ _ _ _. and_from _ _ k (and_from _ _
 
 queryable-plain : (rest : List (List ℕ)) → AreTexts rest → IsPlainIf (queryable_of rest)
 queryable-plain = form-plain _ _ (λ _ _ _ _ _ k. and_from _ _ k refl)
+
+querier-plain : (rest : List (List ℕ)) → AreTexts rest → IsPlainIf (querier_of rest)
+querier-plain = form-plain _ _ (λ _ _ _ k _ _ _ _ _ _ _ _ _ _. and_from _ _ k refl)
+
+token-plain : (rest : List (List ℕ)) → AreTexts rest → IsPlainIf (token_of rest)
+token-plain = form-plain _ _ (λ _ k. and_from _ _ k refl)
+
+lsub-plain : (rest : List (List ℕ)) → AreTexts rest → IsPlainIf (lsub_of rest)
+lsub-plain = form-plain _ _ (λ _ _ _ k. and_from _ _ k refl)
 
 undeclare-entity-plain : (word : List ℕ) (rest : List (List ℕ)) → AreTexts rest → IsPlainIf (undeclare_entity_of word rest)
 undeclare-entity-plain word rest h =
@@ -64,8 +74,20 @@ publisher-put-plain = form-plain _ _ (λ _ _ _ _ _ e _ _ _ _ _ _. e)
 publisher-delete-plain : (rest : List (List ℕ)) → AreTexts rest → IsPlainIf (publisher_delete_of rest)
 publisher-delete-plain = form-plain _ _ (λ _ _ _ _ _ _ _ _. refl)
 
+cancel-token-plain : (rest : List (List ℕ)) → AreTexts rest → IsPlainIf (cancel_token_of rest)
+cancel-token-plain = form-plain _ _ refl
+
+cancel-plain : (rest : List (List ℕ)) → AreTexts rest → IsPlainIf (cancel_of rest)
+cancel-plain = form-plain _ _ (λ _ _. refl)
+
 get-plain : (rest : List (List ℕ)) → AreTexts rest → IsPlainIf (get_of rest)
-get-plain = form-plain _ _ (λ _ _ _ s _ _ _ _ _ _ _ v _ _ _ _ _ _ _ _. and_from _ _ s.0 (and_from _ _ s.1 v))
+get-plain = form-plain _ _ (λ _ _ _ s _ _ _ _ _ _ _ v _ _ _ _ _ _ _ _ _ _. and_from _ _ s.0 (and_from _ _ s.1 v))
+
+querier-get-plain : (rest : List (List ℕ)) → AreTexts rest → IsPlainIf (querier_get_of rest)
+querier-get-plain = form-plain _ _ (λ _ _ _ t _ v _ _ _ _ _ _. and_from _ _ t v)
+
+liveliness-get-plain : (rest : List (List ℕ)) → AreTexts rest → IsPlainIf (liveliness_get_of rest)
+liveliness-get-plain = form-plain _ _ (λ _ k _ _ _ _. and_from _ _ k refl)
 
 reply-plain : (rest : List (List ℕ)) → AreTexts rest → IsPlainIf (reply_of rest)
 reply-plain = form-plain _ _ (λ _ _ _ k _ _ _ e _ _ _ _ _ _ _ _ _ _ _ _. and_from _ _ k (and_from _ _ e refl))
@@ -98,6 +120,19 @@ key-expr-plain = form-plain _ _ (λ _ _ _ w. and_from _ _ w refl)
 
 unkey-expr-plain : (rest : List (List ℕ)) → AreTexts rest → IsPlainIf (unkey_expr_of rest)
 unkey-expr-plain = form-plain _ _ (λ _ _. refl)
+
+net-token-plain : (rest : List (List ℕ)) → AreTexts rest → IsPlainIf (net_token_of rest)
+net-token-plain = form-plain _ _ (λ _ _ _ w _ _. and_from _ _ w refl)
+
+untoken-plain : (n : ℕ) (w : Option WireExpr) (asked : Option ℕ) → PlainWireIf w → PlainEvent (Net (UndeclareToken n w asked))
+untoken-plain n None asked k = refl
+untoken-plain n (Some w) asked k = and_from _ _ (and_parts _ true k).0 refl
+
+net-untoken-plain : (rest : List (List ℕ)) → AreTexts rest → IsPlainIf (net_untoken_of rest)
+net-untoken-plain = form-plain _ _ (λ n _ w k asked _. untoken-plain n w asked k)
+
+declare-final-plain : (rest : List (List ℕ)) → AreTexts rest → IsPlainIf (declare_final_of rest)
+declare-final-plain = form-plain _ _ (λ _ _. refl)
 
 push-put-plain : (wire : WireExpr) → PlainWire wire → (rest : List (List ℕ)) → AreTexts rest → IsPlainIf (push_put_of wire rest)
 push-put-plain wire w = form-plain _ _ (λ _ _ _ e _ _ _ _ _ _ _ _ _ _. and_from _ _ w (and_from _ _ e refl))
@@ -158,11 +193,14 @@ net-plain : (word : List ℕ) (rest : List (List ℕ)) → AreTexts rest → IsP
 net-plain word rest h =
     on-choice (bytes_eq word (codes "keyexpr")) PlainEvent (key_expr_of rest) _ (key-expr-plain rest h)
     (on-choice (bytes_eq word (codes "unkeyexpr")) PlainEvent (unkey_expr_of rest) _ (unkey-expr-plain rest h)
+    (on-choice (bytes_eq word (codes "token")) PlainEvent (net_token_of rest) _ (net-token-plain rest h)
+    (on-choice (bytes_eq word (codes "untoken")) PlainEvent (net_untoken_of rest) _ (net-untoken-plain rest h)
+    (on-choice (bytes_eq word (codes "declarefinal")) PlainEvent (declare_final_of rest) _ (declare-final-plain rest h)
     (on-choice (bytes_eq word (codes "push")) PlainEvent (push_of rest) _ (push-plain rest h)
     (on-choice (bytes_eq word (codes "request")) PlainEvent (request_of rest) _ (request-plain rest h)
     (on-choice (bytes_eq word (codes "response")) PlainEvent (response_of rest) _ (response-plain rest h)
     (on-choice (bytes_eq word (codes "responsefinal")) PlainEvent (response_final_of rest) _ (response-final-plain rest h)
-    (on-choice (bytes_eq word (codes "close")) PlainEvent (net_close_of rest) None (net-close-plain rest h) tt))))))
+    (on-choice (bytes_eq word (codes "close")) PlainEvent (net_close_of rest) None (net-close-plain rest h) tt)))))))))
 
 net-event : (rest : List (List ℕ)) → AreTexts rest → IsPlainIf (net_of rest)
 unfolding net_of
@@ -174,13 +212,20 @@ event-plain word rest h =
     (on-choice (bytes_eq word (codes "sub")) PlainEvent (sub_of rest) _ (sub-plain rest h)
     (on-choice (bytes_eq word (codes "pub")) PlainEvent (pub_of rest) _ (pub-plain rest h)
     (on-choice (bytes_eq word (codes "queryable")) PlainEvent (queryable_of rest) _ (queryable-plain rest h)
+    (on-choice (bytes_eq word (codes "querier")) PlainEvent (querier_of rest) _ (querier-plain rest h)
+    (on-choice (bytes_eq word (codes "token")) PlainEvent (token_of rest) _ (token-plain rest h)
+    (on-choice (bytes_eq word (codes "lsub")) PlainEvent (lsub_of rest) _ (lsub-plain rest h)
     (on-choice (bytes_eq word (codes "undeclare")) PlainEvent (undeclare_of rest) _ (undeclare-event rest h)
     (on-choice (bytes_eq word (codes "background")) PlainEvent (background_of rest) _ (background-plain rest h)
     (on-choice (bytes_eq word (codes "put")) PlainEvent (put_of rest) _ (put-plain rest h)
     (on-choice (bytes_eq word (codes "delete")) PlainEvent (delete_of rest) _ (delete-plain rest h)
     (on-choice (bytes_eq word (codes "pput")) PlainEvent (publisher_put_of rest) _ (publisher-put-plain rest h)
     (on-choice (bytes_eq word (codes "pdel")) PlainEvent (publisher_delete_of rest) _ (publisher-delete-plain rest h)
+    (on-choice (bytes_eq word (codes "ctoken")) PlainEvent (cancel_token_of rest) _ (cancel-token-plain rest h)
+    (on-choice (bytes_eq word (codes "cancel")) PlainEvent (cancel_of rest) _ (cancel-plain rest h)
     (on-choice (bytes_eq word (codes "get")) PlainEvent (get_of rest) _ (get-plain rest h)
+    (on-choice (bytes_eq word (codes "qget")) PlainEvent (querier_get_of rest) _ (querier-get-plain rest h)
+    (on-choice (bytes_eq word (codes "lget")) PlainEvent (liveliness_get_of rest) _ (liveliness-get-plain rest h)
     (on-choice (bytes_eq word (codes "reply")) PlainEvent (reply_of rest) _ (reply-plain rest h)
     (on-choice (bytes_eq word (codes "replydel")) PlainEvent (reply_delete_of rest) _ (reply-delete-plain rest h)
     (on-choice (bytes_eq word (codes "replyerr")) PlainEvent (reply_error_of rest) _ (reply-error-plain rest h)
@@ -188,7 +233,7 @@ event-plain word rest h =
     (on-choice (bytes_eq word (codes "finish")) PlainEvent (finish_of rest) _ (finish-plain rest h)
     (on-choice (bytes_eq word (codes "tick")) PlainEvent (tick_of rest) _ (tick-plain rest h)
     (on-choice (bytes_eq word (codes "close")) PlainEvent (close_of rest) _ (close-plain rest h)
-    (on-choice (bytes_eq word (codes "net")) PlainEvent (net_of rest) None (net-event rest h) tt))))))))))))))))))
+    (on-choice (bytes_eq word (codes "net")) PlainEvent (net_of rest) None (net-event rest h) tt)))))))))))))))))))))))))
 
 fields-event : (parts : List (List ℕ)) → AreTexts parts → IsPlainIf (event_of_fields parts)
 fields-event parts h = by-word event_by event-plain parts h

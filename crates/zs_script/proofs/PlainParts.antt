@@ -87,7 +87,7 @@ own-encoding-plain fields h =
     refl refl (λ text k. and_from _ _ (encoding-plain text k) refl) fields h
 
 -- compound parts
-abbrev PlainWireIf : Option WireExpr → Type 0
+abbrev pub PlainWireIf : Option WireExpr → Type 0
 PlainWireIf w = AllPlain (suffix_if w)
 
 first-text : (fields : List (List ℕ)) → AreTexts fields → IfSome (first_of fields) IsText

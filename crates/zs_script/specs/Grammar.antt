@@ -1,7 +1,7 @@
 -- The event that a line is, if it is one.
 use Rattle.std.specs.Prelude.{ℕ, Bool, List, [], ◌∷◌, Option, None, option_and_then, unwrap_or, codes, if◌then◌else◌}
 use Rattle.std.specs.Str.{bytes_eq, is_utf8}
-use Rattle.zs_wire.specs.declared.message.Message.TheVariants.{DeclareKeyExpr, UndeclareKeyExpr, Push, Request as request_message, Response as response_message, ResponseFinal, Close as close_message}
+use Rattle.zs_wire.specs.declared.message.Message.TheVariants.{DeclareKeyExpr, UndeclareKeyExpr, DeclareToken, UndeclareToken, DeclareFinal, Push, Request as request_message, Response as response_message, ResponseFinal, Close as close_message}
 use Rattle.zs_wire.specs.declared.body.Body.{Body}
 use Rattle.zs_wire.specs.declared.origin.EntityGlobalId.{EntityGlobalId}
 use Rattle.zs_wire.specs.declared.origin.SourceInfo.{SourceInfo}
@@ -13,11 +13,11 @@ use Rattle.zs_wire.specs.declared.response.Answered.TheVariants.{Reply, Err as e
 use Rattle.zs_wire.specs.declared.sample_kind.SampleKind.TheVariants.{Put as put_kind}
 use Rattle.zs_wire.specs.declared.wire_expr.WireExpr.{WireExpr}
 use Rattle.zs_events.specs.declared.event.Event.{Event}
-use Rattle.zs_events.specs.declared.event.Event.TheVariants.{Key, UndeclareKey, Sub, Pub, Queryable, Undeclare, Background, Put, Delete, PublisherPut, PublisherDelete, Get, Reply as reply_event, ReplyDelete, ReplyErr, Share, Finish, Tick, Close, Net}
+use Rattle.zs_events.specs.declared.event.Event.TheVariants.{Key, UndeclareKey, Sub, Pub, Queryable, Querier, Token, Lsub, Undeclare, Background, Put, Delete, PublisherPut, PublisherDelete, CancelToken, Cancel, Get, QuerierGet, LivelinessGet, Reply as reply_event, ReplyDelete, ReplyErr, Share, Finish, Tick, Close, Net}
 use Rattle.zs_events.specs.Kinds.{delete_body}
 use Rattle.zs_script.specs.Lines.{fields}
 use Rattle.zs_script.specs.Symbols.{u16_max, u32_max, u64_max, entity_kind_of}
-use Rattle.zs_script.specs.Parts.{number, locality, background_kind, complete, key, selector, wire, payload, parameters, target, consolidation, timeout, value, encoding, own_encoding, timestamp, qos, own_priority, own_congestion, own_express, reliable, source, attachment, responder, any_key, read, form}
+use Rattle.zs_script.specs.Parts.{number, locality, background_kind, complete, history, key, selector, wire, wire_if, payload, parameters, target, consolidation, timeout, value, encoding, own_encoding, timestamp, qos, own_priority, own_congestion, own_express, reliable, source, attachment, responder, any_key, token, interest, read, form}
 
 -- what a choice by the first field makes of the fields behind it
 abbrev pub by_word : (List ℕ → List (List ℕ) → Option Event) → List (List ℕ) → Option Event
@@ -39,6 +39,18 @@ pub_of rest = form (locality ∷ key ∷ encoding ∷ qos 1 Drop ∷ reliable �
 -- `queryable LOC complete KEY`, `queryable LOC partial KEY`
 abbrev pub queryable_of : List (List ℕ) → Option Event
 queryable_of rest = form (locality ∷ complete ∷ key ∷ []) Queryable rest
+
+-- `querier LOC KEY` and its options
+abbrev pub querier_of : List (List ℕ) → Option Event
+querier_of rest = form (locality ∷ key ∷ target ∷ consolidation ∷ timeout ∷ qos 1 Block ∷ any_key ∷ []) Querier rest
+
+-- `token KEY`
+abbrev pub token_of : List (List ℕ) → Option Event
+token_of rest = form (key ∷ []) Token rest
+
+-- `lsub history KEY`, `lsub live KEY`
+abbrev pub lsub_of : List (List ℕ) → Option Event
+lsub_of rest = form (history ∷ key ∷ []) Lsub rest
 
 -- `N`, behind `undeclare` and a kind
 abbrev pub undeclare_entity_of : List ℕ → List (List ℕ) → Option Event
@@ -74,11 +86,27 @@ publisher_put_of rest =
 abbrev pub publisher_delete_of : List (List ℕ) → Option Event
 publisher_delete_of rest = form (number u32_max ∷ timestamp ∷ source ∷ attachment ∷ []) PublisherDelete rest
 
+-- `ctoken`
+abbrev pub cancel_token_of : List (List ℕ) → Option Event
+cancel_token_of rest = form [] CancelToken rest
+
+-- `cancel N`
+abbrev pub cancel_of : List (List ℕ) → Option Event
+cancel_of rest = form (number u32_max ∷ []) Cancel rest
+
 -- `get LOC SELECTOR` and its options: the selector is a key and the parameters
 abbrev pub get_of : List (List ℕ) → Option Event
 get_of rest =
-    form (locality ∷ selector ∷ target ∷ consolidation ∷ timeout ∷ value ∷ qos 1 Block ∷ source ∷ attachment ∷ any_key ∷ [])
+    form (locality ∷ selector ∷ target ∷ consolidation ∷ timeout ∷ value ∷ qos 1 Block ∷ source ∷ attachment ∷ any_key ∷ token ∷ [])
     (λ where_to chosen. Get where_to chosen.0 chosen.1) rest
+
+-- `qget N` and its options: the others are the querier's
+abbrev pub querier_get_of : List (List ℕ) → Option Event
+querier_get_of rest = form (number u32_max ∷ parameters ∷ value ∷ source ∷ attachment ∷ token ∷ []) QuerierGet rest
+
+-- `lget KEY` and its options
+abbrev pub liveliness_get_of : List (List ℕ) → Option Event
+liveliness_get_of rest = form (key ∷ timeout ∷ token ∷ []) LivelinessGet rest
 
 -- `reply N KEY BYTES` and its options: what is not given is as in the query
 abbrev pub reply_of : List (List ℕ) → Option Event
@@ -118,6 +146,18 @@ key_expr_of rest = form (number u16_max ∷ wire ∷ []) (λ n w. Net (DeclareKe
 -- `unkeyexpr N`, behind `net`
 abbrev pub unkey_expr_of : List (List ℕ) → Option Event
 unkey_expr_of rest = form (number u16_max ∷ []) (λ n. Net (UndeclareKeyExpr n)) rest
+
+-- `token N WIRE` and its option, behind `net`
+abbrev pub net_token_of : List (List ℕ) → Option Event
+net_token_of rest = form (number u32_max ∷ wire ∷ interest ∷ []) (λ n w asked. Net (DeclareToken n w asked)) rest
+
+-- `untoken N` or `untoken N WIRE`, and its option, behind `net`
+abbrev pub net_untoken_of : List (List ℕ) → Option Event
+net_untoken_of rest = form (number u32_max ∷ wire_if ∷ interest ∷ []) (λ n w asked. Net (UndeclareToken n w asked)) rest
+
+-- `declarefinal` and its option, behind `net`
+abbrev pub declare_final_of : List (List ℕ) → Option Event
+declare_final_of rest = form (interest ∷ []) (λ asked. Net (DeclareFinal asked)) rest
 
 -- a publication that comes in
 abbrev pub pushed : WireExpr → Body → QoSType → Bool → Event
@@ -228,6 +268,9 @@ abbrev pub net_by : List ℕ → List (List ℕ) → Option Event
 net_by word rest =
     if bytes_eq word (codes "keyexpr") then key_expr_of rest else
     if bytes_eq word (codes "unkeyexpr") then unkey_expr_of rest else
+    if bytes_eq word (codes "token") then net_token_of rest else
+    if bytes_eq word (codes "untoken") then net_untoken_of rest else
+    if bytes_eq word (codes "declarefinal") then declare_final_of rest else
     if bytes_eq word (codes "push") then push_of rest else
     if bytes_eq word (codes "request") then request_of rest else
     if bytes_eq word (codes "response") then response_of rest else
@@ -244,13 +287,20 @@ event_by word rest =
     if bytes_eq word (codes "sub") then sub_of rest else
     if bytes_eq word (codes "pub") then pub_of rest else
     if bytes_eq word (codes "queryable") then queryable_of rest else
+    if bytes_eq word (codes "querier") then querier_of rest else
+    if bytes_eq word (codes "token") then token_of rest else
+    if bytes_eq word (codes "lsub") then lsub_of rest else
     if bytes_eq word (codes "undeclare") then undeclare_of rest else
     if bytes_eq word (codes "background") then background_of rest else
     if bytes_eq word (codes "put") then put_of rest else
     if bytes_eq word (codes "delete") then delete_of rest else
     if bytes_eq word (codes "pput") then publisher_put_of rest else
     if bytes_eq word (codes "pdel") then publisher_delete_of rest else
+    if bytes_eq word (codes "ctoken") then cancel_token_of rest else
+    if bytes_eq word (codes "cancel") then cancel_of rest else
     if bytes_eq word (codes "get") then get_of rest else
+    if bytes_eq word (codes "qget") then querier_get_of rest else
+    if bytes_eq word (codes "lget") then liveliness_get_of rest else
     if bytes_eq word (codes "reply") then reply_of rest else
     if bytes_eq word (codes "replydel") then reply_delete_of rest else
     if bytes_eq word (codes "replyerr") then reply_error_of rest else

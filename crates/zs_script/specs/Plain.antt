@@ -13,7 +13,7 @@ use Rattle.zs_wire.specs.declared.wire_expr.WireExpr.{WireExpr}
 use Rattle.zs_events.specs.declared.event.KeyArg.{KeyArg}
 use Rattle.zs_events.specs.declared.event.KeyArg.TheVariants.{Text, Number, Declared}
 use Rattle.zs_events.specs.declared.event.Event.{Event}
-use Rattle.zs_events.specs.Kinds.{NamedKey, NoKey, OwnKey, PublisherKey, WireKey, text_if, value_texts, row_of}
+use Rattle.zs_events.specs.Kinds.{NamedKey, NoKey, OwnKey, PublisherKey, QuerierKey, WireKey, text_if, value_texts, row_of}
 use Rattle.zs_events.specs.declared.turn.Effect.{Effect}
 use Rattle.zs_events.specs.declared.turn.Effect.TheVariants.{Send, Hand, End}
 use Rattle.zs_events.specs.declared.turn.HandOver.TheVariants.{Sample, Reply as handed_reply, Query as handed_query}
@@ -45,6 +45,7 @@ abbrev pub is_plain_named : NamedKey → Bool
 is_plain_named NoKey = true
 is_plain_named (OwnKey key) = is_plain_key key
 is_plain_named (PublisherKey id) = true
+is_plain_named (QuerierKey id) = true
 is_plain_named (WireKey wire) = is_field_text wire.suffix
 
 -- an event all of whose texts are such

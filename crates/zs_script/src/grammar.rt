@@ -2,11 +2,13 @@
 
 ghost use Rattle.std.specs.Prelude.{◌≡◌, [], ◌∷◌, IfOk};
 ghost use Rattle.zs_events.specs.declared.event.Event.TheVariants.{UndeclareKey};
-ghost use Rattle.zs_script.specs.Grammar.{event_of, event_of_fields, declare_of, sub_of, pub_of, queryable_of, undeclare_entity_of, undeclare_of, background_of, put_of, delete_of, publisher_put_of, publisher_delete_of, get_of, tick_of, close_of};
+ghost use Rattle.zs_script.specs.Grammar.{event_of, event_of_fields, declare_of, sub_of, pub_of, queryable_of, undeclare_entity_of, undeclare_of, background_of, put_of, delete_of, publisher_put_of, publisher_delete_of, tick_of, close_of};
 ghost use Rattle.zs_script.specs.Lines.{fields};
 ghost use Rattle.zs_script.specs.Fields.{texts};
 ghost use Rattle.zs_script.specs.Parts.{key, form};
 
+use crate::gets::{parse_cancel, parse_cancel_token, parse_get, parse_querier, parse_querier_get};
+use crate::liveliness::{parse_liveliness_get, parse_lsub, parse_token};
 use crate::messages::parse_net;
 use crate::parts::Fields;
 use crate::reader::Line;
@@ -48,13 +50,20 @@ fn parse_fields(alloc: Global, fields: &mut Fields<'_>) -> Result<Option<Event>,
         "sub" => parse_sub(alloc, fields),
         "pub" => parse_pub(alloc, fields),
         "queryable" => parse_queryable(alloc, fields),
+        "querier" => parse_querier(alloc, fields),
+        "token" => parse_token(alloc, fields),
+        "lsub" => parse_lsub(alloc, fields),
         "undeclare" => parse_undeclare(alloc, fields),
         "background" => Ok(parse_background(fields)),
         "put" => parse_put(alloc, fields),
         "delete" => parse_delete(alloc, fields),
         "pput" => parse_publisher_put(alloc, fields),
         "pdel" => parse_publisher_delete(alloc, fields),
+        "ctoken" => Ok(parse_cancel_token(fields)),
+        "cancel" => Ok(parse_cancel(fields)),
         "get" => parse_get(alloc, fields),
+        "qget" => parse_querier_get(alloc, fields),
+        "lget" => parse_liveliness_get(alloc, fields),
         "reply" => parse_reply(alloc, fields),
         "replydel" => parse_reply_delete(alloc, fields),
         "replyerr" => parse_reply_error(alloc, fields),
@@ -268,33 +277,6 @@ fn parse_publisher_delete(
         timestamp: fields.timestamp(),
         source: fields.source(),
         attachment: fields.attachment(alloc)?,
-    };
-    Ok(fields.finish(event))
-}
-
-/// `get LOC SELECTOR` and its options
-#[tactic(auto, unfolding(crate::specs::Parts::form))]
-fn parse_get(alloc: Global, fields: &mut Fields<'_>) -> Result<Option<Event>, AllocError>
-    ensures { IfOk result (λ found. found ≡ get_of fields.old) }
-{
-    let Some(destination) = fields.locality() else {
-        return Ok(None);
-    };
-    let Some((key, parameters)) = fields.selector(alloc)? else {
-        return Ok(None);
-    };
-    let event = Event::Get {
-        destination,
-        key,
-        parameters,
-        target: fields.target(),
-        consolidation: fields.consolidation(),
-        timeout: fields.timeout(),
-        value: fields.value(alloc)?,
-        qos: fields.qos(1, CongestionControl::Block),
-        source: fields.source(),
-        attachment: fields.attachment(alloc)?,
-        any_key: fields.any_key(),
     };
     Ok(fields.finish(event))
 }

@@ -9,10 +9,13 @@ pub use symbols::after_prefix;
 pub use writing::{WriteFault, write_whole};
 
 mod bytes;
+mod declarations;
 mod digits;
+mod gets;
 mod grammar;
 mod held;
 pub mod laws;
+mod liveliness;
 mod message_printing;
 mod messages;
 mod numbers;

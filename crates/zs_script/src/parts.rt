@@ -3,7 +3,7 @@
 ghost use Rattle.std.specs.Prelude.{◌≡◌, [], Some, IfOk, option_map, codes};
 ghost use Rattle.zs_script.specs.Options.{encoding_text_of, priority_of, congestion_of, flag_of};
 ghost use Rattle.zs_script.specs.Symbols.{u16_max, u32_max, u64_max, payload_of};
-ghost use Rattle.zs_script.specs.Parts.{first_of, behind, named_in, option_in, maybe_in, number, locality, background_kind, complete, key, selector, wire, payload, parameters, target, consolidation, timeout, value as given, encoding, own_encoding, timestamp, qos, own_priority, own_congestion, own_express, reliable, source, attachment, responder, any_key, read, form};
+ghost use Rattle.zs_script.specs.Parts.{first_of, behind, named_in, option_in, maybe_in, number, locality, background_kind, complete, history, key, selector, wire, wire_if, payload, parameters, target, consolidation, timeout, value as given, encoding, own_encoding, timestamp, qos, own_priority, own_congestion, own_express, reliable, source, attachment, responder, any_key, token, interest, read, form};
 
 use crate::numbers::parse_number;
 use crate::options::{
@@ -12,8 +12,8 @@ use crate::options::{
     parse_timestamp, value_of,
 };
 use crate::symbols::{
-    after_prefix, parse_background_kind, parse_complete, parse_id, parse_key, parse_key_number,
-    parse_locality, parse_payload, parse_selector, parse_wire,
+    after_prefix, naming, parse_background_kind, parse_complete, parse_history, parse_id,
+    parse_key, parse_key_number, parse_locality, parse_payload, parse_selector, parse_wire,
 };
 use std::alloc::{AllocError, Global};
 use std::marker::Model;
@@ -57,6 +57,15 @@ impl<'a> Fields<'a> {
         Some(*first)
     }
 
+    fn first(&self) -> Option<&'a str>
+        ensures { option_map (λ field. field.now) result ≡ first_of self.now }
+    {
+        let [first, ..] = self.rest else {
+            return None;
+        };
+        Some(*first)
+    }
+
     /// What stands behind this name in the first field, if it begins with it.
     fn named(&self, name: &str) -> Option<&'a str>
         ensures { option_map (λ value. value.now) result ≡ named_in name.now self.now }
@@ -79,10 +88,11 @@ impl<'a> Fields<'a> {
     pub(crate) fn finish(&self, made: Event) -> Option<Event>
         ensures { result ≡ form [] made self.now }
     {
-        match self.rest {
-            [] => Some(made),
-            _ => None,
+        if let [] = self.rest {
+            return Some(made);
         }
+        drop(made);
+        None
     }
 }
 
@@ -126,6 +136,15 @@ impl<'a> Fields<'a> {
     {
         let field = self.next()?;
         parse_background_kind(field)
+    }
+
+    /// Whether a liveliness subscriber is told of what lives already.
+    #[tactic(auto, unfolding(crate::specs::Parts::read))]
+    pub(crate) fn history(&mut self) -> Option<bool>
+        ensures { read history self.old ≡ option_map (λ value. (value, self.new)) result }
+    {
+        let field = self.next()?;
+        parse_history(field)
     }
 
     /// Whether a queryable has all that is there.
@@ -403,6 +422,41 @@ impl<'a> Fields<'a> {
         ensures { read responder self.old ≡ Some (result, self.new) }
     {
         let found = parse_entity(self.named("by=")?)?;
+        self.skip();
+        Some(found)
+    }
+
+    /// A key that may be left out: a wire expression that names nothing is like none.
+    #[tactic(auto, unfolding(crate::specs::Parts::read))]
+    pub(crate) fn wire_if(&mut self, alloc: Global) -> Result<Option<WireExpr>, AllocError>
+        ensures { IfOk result (λ value. read wire_if self.old ≡ Some (value, self.new)) }
+    {
+        let Some(field) = self.first() else {
+            return Ok(None);
+        };
+        let Some(found) = parse_wire(alloc, field)? else {
+            return Ok(None);
+        };
+        self.skip();
+        Ok(naming(found))
+    }
+
+    /// The cancellation token by which a get can be cancelled.
+    #[tactic(auto, unfolding(crate::specs::Parts::read))]
+    pub(crate) fn token(&mut self) -> Option<u32>
+        ensures { read token self.old ≡ Some (result, self.new) }
+    {
+        let found = parse_id(self.named("token=")?)?;
+        self.skip();
+        Some(found)
+    }
+
+    /// The interest that a message answers.
+    #[tactic(auto, unfolding(crate::specs::Parts::read))]
+    pub(crate) fn interest(&mut self) -> Option<u32>
+        ensures { read interest self.old ≡ Some (result, self.new) }
+    {
+        let found = parse_id(self.named("interest=")?)?;
         self.skip();
         Some(found)
     }

@@ -1,9 +1,9 @@
 //! The symbols that the forms of lines are made of, each read from one field.
 
-ghost use Rattle.std.specs.Prelude.{◌≡◌, ◌==◌, IfOk, option_map};
+ghost use Rattle.std.specs.Prelude.{◌≡◌, ◌==◌, Some, IfOk, option_map};
 ghost use Rattle.std.specs.List.{before_first, after_first};
 ghost use Rattle.zs_script.specs.Parts.{selector_of};
-ghost use Rattle.zs_script.specs.Symbols.{number_of, u16_max, u32_max, locality_of, entity_kind_of, background_kind_of, complete_of, is_colon, numbered_of, key_of, payload_of, after_prefix, scoped_of, wire_of};
+ghost use Rattle.zs_script.specs.Symbols.{number_of, u16_max, u32_max, locality_of, entity_kind_of, background_kind_of, complete_of, history_of, is_colon, numbered_of, key_of, payload_of, after_prefix, scoped_of, wire_of, naming};
 
 use crate::numbers::parse_number;
 use hex::FromHexError;
@@ -60,6 +60,9 @@ pub(crate) fn parse_entity_kind(field: &str) -> Option<EntityKind>
         "sub" => Some(EntityKind::Sub),
         "pub" => Some(EntityKind::Pub),
         "queryable" => Some(EntityKind::Queryable),
+        "querier" => Some(EntityKind::Querier),
+        "token" => Some(EntityKind::Token),
+        "lsub" => Some(EntityKind::Lsub),
         _ => None,
     }
 }
@@ -71,6 +74,18 @@ pub(crate) fn parse_background_kind(field: &str) -> Option<BackgroundKind>
     match field {
         "sub" => Some(BackgroundKind::Sub),
         "queryable" => Some(BackgroundKind::Queryable),
+        "lsub" => Some(BackgroundKind::Lsub),
+        _ => None,
+    }
+}
+
+/// A word for whether a liveliness subscriber is told of what lives already.
+pub(crate) fn parse_history(field: &str) -> Option<bool>
+    ensures { result ≡ history_of field.now }
+{
+    match field {
+        "history" => Some(true),
+        "live" => Some(false),
         _ => None,
     }
 }
@@ -189,4 +204,14 @@ fn parse_scoped(alloc: Global, mapping: Mapping, rest: &str) -> Result<Option<Wi
         suffix: Text::of(alloc, suffix)?,
         mapping,
     }))
+}
+
+/// A wire expression, if it names something.
+pub(crate) fn naming(wire: WireExpr) -> Option<WireExpr>
+    ensures { result ≡ naming (Some wire) }
+{
+    if wire.scope == 0 && wire.suffix.is_empty() {
+        return None;
+    }
+    Some(wire)
 }

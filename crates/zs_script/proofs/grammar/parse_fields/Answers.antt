@@ -13,3 +13,8 @@ pub returns-in-queryable : goal.returns-in-queryable
 returns-in-queryable c =
     let first : first_of c.args.fields.now ≡ Some (codes "queryable") = sym c.in-Some.ensures.first ∙ ap Some c.in-queryable.is in
     rw (by-first event_by c.args.fields.now (codes "queryable") first) (rw c.next.ensures.rest at c.parse_queryable.ensures)
+
+pub returns-in-querier : goal.returns-in-querier
+returns-in-querier c =
+    let first : first_of c.args.fields.now ≡ Some (codes "querier") = sym c.in-Some.ensures.first ∙ ap Some c.in-querier.is in
+    rw (by-first event_by c.args.fields.now (codes "querier") first) (rw c.next.ensures.rest at c.parse_querier.ensures)

@@ -21,3 +21,15 @@ unfolding net_of
 returns-in-request c =
     let first : first_of c.args.fields.now ≡ Some (codes "request") = sym c.in-Some.ensures.first ∙ ap Some c.in-request.is in
     rw (by-first net_by c.args.fields.now (codes "request") first) (rw c.next.ensures.rest at c.parse_request.ensures)
+
+pub returns-in-token : goal.returns-in-token
+unfolding net_of
+returns-in-token c =
+    let first : first_of c.args.fields.now ≡ Some (codes "token") = sym c.in-Some.ensures.first ∙ ap Some c.in-token.is in
+    rw (by-first net_by c.args.fields.now (codes "token") first) (rw c.next.ensures.rest at c.parse_net_token.ensures)
+
+pub returns-in-untoken : goal.returns-in-untoken
+unfolding net_of
+returns-in-untoken c =
+    let first : first_of c.args.fields.now ≡ Some (codes "untoken") = sym c.in-Some.ensures.first ∙ ap Some c.in-untoken.is in
+    rw (by-first net_by c.args.fields.now (codes "untoken") first) (rw c.next.ensures.rest at c.parse_net_untoken.ensures)
