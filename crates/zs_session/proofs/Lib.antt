@@ -5,6 +5,7 @@ pub mod PlainSends
 pub mod PlainValues
 pub mod PlainGets
 pub mod PlainAnswers
+pub mod PlainLiveliness
 pub mod Telling
 pub mod Scripts
 pub mod Soaking

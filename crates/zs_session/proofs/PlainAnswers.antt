@@ -51,7 +51,7 @@ value_reply_quiet a key v quality body text texts named plain = go v.row.local
         (reply_plain text (quality_of quality v.row.qos) (Some (replier_of a.zid v.queryable)) body named plain)
     go false = (
       and_from (is_plain_text wire.suffix) (is_plain_text body.encoding && true) (wire_plain a.keys text (declaration_of a.keys text key) texts named)
-      (and_from (is_plain_text body.encoding) true plain refl),
+          (and_from (is_plain_text body.encoding) true plain refl),
       tt,
     )
 
@@ -77,7 +77,7 @@ error_quiet a (Some v) error drew plain = go v.row.local
     go true = open_error_quiet a v error (get_at v.row.rid a.gets) plain
     go false = (
       and_from (is_plain_text (chars v.row.key.text)) (is_plain_text error.encoding && true) (chars_plain v.row.key.text drew.0)
-      (and_from (is_plain_text error.encoding) true plain refl),
+          (and_from (is_plain_text error.encoding) true plain refl),
       tt,
     )
 

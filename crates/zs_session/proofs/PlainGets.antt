@@ -30,7 +30,7 @@ use Rattle.zs_wire.specs.declared.request.ConsolidationMode.TheVariants as by
 use Rattle.zs_events.specs.declared.event.Event.{Event}
 use Rattle.zs_events.specs.declared.event.Event.TheVariants.{Get, Net}
 use Rattle.zs_events.specs.declared.turn.Effect.TheVariants.{Send}
-use Rattle.zs_events.specs.Kinds.{NamedKey, Question, ToGets, NoGet, Asks, Answers, EndsSide, Reaches, EndsAll, ReplyQuality, ToValues, AnswersBy, GivesBack, value_texts, response_texts, row_of}
+use Rattle.zs_events.specs.Kinds.{NamedKey, Question, ToGets, NoGet, Asks, AsksBy, Answers, EndsSide, Reaches, EndsQuerier, Cancels, EndsAll, ReplyQuality, ToValues, AnswersBy, GivesBack, value_texts, response_texts, row_of}
 use Rattle.zs_core.specs.declared.settings.Settings.{Settings}
 use Rattle.zs_core.specs.Entry.{Entry}
 use Rattle.zs_core.specs.Live.{appended}
@@ -38,8 +38,11 @@ use Rattle.zs_core.specs.Publications.{handed_encoding}
 use Rattle.zs_core.specs.Sends.{OwnKeys, wire_form, declaration_of}
 use Rattle.zs_core.specs.Questions.{is_some_met, parameters_of, sent_value, request_of}
 use Rattle.zs_core.specs.Gets.{sample_reply, response_news, news_by, news_of, own_news, asked_by, moment_of, asked, open_now}
-use Rattle.zs_core.specs.GetEffects.{hand_reply, end_get, hand_query, request_sends, ask_effects, asked_effects, reply_effects, response_effects, final_effects, last_hands, told_effects, request_effects}
-use Rattle.zs_core.specs.Live.{live_queryables}
+use Rattle.zs_core.specs.GetEffects.{hand_reply, end_get, hand_query, request_sends, ask_effects, asked_effects, reply_effects, response_effects, final_effects, last_hands, ended_numbers, told_effects, request_effects}
+use Rattle.zs_core.specs.Live.{live_queryables, to_gets_of}
+use Rattle.zs_core.specs.LivelinessEffects.{hand_answer, end_asking, cancelled_ends, asking_ends}
+use Rattle.zs_tables.specs.LivelinessGets.{over_at, numbers_with}
+use Rattle.zs_tables.specs.declared.liveliness_get.LivelinessGet.{LivelinessGet}
 use Rattle.zs_core.specs.Replies.{reply_on}
 use Rattle.zs_core.specs.Answers.{quality_of, replier_of, local_reply, news_of_reply, news_of_finished, news_by_value}
 use Rattle.zs_core.specs.Values.{met_by_get, values_now}
@@ -54,7 +57,7 @@ use Rattle.zs_wire.specs.declared.quality.QoSType.{QoSType}
 use Rattle.zs_script.specs.Plain.{is_plain, is_plain_text, is_field_text, is_plain_key, is_plain_named, is_plain_outcome, is_plain_event, message_texts}
 use Rattle.zs_session.proofs.Cutting.{all_append}
 use Rattle.zs_session.proofs.PlainKeys.{IsText, AllPlain, PlainPast, plain_encoding, plain_handed, filter_all, found_all}
-use Rattle.zs_session.proofs.PlainValues.{PlainToGets, PlainToValues, PlainValue, gets_plain, does_plain, queries_quiet}
+use Rattle.zs_session.proofs.PlainValues.{PlainToGets, PlainToValues, PlainValue, to_plain, does_plain, queries_quiet}
 use Rattle.zs_session.proofs.PlainParameters.{all_map, parameters_text}
 use Rattle.zs_session.proofs.PlainSends.{IsQuiet, AreQuiet, AreTexts, chars_plain, wire_plain}
 
@@ -153,11 +156,11 @@ all_appended P xs (y ∷ ys) first second = all_append P xs (y ∷ ys) first sec
 asked_plain : (s : Settings) (past : List Entry) → PlainPast past → AllByRecursion PlainAsked (asked s past)
 asked_plain s [] all = tt
 asked_plain s (x ∷ past) all =
-    let to = (row_of x.event).to_gets in
+    let to = to_gets_of past x.event in
     let does = (row_of x.event).to_values in
     let news = news_of s.zid (values_now past) to does x.text in
     all_appended PlainAsked (heard news (asked s past)) (asked_by s.default_timeout (moment_of past) (live_queryables past) to x.number x.text)
-    (heard_plain news (asked s past) (all_news_plain s.zid (values_now past) to does x.text all.0.0 (gets_plain x.event all.0.1) (does_plain x.event all.0.1)) (asked_plain s past all.1))
+    (heard_plain news (asked s past) (all_news_plain s.zid (values_now past) to does x.text all.0.0 (to_plain past x.event all.0.1) (does_plain x.event all.0.1)) (asked_plain s past all.1))
     (new_plain s.default_timeout (moment_of past) (live_queryables past) to x.number x.text)
 
 -- the replies that reached a get, and those that it keeps
@@ -243,19 +246,42 @@ last_quiet (g ∷ gets) all =
     (hands_quiet g.row.number (g.kept ++ timeout_error ∷ []) (all_append PlainReply g.kept (timeout_error ∷ []) all.0 (timeout_plain, tt)))
     (last_quiet gets all.1)
 
+-- the gets of tokens whose deadline is reached, and the ends of others
+timeouts_quiet : (numbers : List ℕ) → AreQuiet (map (hand_answer timeout_error) numbers)
+timeouts_quiet [] = tt
+timeouts_quiet (number ∷ numbers) = (timeout_plain, timeouts_quiet numbers)
+
+asking_quiet : (numbers : List ℕ) → AreQuiet (map end_asking numbers)
+asking_quiet [] = tt
+asking_quiet (number ∷ numbers) = (tt, asking_quiet numbers)
+
 -- what an event that asks nothing brings about for gets
-pub told_quiet : (gets : List OpenGet) (text : Option (List ℕ)) (to : ToGets) → AllByRecursion PlainGet gets → IfSome text IsText → PlainToGets to
-    → AreQuiet (told_effects gets text to)
-told_quiet gets text NoGet all named plain = tt
-told_quiet gets text (Asks question) all named plain = tt
-told_quiet gets text (Answers response) all named plain = response_quiet gets response response.answered text named plain
-told_quiet gets text (EndsSide number) all named plain =
+pub told_quiet : (gets : List OpenGet) (asking : List LivelinessGet) (text : Option (List ℕ)) (to : ToGets) → AllByRecursion PlainGet gets → IfSome text IsText → PlainToGets to
+    → AreQuiet (told_effects gets asking text to)
+told_quiet gets asking text NoGet all named plain = tt
+told_quiet gets asking text (Asks question) all named plain = tt
+told_quiet gets asking text (AsksBy id question) all named plain = tt
+told_quiet gets asking text (Answers response) all named plain = response_quiet gets response response.answered text named plain
+told_quiet gets asking text (EndsSide number) all named plain =
     final_quiet Network number (get_at number gets) (found_all PlainGet (λ g. g.row.number == number) gets all)
-told_quiet gets text (Reaches moment) all named plain =
+told_quiet gets asking text (Reaches moment) all named plain =
     let due = filter (is_due moment) gets in
-    all_append IsQuiet (flat_map last_hands (map end_of due)) (map end_get (map (λ end. end.0) (map end_of due)))
-    (last_quiet due (filter_all PlainGet (is_due moment) gets all)) (ends_quiet (map (λ end. end.0) (map end_of due)))
-told_quiet gets text EndsAll all named plain = ends_quiet (map (λ g. g.row.number) gets)
+    let over = over_at moment asking in
+    let ends = map end_get (map (λ end. end.0) (map end_of due)) in
+    let kept = flat_map last_hands (map end_of due) in
+    let errors = map (hand_answer timeout_error) over in
+    all_append IsQuiet (kept ++ errors ++ ends) (map end_asking over)
+    (all_append IsQuiet (kept ++ errors) ends
+    (all_append IsQuiet kept errors (last_quiet due (filter_all PlainGet (is_due moment) gets all)) (timeouts_quiet over))
+    (ends_quiet (map (λ end. end.0) (map end_of due))))
+    (asking_quiet over)
+told_quiet gets asking text (EndsQuerier id) all named plain = ends_quiet (ended_numbers (QuerierEnds id) gets)
+told_quiet gets asking text (Cancels token) all named plain =
+    all_append IsQuiet (map end_get (ended_numbers (CancelledBy token) gets)) (cancelled_ends token asking) (ends_quiet (ended_numbers (CancelledBy token) gets))
+    (asking_quiet (numbers_with token asking))
+told_quiet gets asking text EndsAll all named plain =
+    all_append IsQuiet (map end_get (map (λ g. g.row.number) gets)) (asking_ends asking) (ends_quiet (map (λ g. g.row.number) gets))
+    (asking_quiet (map (λ g. g.number) asking))
 
 -- the request of a get
 value_plain : (o : Option Value) → AllPlain (value_texts o) → list_all is_plain_text (value_texts (option_map sent_value o)) ≡ true

@@ -6,11 +6,11 @@ use Rattle.std.specs.Str.{IsUtf8, all_scalars}
 use Rattle.std.proofs.lemmas.Bool.{and_parts}
 use Rattle.std.proofs.lemmas.Str.{IsUtf8-append}
 use Rattle.zs_events.specs.declared.event.Event.{Event}
-use Rattle.zs_events.specs.declared.event.Event.TheVariants.{Pub, Put, Delete, PublisherPut, PublisherDelete, Net}
+use Rattle.zs_events.specs.declared.event.Event.TheVariants.{Pub, Querier, Put, Delete, PublisherPut, PublisherDelete, Net}
 use Rattle.zs_events.specs.declared.event.KeyArg.{KeyArg}
 use Rattle.zs_events.specs.declared.event.KeyArg.TheVariants.{Text, Number, Declared}
 use Rattle.zs_core.specs.declared.settings.Settings.{Settings}
-use Rattle.zs_events.specs.declared.turn.Kind.TheVariants.{Publisher}
+use Rattle.zs_events.specs.declared.turn.Kind.TheVariants.{Publisher, Querier as querier_kind}
 use Rattle.zs_events.specs.declared.turn.Refusal.{Refusal}
 use Rattle.zs_sample.specs.Encoding.{encoding_of}
 use Rattle.zs_wire.specs.declared.message.Message.TheVariants.{Push}
@@ -19,15 +19,17 @@ use Rattle.zs_wire.specs.declared.sample_kind.SampleKind.TheVariants.{Put as put
 use Rattle.zs_wire.specs.declared.wire_expr.Mapping.{Mapping}
 use Rattle.zs_wire.specs.declared.wire_expr.Mapping.TheVariants.{Sender, Receiver}
 use Rattle.zs_wire.specs.declared.wire_expr.WireExpr.{WireExpr}
-use Rattle.zs_events.specs.Kinds.{NamedKey, NoKey, OwnKey, PublisherKey, WireKey, PublisherContent, Publishes, NoContent, OwnContent, ByPublisher, default_encoding, text_if, row_of}
+use Rattle.zs_events.specs.Kinds.{NamedKey, NoKey, OwnKey, PublisherKey, QuerierKey, WireKey, PublisherContent, Publishes, NoContent, OwnContent, ByPublisher, default_encoding, text_if, row_of}
 use Rattle.zs_core.specs.Entry.{Entry, is_closed}
 use Rattle.std.specs.Option.{option_or}
 use Rattle.zs_core.specs.Held.{declares_number, tells_number, is_held, drawn_text, held_text, key_text, told_text, mapped_text, wire_text, text_named, named_text}
 use Rattle.zs_core.specs.Causes.{refusal_of}
 use Rattle.zs_core.specs.declared.publisher.PubRow.{PubRow}
-use Rattle.zs_core.specs.Live.{appended, declared, is_live, live_pubs}
+use Rattle.zs_core.specs.declared.querier.QuerierRow.{QuerierRow}
+use Rattle.zs_core.specs.Live.{appended, declared, is_live, live_pubs, live_queriers}
 use Rattle.zs_core.specs.Publications.{handed_encoding}
 use Rattle.zs_core.specs.Publishers.{pub_row, pub_at, content_of, resolved}
+use Rattle.zs_core.specs.Queriers.{querier_row, querier_at}
 use Rattle.zs_session.proofs.Cutting.{all_append}
 use Rattle.zs_core.specs.Past.{entry_of, with_entry, past_of}
 use Rattle.zs_script.specs.Plain.{is_plain, is_plain_text, is_field_text, is_plain_key, is_plain_named, is_plain_event}
@@ -120,17 +122,33 @@ pub_plain : (e : Event) (number : Option ℕ) (text : Option (List ℕ)) → IfS
 pub_plain (Pub destination key encoding qos reliable) (Some number) (Some text) named plain = ((named, last_plain (is_plain_key key) encoding plain), tt)
 pub_plain e number text named plain = tt
 
-declared_plain : (past : List Entry) → PlainPast past → PlainPubs (declared pub_row past)
-declared_plain [] all = tt
-declared_plain (x ∷ past) all = go (pub_row x.event x.number x.text) (declared_plain past all.1) (pub_plain x.event x.number x.text all.0.0 all.0.1)
-  where
-    go : (rows : List PubRow) → PlainPubs (declared pub_row past) → PlainPubs rows → PlainPubs (appended (declared pub_row past) rows)
-    go [] before here = before
-    go (row ∷ rows) before here = all_append PlainPub (declared pub_row past) (row ∷ rows) before here
+-- the text of a querier is plain
+abbrev pub PlainQuerier : QuerierRow → Type 0
+PlainQuerier row = IsText row.key.text
 
--- the live publishers of a plain past are plain
+querier_plain : (e : Event) (number : Option ℕ) (text : Option (List ℕ)) → IfSome text IsText → is_plain_event e ≡ true → AllByRecursion PlainQuerier (querier_row e number text)
+querier_plain (Querier destination key target consolidation timeout qos any_key) (Some number) (Some text) named plain = (named, tt)
+querier_plain e number text named plain = tt
+
+-- all that was ever declared of a sort is plain, where each of its declarations is
+declared_plain : {R : Type 0} (P : R → Type 0) (of : Event → Option ℕ → Option (List ℕ) → List R)
+    → ((e : Event) (number : Option ℕ) (text : Option (List ℕ)) → IfSome text IsText → is_plain_event e ≡ true → AllByRecursion P (of e number text))
+    → (past : List Entry) → PlainPast past → AllByRecursion P (declared of past)
+declared_plain P of each [] all = tt
+declared_plain {R} P of each (x ∷ past) all =
+    go (of x.event x.number x.text) (declared_plain P of each past all.1) (each x.event x.number x.text all.0.0 all.0.1)
+  where
+    go : (rows : List R) → AllByRecursion P (declared of past) → AllByRecursion P rows → AllByRecursion P (appended (declared of past) rows)
+    go [] before here = before
+    go (row ∷ rows) before here = all_append P (declared of past) (row ∷ rows) before here
+
+-- the live publishers of a plain past are plain, and its live queriers
 pub pubs_plain : (past : List Entry) → PlainPast past → PlainPubs (live_pubs past)
-pubs_plain past all = filter_all PlainPub (λ row. is_live Publisher row.id past) (declared pub_row past) (declared_plain past all)
+pubs_plain past all = filter_all PlainPub (λ row. is_live Publisher row.id past) (declared pub_row past) (declared_plain PlainPub pub_row pub_plain past all)
+
+queriers_plain : (past : List Entry) → PlainPast past → AllByRecursion PlainQuerier (live_queriers past)
+queriers_plain past all =
+    filter_all PlainQuerier (λ row. is_live querier_kind row.id past) (declared querier_row past) (declared_plain PlainQuerier querier_row querier_plain past all)
 
 drawn_plain : (n : ℕ) (past : List Entry) → PlainPast past → IfSome (drawn_text n past) IsText
 drawn_plain n [] all = tt
@@ -186,6 +204,12 @@ named_plain past (PublisherKey id) all plain = go (pub_at id (live_pubs past)) (
     go : (o : Option PubRow) → IfSome o PlainPub → IfSome (option_map (λ row. row.key.text) o) IsText
     go None row = tt
     go (Some row) found = found.0
+named_plain past (QuerierKey id) all plain =
+    go (querier_at id (live_queriers past)) (found_all PlainQuerier (λ row. row.id == id) (live_queriers past) (queriers_plain past all))
+  where
+    go : (o : Option QuerierRow) → IfSome o PlainQuerier → IfSome (option_map (λ row. row.key.text) o) IsText
+    go None row = tt
+    go (Some row) found = found
 named_plain past (WireKey wire) all plain = wire_plain past wire all plain
 
 pub text_plain : (past : List Entry) (e : Event) → PlainPast past → is_plain_event e ≡ true → IfSome (named_text past e) IsText

@@ -9,42 +9,45 @@ use Rattle.std.proofs.lemmas.List.{length-take}
 use Rattle.std.proofs.lemmas.Str.{IsUtf8-drop, IsCharBoundary-from_take, encodes-chars}
 use Rattle.zs_keys.specs.declared.declaration.Declared.{Declared}
 use Rattle.zs_wire.specs.declared.message.Message.{Message}
-use Rattle.zs_wire.specs.declared.message.Message.TheVariants.{DeclareKeyExpr, UndeclareKeyExpr, DeclareSubscriber, DeclareQueryable, UndeclareQueryable, Interest}
-use Rattle.zs_wire.specs.declared.interest.InterestMode.TheVariants.{CurrentFuture}
-use Rattle.zs_wire.specs.declared.interest.InterestWhat.TheVariants.{Subscribers as of_subscribers}
+use Rattle.zs_wire.specs.declared.message.Message.TheVariants.{DeclareKeyExpr, UndeclareKeyExpr, DeclareSubscriber, DeclareQueryable, UndeclareQueryable, DeclareToken, UndeclareToken, Interest}
+use Rattle.zs_wire.specs.declared.interest.InterestMode.TheVariants.{CurrentFuture, Current, Final}
+use Rattle.zs_wire.specs.declared.interest.InterestWhat.TheVariants.{Subscribers as of_subscribers, Queryables as of_queryables, Tokens as of_tokens}
 use Rattle.zs_wire.specs.declared.wire_expr.WireExpr.{WireExpr}
 use Rattle.zs_tables.specs.declared.group_kind.GroupKind.{GroupKind}
-use Rattle.zs_tables.specs.declared.group_kind.GroupKind.TheVariants.{Subscribers, Publishers}
+use Rattle.zs_tables.specs.declared.group_kind.GroupKind.TheVariants.{Subscribers, Publishers, Queriers}
 use Rattle.zs_tables.specs.Recipients.{has_network}
 use Rattle.zs_tables.specs.declared.queryable.QueryableRow.{QueryableRow}
 use Rattle.zs_keys.specs.Key.{Key as a_key}
 use Rattle.zs_keys.specs.Matching.{includes}
 use Rattle.zs_events.specs.declared.event.Event.{Event}
-use Rattle.zs_events.specs.declared.event.Event.TheVariants.{Key, UndeclareKey, Sub, Pub, Queryable, Undeclare, Close}
-use Rattle.zs_events.specs.declared.event.EntityKind.TheVariants.{Sub as sub_kind, Pub as pub_kind, Queryable as queryable_kind}
+use Rattle.zs_events.specs.declared.event.Event.TheVariants.{Key, UndeclareKey, Sub, Pub, Queryable, Querier, Token, Lsub, LivelinessGet, Undeclare, Close}
+use Rattle.zs_events.specs.declared.event.EntityKind.TheVariants.{Sub as sub_kind, Pub as pub_kind, Queryable as queryable_kind, Querier as querier_kind, Token as token_kind, Lsub as lsub_kind}
 use Rattle.zs_events.specs.declared.event.KeyArg.{KeyArg}
 use Rattle.zs_events.specs.declared.event.KeyArg.TheVariants.{Text, Number, Declared as declared_text}
 use Rattle.zs_events.specs.declared.turn.Effect.{Effect}
 use Rattle.zs_events.specs.declared.turn.Effect.TheVariants.{Send, Hand, End}
 use Rattle.zs_events.specs.declared.turn.HandOver.TheVariants.{Sample, Reply, Query}
+use Rattle.zs_events.specs.declared.turn.Kind.TheVariants.{LivelinessSubscriber}
 use Rattle.zs_events.specs.Kinds.{NamedKey, Publishes, NoContent, OwnContent, ByPublisher, row_of}
 use Rattle.zs_core.specs.declared.publisher.PubRow.{PubRow}
-use Rattle.zs_core.specs.Groups.{Company, Shared, aggregate_of, sub_shared, pub_shared, joins_first, last_number, sends_if, last_sends, leaving, subscriber_end, interest_end}
+use Rattle.zs_core.specs.Groups.{Company, Shared, aggregate_of, sub_shared, pub_shared, querier_shared, joins_first, last_number, sends_if, last_sends, leaving, subscriber_end, interest_end, querier_end}
 use Rattle.zs_core.specs.Publishers.{pub_at, resolved}
 use Rattle.zs_core.specs.Subscribers.{sub_at}
 use Rattle.zs_core.specs.Queryables.{queryable_at}
-use Rattle.zs_core.specs.Effects.{Known, key_wire, queryable_leaves, entity_sends}
+use Rattle.zs_core.specs.Queriers.{querier_at}
+use Rattle.zs_core.specs.Effects.{Known, key_wire, queryable_leaves, declared_sends, lsub_mode, token_interest, token_declaration, entity_sends}
 use Rattle.zs_core.specs.Sends.{OwnKeys, group_wire, declared_by, has_front, goes_by_number, full_wire, number_wire, wire_form, declaration_of, key_sends, return_sends, return_sends_of, is_sent, push_with, publication_sends, sends_of}
 use Rattle.zs_script.specs.Pieces.{written}
-use Rattle.zs_script.specs.Printing.{replied_pieces, queried_pieces, effect_fields}
-use Rattle.zs_script.specs.Plain.{is_plain, is_plain_text, is_plain_outcome, is_plain_query, is_plain_effect, message_texts}
+use Rattle.zs_script.specs.Printing.{hand_pieces, replied_pieces, queried_pieces, effect_fields}
+use Rattle.zs_script.specs.Plain.{is_plain, is_plain_text, is_plain_sample, is_plain_outcome, is_plain_query, is_plain_effect, message_texts}
 use Rattle.zs_session.specs.Telling.{are_plain_keys, tells}
 use Rattle.zs_session.proofs.Cutting.{all_append}
 use Rattle.zs_session.proofs.PlainKeys.{IsText, PlainContent, found_all}
 
--- an effect that hands out no sample, with plain texts
+-- an effect that hands no sample out but to a subscriber to liveliness, with plain texts
 abbrev pub IsQuiet : Effect → Type 0
 IsQuiet (Send message) = list_all is_plain_text (message_texts message) ≡ true
+IsQuiet (Hand (Sample LivelinessSubscriber id sample)) = is_plain_sample sample ≡ true
 IsQuiet (Hand (Sample kind id sample)) = ⊥
 IsQuiet (Hand (Reply kind id reply)) = is_plain_outcome reply.result ≡ true
 IsQuiet (Hand (Query id value query)) = is_plain_query query ≡ true
@@ -55,8 +58,9 @@ AreQuiet fx = AllByRecursion IsQuiet fx
 
 -- none of them tells
 quiet_one : (f : Effect) → IsQuiet f → tells (effect_fields f) ≡ false
-unfolding written replied_pieces queried_pieces
+unfolding written hand_pieces replied_pieces queried_pieces
 quiet_one (Send message) plain = refl
+quiet_one (Hand (Sample LivelinessSubscriber id sample)) plain = refl
 quiet_one (Hand (Sample kind id sample)) plain = absurd plain
 quiet_one (Hand (Reply kind id reply)) plain = refl
 quiet_one (Hand (Query id value query)) plain = refl
@@ -69,6 +73,7 @@ quiet_tell (f ∷ fx) all = rw (quiet_one f all.0) (quiet_tell fx all.1)
 -- and all are plain
 quiet_plain : (f : Effect) → IsQuiet f → is_plain_effect f ≡ true
 quiet_plain (Send message) plain = plain
+quiet_plain (Hand (Sample LivelinessSubscriber id sample)) plain = plain
 quiet_plain (Hand (Sample kind id sample)) plain = absurd plain
 quiet_plain (Hand (Reply kind id reply)) plain = plain
 quiet_plain (Hand (Query id value query)) plain = plain
@@ -200,6 +205,24 @@ publisher_left c (Some x) = go (last_number c x)
     go None = tt
     go (Some number) = (refl, tt)
 
+querier_left : (c : Company) (o : Option Shared) → AreQuiet (leaving c querier_end o)
+querier_left c None = tt
+querier_left c (Some x) = go (last_number c x)
+  where
+    go : (o : Option ℕ) → AreQuiet (last_sends querier_end o)
+    go None = tt
+    go (Some number) = (refl, tt)
+
+-- what is sent of liveliness where it is declared, where the message has no text but its key's
+declared_sent : (message : ℕ → WireExpr → Message) (k : OwnKeys) (number : Option ℕ) (text : Option (List ℕ)) (key : KeyArg)
+    → ((id : ℕ) (wire : WireExpr) → message_texts (message id wire) ≡ wire.suffix ∷ []) → AreTexts k → IfSome text IsText
+    → AreQuiet (declared_sends message k number text key)
+declared_sent message k (Some id) (Some text) key texts all named =
+    let wire = key_wire k text key in
+    (ap (list_all is_plain_text) (texts id wire) ∙ and_from (is_plain_text wire.suffix) true (wire_plain k text (declared_by k text key) all named) refl, tt)
+declared_sent message k None text key texts all named = tt
+declared_sent message k (Some id) None key texts all named = tt
+
 queryable_left : (o : Option QueryableRow) → AreQuiet (queryable_leaves o)
 queryable_left None = tt
 queryable_left (Some row) = sent_if (has_network row.origin) (UndeclareQueryable row.id) refl
@@ -228,6 +251,20 @@ entity_sent known (Queryable origin complete key) (Some id) (Some text) all shar
     sent_if (has_network origin) (DeclareQueryable id complete wire)
     (and_from (is_plain_text wire.suffix) true (wire_plain known.keys text (declared_by known.keys text key) all named) refl)
 entity_sent known (Undeclare queryable_kind id) number text all shared named = queryable_left (queryable_at id known.queryables)
+entity_sent known (Querier destination key target consolidation timeout qos any_key) (Some id) (Some text) all shared named =
+    let wire = key_wire known.keys text key in
+    sent_if (joins_first (known.company Queriers) (record { id = id; told = has_network destination; text = text }))
+    (Interest id CurrentFuture of_queryables (Some wire))
+    (and_from (is_plain_text wire.suffix) true (wire_plain known.keys text (declared_by known.keys text key) all named) refl)
+entity_sent known (Undeclare querier_kind id) number text all shared named =
+    querier_left (known.company Queriers) (option_map querier_shared (querier_at id known.queriers))
+entity_sent known (Token key) number text all shared named = declared_sent token_declaration known.keys number text key (λ id wire. refl) all named
+entity_sent known (Undeclare token_kind id) number text all shared named = (refl, tt)
+entity_sent known (Lsub history key) number text all shared named =
+    declared_sent (token_interest (lsub_mode history)) known.keys number text key (λ id wire. refl) all named
+entity_sent known (Undeclare lsub_kind id) number text all shared named = (refl, tt)
+entity_sent known (LivelinessGet key timeout token) number text all shared named =
+    declared_sent (token_interest Current) known.keys number text key (λ id wire. refl) all named
 entity_sent known e number text all shared named = tt
 
 -- all that an event sends

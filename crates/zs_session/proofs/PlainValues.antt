@@ -16,10 +16,14 @@ use Rattle.zs_query.specs.Unfinished.{value_at, values_from}
 use Rattle.zs_query.specs.RequestTable.{Handing}
 use Rattle.zs_query.specs.Drawn.{ValueNews, Drew, GaveBack, Drawn, just_drawn, giving_back, drawn, is_unfinished, unfinished}
 use Rattle.zs_events.specs.declared.event.Event.{Event}
-use Rattle.zs_events.specs.declared.event.Event.TheVariants.{Get, Net, Reply as reply_event, ReplyDelete, ReplyErr}
-use Rattle.zs_events.specs.Kinds.{Question, ToGets, NoGet, Asks, Answers, ToValues, Requested, AnswersBy, AnswersError, SharesValue, GivesBack, text_if, value_texts, response_key, response_texts, row_of}
+use Rattle.zs_events.specs.declared.event.Event.TheVariants.{Get, QuerierGet, Undeclare, Net, Reply as reply_event, ReplyDelete, ReplyErr}
+use Rattle.zs_events.specs.declared.event.EntityKind.{EntityKind}
+use Rattle.zs_events.specs.declared.event.EntityKind.TheVariants.{Sub as sub_kind, Pub as pub_kind, Queryable as queryable_kind, Querier as querier_kind, Token as token_kind, Lsub as lsub_kind}
+use Rattle.zs_events.specs.Kinds.{Question, QuerierQuestion, ToGets, NoGet, Asks, AsksBy, Answers, gets_ended, ToValues, Requested, AnswersBy, AnswersError, SharesValue, GivesBack, text_if, value_texts, response_key, response_texts, row_of}
 use Rattle.zs_core.specs.Entry.{Entry}
-use Rattle.zs_core.specs.Live.{live_queryables}
+use Rattle.zs_core.specs.declared.querier.QuerierRow.{QuerierRow}
+use Rattle.zs_core.specs.Queriers.{querier_at, asks_of, to_gets_by}
+use Rattle.zs_core.specs.Live.{live_queryables, live_queriers, to_gets_of}
 use Rattle.zs_core.specs.Questions.{parameters_of, sent_value}
 use Rattle.zs_core.specs.Values.{met_by_get, met_by_request, get_request, network_request, share_of, drawn_by, news_by_draw, times_handed, handing_by, value_news, values_now}
 use Rattle.zs_core.specs.GetEffects.{hand_query}
@@ -32,18 +36,44 @@ use Rattle.zs_session.proofs.PlainSends.{IsQuiet, AreQuiet}
 -- what an event is to gets, with plain texts
 abbrev pub PlainToGets : ToGets → Type 0
 PlainToGets (Asks q) = (is_field_text q.parameters ≡ true) × AllPlain (value_texts q.value)
+PlainToGets (AsksBy id q) = (is_field_text q.parameters ≡ true) × AllPlain (value_texts q.value)
 PlainToGets (Answers response) = AllPlain (response_texts response.answered)
 PlainToGets to = Unit {0}
 
-pub gets_plain : (e : Event) → is_plain_event e ≡ true → PlainToGets (row_of e).to_gets
-gets_plain (Get destination key parameters target consolidation timeout value qos source attachment any_key) plain =
+ended_plain : (kind : EntityKind) (id : ℕ) → PlainToGets (gets_ended kind id)
+ended_plain sub_kind id = tt
+ended_plain pub_kind id = tt
+ended_plain queryable_kind id = tt
+ended_plain querier_kind id = tt
+ended_plain token_kind id = tt
+ended_plain lsub_kind id = tt
+
+gets_plain : (e : Event) → is_plain_event e ≡ true → PlainToGets (row_of e).to_gets
+gets_plain (Get destination key parameters target consolidation timeout value qos source attachment any_key token) plain =
     let texts = (and_parts (is_plain_key key) (is_field_text parameters && list_all is_field_text (value_texts value)) plain).1 in
     let parts = and_parts (is_field_text parameters) (list_all is_field_text (value_texts value)) texts in
     (parts.0, texts_plain (value_texts value) parts.1)
+gets_plain (QuerierGet id parameters value source attachment token) plain =
+    let parts = and_parts (is_field_text parameters) (list_all is_field_text (value_texts value)) plain in
+    (parts.0, texts_plain (value_texts value) parts.1)
+gets_plain (Undeclare kind id) plain = ended_plain kind id
 gets_plain (Net (response_message response)) plain =
     let named = is_plain_named (response_key response.answered response.wire) in
     texts_plain (response_texts response.answered) (and_parts named (list_all is_field_text (response_texts response.answered)) plain).1
 gets_plain e plain = tt
+
+-- a get of a querier has no text but its own
+asked_by_querier : (q : QuerierQuestion) (o : Option QuerierRow) → (is_field_text q.parameters ≡ true) × AllPlain (value_texts q.value) → PlainToGets (asks_of q o)
+asked_by_querier q None plain = tt
+asked_by_querier q (Some row) plain = plain
+
+by_plain : (rows : List QuerierRow) (to : ToGets) → PlainToGets to → PlainToGets (to_gets_by rows to)
+by_plain rows (AsksBy id q) plain = asked_by_querier q (querier_at id rows) plain
+by_plain rows to plain = plain
+
+-- so all is plain that a plain event is to gets
+pub to_plain : (past : List Entry) (e : Event) → is_plain_event e ≡ true → PlainToGets (to_gets_of past e)
+to_plain past e plain = by_plain (live_queriers past) (row_of e).to_gets (gets_plain e plain)
 
 -- what an event does with query values, with plain texts
 abbrev pub PlainToValues : ToValues → Type 0
@@ -125,10 +155,10 @@ news_drawn [] all = tt
 news_drawn (x ∷ past) all =
     let h = handing_by (times_handed past) (value_news past) in
     let before = news_drawn past all.1 in
-    heard_drawn (row_of x.event).to_gets (row_of x.event).to_values
-    (drawn_by (live_queryables past) h (row_of x.event).to_gets (row_of x.event).to_values x.number x.text) (value_news past) before
-    (drawn_plain (live_queryables past) h (row_of x.event).to_gets (row_of x.event).to_values x.number x.text (unfinished_plain (value_news past) before)
-    all.0.0 (gets_plain x.event all.0.1) (does_plain x.event all.0.1))
+    heard_drawn (to_gets_of past x.event) (row_of x.event).to_values
+    (drawn_by (live_queryables past) h (to_gets_of past x.event) (row_of x.event).to_values x.number x.text) (value_news past) before
+    (drawn_plain (live_queryables past) h (to_gets_of past x.event) (row_of x.event).to_values x.number x.text (unfinished_plain (value_news past) before)
+    all.0.0 (to_plain past x.event all.0.1) (does_plain x.event all.0.1))
 
 -- the unfinished values of a plain past are plain
 pub values_plain : (past : List Entry) → PlainPast past → AllByRecursion PlainValue (values_now past)

@@ -7,7 +7,7 @@ use Rattle.std.proofs.lemmas.List.{append-nil, map-append}
 use Rattle.std.proofs.lemmas.List.Elements.{filter-append}
 use Rattle.zs_events.specs.declared.event.Event.{Event}
 use Rattle.zs_events.specs.declared.event.Event.TheVariants.{Undeclare, Put, Delete, PublisherPut, PublisherDelete, Close, Net}
-use Rattle.zs_events.specs.declared.event.EntityKind.TheVariants.{Sub as sub_kind, Pub as pub_kind, Queryable as queryable_kind}
+use Rattle.zs_events.specs.declared.event.EntityKind.TheVariants.{Sub as sub_kind, Pub as pub_kind, Queryable as queryable_kind, Querier as querier_kind, Token as token_kind, Lsub as lsub_kind}
 use Rattle.zs_tables.specs.declared.group_kind.GroupKind.TheVariants.{Subscribers, Publishers, Queriers}
 use Rattle.zs_wire.specs.declared.message.Message.TheVariants.{Push}
 use Rattle.zs_core.specs.declared.settings.Settings.{Settings}
@@ -21,10 +21,13 @@ use Rattle.zs_events.specs.declared.turn.Turn.{Turn}
 use Rattle.zs_tables.specs.declared.subscriber.SubRow.{SubRow}
 use Rattle.zs_tables.specs.declared.queryable.QueryableRow.{QueryableRow}
 use Rattle.zs_events.specs.Turn.{answered}
-use Rattle.zs_events.specs.Kinds.{Content, Publishes, NoContent, OwnContent, ByPublisher, ToGets, NoGet, Asks, Answers, EndsSide, Reaches, EndsAll, ToValues, NoValue, Requested, AnswersBy, AnswersError, SharesValue, GivesBack, row_of}
+use Rattle.zs_events.specs.Kinds.{Content, Publishes, NoContent, OwnContent, ByPublisher, ToGets, NoGet, Asks, AsksBy, Answers, EndsSide, Reaches, EndsQuerier, Cancels, EndsAll, ToValues, NoValue, Requested, AnswersBy, AnswersError, SharesValue, GivesBack, row_of}
 use Rattle.zs_core.specs.Entry.{Entry, is_closed}
 use Rattle.zs_core.specs.Held.{named_text}
-use Rattle.zs_core.specs.Live.{live_subs, live_pubs, live_queryables}
+use Rattle.zs_core.specs.Live.{live_subs, live_pubs, live_queryables, live_lsubs, to_gets_of}
+use Rattle.zs_core.specs.Tokens.{asking_now}
+use Rattle.zs_core.specs.LivelinessEffects.{watch_effects, lsub_ends}
+use Rattle.zs_tables.specs.declared.liveliness_sub.LivelinessSub.{LivelinessSub}
 use Rattle.zs_core.specs.Subscribers.{sub_ends}
 use Rattle.zs_core.specs.Queryables.{queryable_ends}
 use Rattle.zs_core.specs.Publications.{Publication, allows, sample_on}
@@ -48,9 +51,10 @@ use Rattle.zs_session.specs.Script.{text_after}
 use Rattle.zs_session.specs.Telling.{are_plain_keys, has_plain_aggregates, plain_line, tells, tells_behind, is_telling, told, published, hand_lines, refusal_or, event_lines, lines_after}
 use Rattle.zs_session.proofs.PlainKeys.{IsText, PlainPast, PlainEvents, PlainContent, plain_handed, content_plain, pubs_plain, held_plain, text_plain, past_plain}
 use Rattle.zs_session.proofs.PlainSends.{IsQuiet, AreQuiet, ArePlainGroups, sent_by, quiet_tell, all_plain, all_sent}
-use Rattle.zs_session.proofs.PlainValues.{gets_plain, does_plain, drawn_plain, values_plain}
+use Rattle.zs_session.proofs.PlainValues.{to_plain, does_plain, drawn_plain, values_plain}
 use Rattle.zs_session.proofs.PlainGets.{open_plain, told_quiet, request_quiet}
 use Rattle.zs_session.proofs.PlainAnswers.{value_quiet}
+use Rattle.zs_session.proofs.PlainLiveliness.{tokens_plain, watch_quiet}
 use Rattle.zs_session.proofs.Cutting.{ArePlain, all_append, lines_all}
 
 -- the fields of each line of a turn
@@ -105,21 +109,34 @@ queryable_ends_quiet : (rows : List QueryableRow) → AreQuiet (queryable_ends r
 queryable_ends_quiet [] = tt
 queryable_ends_quiet (row ∷ rows) = (tt, queryable_ends_quiet rows)
 
-ends_quiet : (queryables : List QueryableRow) (rows : List SubRow) (e : Event) → AreQuiet (ends_of queryables rows e)
-ends_quiet queryables rows (Undeclare sub_kind id) = (tt, tt)
-ends_quiet queryables rows (Undeclare pub_kind id) = tt
-ends_quiet queryables rows (Undeclare queryable_kind id) = (tt, tt)
-ends_quiet queryables rows Close =
-    all_append IsQuiet (queryable_ends queryables) (sub_ends rows) (queryable_ends_quiet queryables) (sub_ends_quiet rows)
-ends_quiet queryables rows e = tt
+lsub_ends_quiet : (subs : List LivelinessSub) → AreQuiet (lsub_ends subs)
+lsub_ends_quiet [] = tt
+lsub_ends_quiet (row ∷ rows) = (tt, lsub_ends_quiet rows)
+
+ends_quiet : (queryables : List QueryableRow) (rows : List SubRow) (lsubs : List LivelinessSub) (e : Event) → AreQuiet (ends_of queryables rows lsubs e)
+ends_quiet queryables rows lsubs (Undeclare sub_kind id) = (tt, tt)
+ends_quiet queryables rows lsubs (Undeclare pub_kind id) = tt
+ends_quiet queryables rows lsubs (Undeclare queryable_kind id) = (tt, tt)
+ends_quiet queryables rows lsubs (Undeclare querier_kind id) = tt
+ends_quiet queryables rows lsubs (Undeclare token_kind id) = tt
+ends_quiet queryables rows lsubs (Undeclare lsub_kind id) = (tt, tt)
+ends_quiet queryables rows lsubs Close =
+    all_append IsQuiet (queryable_ends queryables ++ sub_ends rows) (lsub_ends lsubs)
+    (all_append IsQuiet (queryable_ends queryables) (sub_ends rows) (queryable_ends_quiet queryables) (sub_ends_quiet rows)) (lsub_ends_quiet lsubs)
+ends_quiet queryables rows lsubs e = tt
 
 -- what an event sends behind a past, given the number that it is answered
 abbrev sent : Settings → List Entry → Option ℕ → Event → List Effect
 sent s past number e = sent_by (known_of s past) number (named_text past e) e
 
+-- what it brings about for those who want to know of tokens, or else the ends that it tells
+abbrev watched : Settings → List Entry → Option ℕ → Event → List Effect
+watched s past number e =
+    watch_effects (known_of s past).watch number (named_text past e) (row_of e).to_liveliness (ends_of (live_queryables past) (live_subs past) (live_lsubs past) e)
+
 -- what an event brings about beside what gets and query values do
 abbrev beside : Settings → List Entry → Option ℕ → Event → List Effect
-beside s past number e = sent s past number e ++ hands_of (live_subs past) (live_pubs past) (named_text past e) e ++ ends_of (live_queryables past) (live_subs past) e
+beside s past number e = sent s past number e ++ hands_of (live_subs past) (live_pubs past) (named_text past e) e ++ watched s past number e
 
 -- the query values that it draws, what it does with query values, what it asks, and what it tells the open gets
 abbrev draws : Settings → List Entry → Option ℕ → Event → List QueryValue
@@ -133,32 +150,33 @@ others s past number e = with_values (row_of e).to_values (beside s past number 
 
 abbrev requested : Settings → List Entry → Option ℕ → Event → List Effect
 requested s past number e =
-    request_effects s.default_timeout (own_keys_of s past) (row_of e).key (draws s past number e) number (named_text past e) (row_of e).to_gets
+    request_effects s.default_timeout (own_keys_of s past) (row_of e).key (draws s past number e) number (named_text past e) (to_gets_of past e)
 
 abbrev answers : Settings → List Entry → Event → List Effect
-answers s past e = told_effects (open_now s past) (named_text past e) (row_of e).to_gets
+answers s past e = told_effects (open_now s past) (asking_now s past) (named_text past e) (to_gets_of past e)
 
 -- what an accepted event brings about
 abbrev brought : Settings → List Entry → Option ℕ → Event → List Effect
-brought s past number e = with_gets (row_of e).to_gets (others s past number e) (requested s past number e) (answers s past e)
+brought s past number e = with_gets (to_gets_of past e) (others s past number e) (requested s past number e) (answers s past e)
 
 -- all that an event brings about but its samples and the ends of subscribers is quiet
 record IsQuietBut (s : Settings) (past : List Entry) (number : Option ℕ) (e : Event) : Type 0 where
   sends : AreQuiet (sent s past number e)
+  watches : AreQuiet (watched s past number e)
   values : AreQuiet (valued s past number e)
   asks : AreQuiet (requested s past number e)
   tells : AreQuiet (answers s past e)
 
 -- what stands beside them tells the hand-overs
-beside_told : (s : Settings) (past : List Entry) (n : ℕ) (number : Option ℕ) (e : Event) → AreQuiet (sent s past number e)
+beside_told : (s : Settings) (past : List Entry) (n : ℕ) (number : Option ℕ) (e : Event) → AreQuiet (sent s past number e) → AreQuiet (watched s past number e)
     → map (plain_line n) (telling (beside s past number e)) ≡ hand_lines past n (published past e)
-beside_told s past n number e plain =
+beside_told s past n number e plain watches =
     let sends = sent s past number e in
     let hands = hands_of (live_subs past) (live_pubs past) (named_text past e) e in
-    let ends = ends_of (live_queryables past) (live_subs past) e in
+    let ends = watched s past number e in
     ap (map (plain_line n))
     (telling-append (sends ++ hands) ends
-    ∙ ap (λ (more : List (List (List ℕ))). telling (sends ++ hands) ++ more) (quiet_tell ends (ends_quiet (live_queryables past) (live_subs past) e))
+    ∙ ap (λ (more : List (List (List ℕ))). telling (sends ++ hands) ++ more) (quiet_tell ends watches)
     ∙ append-nil (telling (sends ++ hands))
     ∙ telling-append sends hands
     ∙ ap (λ (front : List (List (List ℕ))). front ++ telling hands) (quiet_tell sends plain))
@@ -196,19 +214,22 @@ others_told : (s : Settings) (past : List Entry) (n : ℕ) (number : Option ℕ)
     → map (plain_line n) (telling (others s past number e)) ≡ hand_lines past n (published past e)
 others_told s past n number e quiet =
     with_values_told n (row_of e).to_values (beside s past number e) (valued s past number e) (hand_lines past n (published past e))
-    (beside_told s past n number e quiet.sends) (values_quiet past n e) quiet.values
+    (beside_told s past n number e quiet.sends quiet.watches) (values_quiet past n e) quiet.values
 
 -- an event that is for gets alone
 abbrev is_for_gets : ToGets → Bool
 is_for_gets NoGet = false
 is_for_gets (Asks question) = true
+is_for_gets (AsksBy id question) = false
 is_for_gets (Answers response) = true
 is_for_gets (EndsSide number) = true
 is_for_gets (Reaches moment) = true
+is_for_gets (EndsQuerier id) = false
+is_for_gets (Cancels token) = true
 is_for_gets EndsAll = false
 
 -- publishes nothing
-gets_quiet : (past : List Entry) (n : ℕ) (e : Event) → is_for_gets (row_of e).to_gets ≡ true → hand_lines past n (published past e) ≡ []
+gets_quiet : (past : List Entry) (n : ℕ) (e : Event) → is_for_gets (to_gets_of past e) ≡ true → hand_lines past n (published past e) ≡ []
 gets_quiet past n (Put destination key payload encoding timestamp qos reliable source attachment) h = cc
 gets_quiet past n (Delete destination key timestamp qos reliable source attachment) h = cc
 gets_quiet past n (PublisherPut id payload encoding timestamp source attachment) h = cc
@@ -216,26 +237,32 @@ gets_quiet past n (PublisherDelete id timestamp source attachment) h = cc
 gets_quiet past n (Net (Push push)) h = cc
 gets_quiet past n e h = refl
 
--- what gets bring about adds no line that tells
-with_gets_told : (n : ℕ) (to : ToGets) (beside asks tells : List Effect) (all : List (List ℕ)) → map (plain_line n) (telling beside) ≡ all
-    → (is_for_gets to ≡ true → all ≡ []) → AreQuiet asks → AreQuiet tells → map (plain_line n) (telling (with_gets to beside asks tells)) ≡ all
-with_gets_told n NoGet beside asks tells all told alone a t = told
-with_gets_told n (Asks question) beside asks tells all told alone a t = ap (map (plain_line n)) (quiet_tell asks a) ∙ sym (alone refl)
-with_gets_told n (Answers response) beside asks tells all told alone a t = ap (map (plain_line n)) (quiet_tell tells t) ∙ sym (alone refl)
-with_gets_told n (EndsSide number) beside asks tells all told alone a t = ap (map (plain_line n)) (quiet_tell tells t) ∙ sym (alone refl)
-with_gets_told n (Reaches moment) beside asks tells all told alone a t = ap (map (plain_line n)) (quiet_tell tells t) ∙ sym (alone refl)
-with_gets_told n EndsAll beside asks tells all told alone a t =
+-- what is quiet adds no line that tells
+both_told : (n : ℕ) (beside tells : List Effect) → AreQuiet tells → map (plain_line n) (telling (beside ++ tells)) ≡ map (plain_line n) (telling beside)
+both_told n beside tells t =
     ap (map (plain_line n))
     (telling-append beside tells
     ∙ ap (λ (more : List (List (List ℕ))). telling beside ++ more) (quiet_tell tells t)
     ∙ append-nil (telling beside))
-    ∙ told
+
+-- so what gets bring about adds none
+with_gets_told : (n : ℕ) (to : ToGets) (beside asks tells : List Effect) (all : List (List ℕ)) → map (plain_line n) (telling beside) ≡ all
+    → (is_for_gets to ≡ true → all ≡ []) → AreQuiet asks → AreQuiet tells → map (plain_line n) (telling (with_gets to beside asks tells)) ≡ all
+with_gets_told n NoGet beside asks tells all told alone a t = told
+with_gets_told n (Asks question) beside asks tells all told alone a t = ap (map (plain_line n)) (quiet_tell asks a) ∙ sym (alone refl)
+with_gets_told n (AsksBy id question) beside asks tells all told alone a t = told
+with_gets_told n (Answers response) beside asks tells all told alone a t = ap (map (plain_line n)) (quiet_tell tells t) ∙ sym (alone refl)
+with_gets_told n (EndsSide number) beside asks tells all told alone a t = ap (map (plain_line n)) (quiet_tell tells t) ∙ sym (alone refl)
+with_gets_told n (Reaches moment) beside asks tells all told alone a t = ap (map (plain_line n)) (quiet_tell tells t) ∙ sym (alone refl)
+with_gets_told n (Cancels token) beside asks tells all told alone a t = ap (map (plain_line n)) (quiet_tell tells t) ∙ sym (alone refl)
+with_gets_told n (EndsQuerier id) beside asks tells all told alone a t = both_told n beside tells t ∙ told
+with_gets_told n EndsAll beside asks tells all told alone a t = both_told n beside tells t ∙ told
 
 -- the effects of an accepted event tell its hand-overs
 effects_told : (s : Settings) (past : List Entry) (n : ℕ) (number : Option ℕ) (e : Event) → IsQuietBut s past number e
     → map (plain_line n) (telling (brought s past number e)) ≡ hand_lines past n (published past e)
 effects_told s past n number e quiet =
-    with_gets_told n (row_of e).to_gets (others s past number e) (requested s past number e) (answers s past e) (hand_lines past n (published past e))
+    with_gets_told n (to_gets_of past e) (others s past number e) (requested s past number e) (answers s past e) (hand_lines past n (published past e))
     (others_told s past n number e quiet) (gets_quiet past n e) quiet.asks quiet.tells
 
 -- a closed session that accepts an event publishes nothing
@@ -317,28 +344,33 @@ quiet_but : (s : Settings) → has_plain_aggregates s ≡ true → (past : List 
     → IsQuietBut s past number e
 quiet_but s shared past e all plain number =
     let named = text_plain past e all plain in
-    let to = gets_plain e plain in
+    let to = to_plain past e plain in
     let known = known_of s past in
     let does = does_plain e plain in
     let gets = open_plain s past all in
     let values = values_plain past all in
-    let drew = drawn_plain known.queryables known.handing (row_of e).to_gets (row_of e).to_values number (named_text past e) values named to does in
+    let drew = drawn_plain known.queryables known.handing (to_gets_of past e) (row_of e).to_values number (named_text past e) values named to does in
     record {
       sends = all_sent (known_of s past) number (named_text past e) e (λ n. held_plain n past all) (shared_plain s past shared) named
           (content_plain (live_pubs past) e (pubs_plain past all) plain);
+      watches = watch_quiet known.watch number (named_text past e) (row_of e).to_liveliness (ends_of (live_queryables past) (live_subs past) (live_lsubs past) e) (tokens_plain s past all)
+          named (ends_quiet (live_queryables past) (live_subs past) (live_lsubs past) e);
       values = value_quiet (answering known) (row_of e).key (draws s past number e) (named_text past e) (row_of e).to_values (λ n. held_plain n past all) gets values drew named does;
-      asks = request_quiet s.default_timeout (own_keys_of s past) (row_of e).key (draws s past number e) number (named_text past e) (row_of e).to_gets
+      asks = request_quiet s.default_timeout (own_keys_of s past) (row_of e).key (draws s past number e) number (named_text past e) (to_gets_of past e)
           (λ n. held_plain n past all) named to drew;
-      tells = told_quiet (open_now s past) (named_text past e) (row_of e).to_gets gets named to;
+      tells = told_quiet (open_now s past) (asking_now s past) (named_text past e) (to_gets_of past e) gets named to;
     }
 
 plain_with_gets : (to : ToGets) (beside asks tells : List Effect) → PlainEffects beside → PlainEffects asks → PlainEffects tells
     → PlainEffects (with_gets to beside asks tells)
 plain_with_gets NoGet beside asks tells b a t = b
 plain_with_gets (Asks question) beside asks tells b a t = a
+plain_with_gets (AsksBy id question) beside asks tells b a t = b
 plain_with_gets (Answers response) beside asks tells b a t = t
 plain_with_gets (EndsSide number) beside asks tells b a t = t
 plain_with_gets (Reaches moment) beside asks tells b a t = t
+plain_with_gets (EndsQuerier id) beside asks tells b a t = all_append (λ f. is_plain_effect f ≡ true) beside tells b t
+plain_with_gets (Cancels token) beside asks tells b a t = t
 plain_with_gets EndsAll beside asks tells b a t = all_append (λ f. is_plain_effect f ≡ true) beside tells b t
 
 plain_with_values : (does : ToValues) (rest values : List Effect) → PlainEffects rest → PlainEffects values → PlainEffects (with_values does rest values)
@@ -356,14 +388,14 @@ plain_effects s shared past number e all plain =
     let quiet = quiet_but s shared past e all plain number in
     let sends = sent s past number e in
     let hands = hands_of (live_subs past) (live_pubs past) (named_text past e) e in
-    let ends = ends_of (live_queryables past) (live_subs past) e in
-    plain_with_gets (row_of e).to_gets (others s past number e) (requested s past number e) (answers s past e)
+    let ends = watched s past number e in
+    plain_with_gets (to_gets_of past e) (others s past number e) (requested s past number e) (answers s past e)
     (plain_with_values (row_of e).to_values (beside s past number e) (valued s past number e)
     (all_append P (sends ++ hands) ends
     (all_append P sends hands (all_plain sends quiet.sends)
     (plain_publication (live_subs past) (named_text past e) (resolved (live_pubs past) (row_of e).publishes) (text_plain past e all plain)
     (content_plain (live_pubs past) e (pubs_plain past all) plain)))
-    (all_plain ends (ends_quiet (live_queryables past) (live_subs past) e)))
+    (all_plain ends quiet.watches))
     (all_plain (valued s past number e) quiet.values))
     (all_plain (requested s past number e) quiet.asks) (all_plain (answers s past e) quiet.tells)
 
