@@ -229,6 +229,63 @@ fn reads_queryables_and_queries(rt: HostRuntime) -> Result<(), Fail> {
 }
 
 #[test]
+fn reads_queriers_and_tokens(rt: HostRuntime) -> Result<(), Fail> {
+    let table = [
+        (
+            "querier\tany\tk",
+            "querier Any k: BestMatching Auto None false 5",
+        ),
+        (
+            "querier\tremote\t#1:/b\ttarget=all\tcons=none\ttimeout=7\tprio=2\taccept=any",
+            "querier Remote number 1 and /b: All None Some(7) true 2",
+        ),
+        ("querier\tany\tk\taccept=any\ttarget=all", "nothing"),
+        ("querier\tk", "nothing"),
+        ("undeclare\tquerier\t2", "undeclare Querier 2"),
+        ("background\tquerier\t2", "nothing"),
+        ("qget\t2", "qget 2 and : None"),
+        (
+            "qget\t2\tparams=x=1\tpayload=x07\ttoken=3",
+            "qget 2 and x=1: Some(3) [7] zenoh/bytes",
+        ),
+        ("qget\t2\ttoken=3\tparams=x", "nothing"),
+        ("qget\t2\ttimeout=3", "nothing"),
+        ("ctoken", "ctoken"),
+        ("ctoken\t0", "nothing"),
+        ("cancel\t4294967295", "cancel 4294967295"),
+        ("cancel\t01", "nothing"),
+        ("token\ta/b", "token a/b"),
+        ("undeclare\ttoken\t3", "undeclare Token 3"),
+        ("background\ttoken\t3", "nothing"),
+        ("lsub\thistory\tk", "lsub true k"),
+        ("lsub\tlive\t#7", "lsub false number 7 and "),
+        ("lsub\tk", "nothing"),
+        ("undeclare\tlsub\t3", "undeclare Lsub 3"),
+        ("background\tlsub\t3", "background Lsub 3"),
+        ("lget\tk", "lget k None None"),
+        ("lget\tk\ttimeout=9\ttoken=1", "lget k Some(9) Some(1)"),
+        ("lget\tk\ttoken=1\ttimeout=9", "nothing"),
+        ("net\ttoken\t5\ts0:k", "token 5 Sender 0 and k None"),
+        (
+            "net\ttoken\t5\tr1:\tinterest=3",
+            "token 5 Receiver 1 and  Some(3)",
+        ),
+        ("net\tuntoken\t5", "untoken 5 None"),
+        ("net\tuntoken\t5\ts0:", "untoken 5 None"),
+        (
+            "net\tuntoken\t5\ts0:k\tinterest=3",
+            "untoken 5 Sender 0 and k Some(3)",
+        ),
+        ("net\tuntoken\ts0:k", "nothing"),
+        ("net\tdeclarefinal", "declarefinal None"),
+        ("net\tdeclarefinal\tinterest=3", "declarefinal Some(3)"),
+        ("net\tdeclarefinal\t3", "nothing"),
+    ];
+    assert_told(&rt, rt.alloc(), table.as_slice())?;
+    Ok(())
+}
+
+#[test]
 fn a_line_that_is_no_text_has_no_event(rt: HostRuntime) -> Result<(), Fail> {
     let line = Line {
         number: 1,

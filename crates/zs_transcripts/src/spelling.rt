@@ -1,4 +1,4 @@
-//! Scripts and outputs as the tests write them: with a space for each tab, `Q` for the options of a plain put, and `G` for the
+//! Scripts and outputs as the tests write them: with a space for each tab, `%` for the options of a plain put, and `G` for the
 //! qualities of a plain get.
 
 ghost use Rattle.std.specs.Prelude.{◌<◌};
@@ -20,8 +20,8 @@ pub const FIRST_TEXT: &str = "\
 1 ok 2
 1 send sub 2 s0:test/k
 2 ok
-2 send push s0:test/k put x7a656e6f68 Q
-2 hand sub 2 put test/k x7a656e6f68 Q
+2 send push s0:test/k put x7a656e6f68 %
+2 hand sub 2 put test/k x7a656e6f68 %
 3 ok
 3 send close
 3 end sub 2
@@ -31,7 +31,7 @@ pub const FIRST_TEXT: &str = "\
 pub fn spell(bytes: &mut Vec<u8>, text: &str) -> Result<(), AllocError> {
     for byte in text.bytes() {
         match byte {
-            b'Q' => tabbed(bytes, QUALITY)?,
+            b'%' => tabbed(bytes, QUALITY)?,
             b'G' => tabbed(bytes, BLOCKING)?,
             b' ' => bytes.push(b'\t')?,
             byte => bytes.push(byte)?,

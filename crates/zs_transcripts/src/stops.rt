@@ -23,7 +23,7 @@ const STOPS: [Stop; 8] = [
         line_max: 100,
         turns: 9,
         error: DriveError::BadLine(3),
-        output: "1 ok 2\n1 send sub 2 s0:k\n2 ok\n2 send push s0:k put x01 Q\n2 hand sub 2 put k x01 Q\n",
+        output: "1 ok 2\n1 send sub 2 s0:k\n2 ok\n2 send push s0:k put x01 %\n2 hand sub 2 put k x01 %\n",
     },
     Stop {
         script: "sub any k\n\nsub any k\n",

@@ -9,11 +9,14 @@ use std::test::Fail;
 use zs_session::run;
 
 mod all_kinds;
+mod cancelling;
 mod closing;
 mod declared_keys;
 mod gets;
+mod liveliness;
 mod network;
 mod publishers;
+mod queriers;
 mod query_values;
 mod queryables;
 mod samples;

@@ -38,6 +38,17 @@ fn event_told(alloc: Global, event: &Event) -> Result<String, AllocError> {
         Event::PublisherPut { id, payload, .. } => pput_told(alloc, *id, payload),
         Event::PublisherDelete { id, timestamp, .. } => pdel_told(alloc, *id, timestamp),
         Event::Get { .. } => get_told(alloc, event),
+        Event::Querier { .. } => querier_told(alloc, event),
+        Event::QuerierGet { .. } => querier_get_told(alloc, event),
+        Event::CancelToken => String::from_str(alloc, "ctoken"),
+        Event::Cancel { token } => format!(in alloc; "cancel {token}"),
+        Event::Token { key } => keyed(alloc, "token", key),
+        Event::Lsub { history, key } => lsub_told(alloc, *history, key),
+        Event::LivelinessGet {
+            key,
+            timeout,
+            token,
+        } => lget_told(alloc, key, *timeout, *token),
         Event::Reply { .. } => reply_told(alloc, event),
         Event::ReplyDelete { .. } => reply_delete_told(alloc, event),
         Event::ReplyErr {
@@ -136,6 +147,56 @@ fn get_told(alloc: Global, event: &Event) -> Result<String, AllocError> {
     with_value(alloc, front, value)
 }
 
+fn querier_told(alloc: Global, event: &Event) -> Result<String, AllocError> {
+    let Event::Querier {
+        destination,
+        key,
+        target,
+        consolidation,
+        timeout,
+        qos,
+        any_key,
+    } = event
+    else {
+        return String::from_str(alloc, "no querier");
+    };
+    let front = placed(alloc, "querier", *destination, key)?;
+    let front = front.as_str();
+    let priority = qos.priority;
+    format!(in alloc; "{front}: {target:?} {consolidation:?} {timeout:?} {any_key} {priority}")
+}
+
+fn querier_get_told(alloc: Global, event: &Event) -> Result<String, AllocError> {
+    let Event::QuerierGet {
+        id,
+        parameters,
+        value,
+        token,
+        ..
+    } = event
+    else {
+        return String::from_str(alloc, "no get");
+    };
+    let parameters = parameters.as_str();
+    let front = format!(in alloc; "qget {id} and {parameters}: {token:?}")?;
+    with_value(alloc, front, value)
+}
+
+fn lsub_told(alloc: Global, history: bool, key: &KeyArg) -> Result<String, AllocError> {
+    let key = key_told(alloc, key)?;
+    format!(in alloc; "lsub {history} {key}")
+}
+
+fn lget_told(
+    alloc: Global,
+    key: &KeyArg,
+    timeout: Option<u64>,
+    token: Option<u32>,
+) -> Result<String, AllocError> {
+    let key = key_told(alloc, key)?;
+    format!(in alloc; "lget {key} {timeout:?} {token:?}")
+}
+
 fn queryable_told(
     alloc: Global,
     origin: Locality,
@@ -199,6 +260,13 @@ fn message_told(alloc: Global, message: &Message) -> Result<String, AllocError> 
             format!(in alloc; "keyexpr {number} {wire}")
         }
         Message::UndeclareKeyExpr { number } => format!(in alloc; "unkeyexpr {number}"),
+        Message::DeclareToken { id, wire, interest } => {
+            token_told(alloc, "token", *id, &Some(wire), *interest)
+        }
+        Message::UndeclareToken { id, wire, interest } => {
+            token_told(alloc, "untoken", *id, &wire.as_ref(), *interest)
+        }
+        Message::DeclareFinal { interest } => format!(in alloc; "declarefinal {interest:?}"),
         Message::Push(push) => push_told(alloc, push),
         Message::Request(request) => request_told(alloc, request),
         Message::Response(response) => response_told(alloc, response),
@@ -206,6 +274,20 @@ fn message_told(alloc: Global, message: &Message) -> Result<String, AllocError> 
         Message::Close => String::from_str(alloc, "net close"),
         _ => String::from_str(alloc, "another message"),
     }
+}
+
+fn token_told(
+    alloc: Global,
+    word: &str,
+    id: u32,
+    wire: &Option<&WireExpr>,
+    interest: Option<u32>,
+) -> Result<String, AllocError> {
+    let Some(wire) = wire else {
+        return format!(in alloc; "{word} {id} {interest:?}");
+    };
+    let wire = wire_told(alloc, wire)?;
+    format!(in alloc; "{word} {id} {wire} {interest:?}")
 }
 
 fn push_told(alloc: Global, push: &Push) -> Result<String, AllocError> {

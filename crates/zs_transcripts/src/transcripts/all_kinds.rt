@@ -39,8 +39,8 @@ net keyexpr 7 s0:home
 < 9 ok
 net push s7:/kitchen/temp put x3231
 < 10 ok
-< 10 hand sub 2 put home/kitchen/temp x3231 Q
-< 10 hand sub 3 put home/kitchen/temp x3231 Q
+< 10 hand sub 2 put home/kitchen/temp x3231 %
+< 10 hand sub 3 put home/kitchen/temp x3231 %
 net unkeyexpr 7
 < 11 ok
 net push s8: del

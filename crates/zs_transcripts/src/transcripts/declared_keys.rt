@@ -15,22 +15,22 @@ sub any k
 < 2 send sub 2 s0:k
 put any #1 x01
 < 3 ok
-< 3 send push s1: put x01 Q
-< 3 hand sub 2 put k x01 Q
+< 3 send push s1: put x01 %
+< 3 hand sub 2 put k x01 %
 undeclare sub 2
 < 4 ok
 < 4 send unsub 2
 < 4 end sub 2
 put any #1 x01
 < 5 ok
-< 5 send push s1: put x01 Q
+< 5 send push s1: put x01 %
 sub any #1:/*
 < 6 ok 3
 < 6 send sub 3 s1:/*
 put any #1:/b x
 < 7 ok
-< 7 send push s1:/b put x Q
-< 7 hand sub 3 put k/b x Q
+< 7 send push s1:/b put x %
+< 7 hand sub 3 put k/b x %
 put any #1:// x
 < 8 refused BadKeyExpr
 sub any #1:
@@ -38,8 +38,8 @@ sub any #1:
 < 9 send sub 4 s1:
 put any #1 x
 < 10 ok
-< 10 send push s1: put x Q
-< 10 hand sub 4 put k x Q
+< 10 send push s1: put x %
+< 10 hand sub 4 put k x %
 < 11 ok
 < 11 send close
 < 11 end sub 3
@@ -60,8 +60,8 @@ undeclare key #1
 < 4 ok
 put any #1 x01
 < 5 ok
-< 5 send push s1: put x01 Q
-< 5 hand sub 2 put k x01 Q
+< 5 send push s1: put x01 %
+< 5 hand sub 2 put k x01 %
 undeclare key #1
 < 6 ok
 < 6 send unkeyexpr 1
@@ -119,8 +119,8 @@ sub any a/*
 delete any a/*
 < 4 ok
 < 4 send push s0:a/* del prio=5 cc=drop express=0 rel=1
-< 4 hand sub 2 del a/* x Q
-< 4 hand sub 3 del a/* x Q
+< 4 hand sub 2 del a/* x %
+< 4 hand sub 3 del a/* x %
 delete remote #1:/b
 < 5 ok
 < 5 send push s1:/b del prio=5 cc=drop express=0 rel=1

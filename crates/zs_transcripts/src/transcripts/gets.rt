@@ -180,7 +180,7 @@ net response 0 s0:a put x02
 < 3 reply get 0 put a x02 enc=zenoh/bytes G rel=1
 net push s0:a put x03
 < 4 ok
-< 4 hand sub 2 put a x03 Q
+< 4 hand sub 2 put a x03 %
 < 5 ok
 < 5 send close
 < 5 end sub 2

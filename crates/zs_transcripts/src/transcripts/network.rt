@@ -14,7 +14,7 @@ sub any a/*
 < 2 send sub 2 s0:a/*
 net push s7:/b put x01
 < 3 ok
-< 3 hand sub 2 put a/b x01 Q
+< 3 hand sub 2 put a/b x01 %
 net push s7:// put x01
 < 4 refused BadKeyExpr
 < 5 ok
@@ -32,7 +32,7 @@ sub any k
 < 2 send sub 2 s0:k
 net push r1: put x01
 < 3 ok
-< 3 hand sub 2 put k x01 Q
+< 3 hand sub 2 put k x01 %
 net push s1: put x01
 < 4 refused UnknownScope
 undeclare key #1
@@ -60,12 +60,12 @@ net keyexpr 7 s0:b
 < 5 ok
 net push s7: put x01
 < 6 ok
-< 6 hand sub 2 put b x01 Q
+< 6 hand sub 2 put b x01 %
 net unkeyexpr 7
 < 7 ok
 net push s7:/c put x01
 < 8 ok
-< 8 hand sub 2 put b/c x01 Q
+< 8 hand sub 2 put b/c x01 %
 net push s0:a//b put x01
 < 9 refused BadKeyExpr
 < 10 ok
@@ -90,7 +90,7 @@ undeclare key #1
 < 5 send unkeyexpr 1
 net push s9: put x
 < 6 ok
-< 6 hand sub 2 put k/x/z x Q
+< 6 hand sub 2 put k/x/z x %
 net keyexpr 3 s2:a
 < 7 refused UnknownScope
 net keyexpr 0 s0:a//b
@@ -169,7 +169,7 @@ net response 0 s3:/b put x01
 < 12 reply get 0 put k/a/b x01 enc=zenoh/bytes G rel=1
 net push s3: put x01
 < 13 ok
-< 13 hand sub 2 put k/a x01 Q
+< 13 hand sub 2 put k/a x01 %
 net responsefinal 7
 < 14 refused Ignored
 net responsefinal 0

@@ -18,7 +18,7 @@ undeclare key #1
 < 3 send unkeyexpr 1
 pput 2 x01
 < 4 ok
-< 4 send push s0:k put x01 Q
+< 4 send push s0:k put x01 %
 < 5 ok
 < 5 send close",
     },
@@ -35,8 +35,8 @@ sub local k/*
 < 3 ok 3
 pput 2 x01
 < 4 ok
-< 4 send push s1:/a put x01 Q
-< 4 hand sub 3 put k/a x01 Q
+< 4 send push s1:/a put x01 %
+< 4 hand sub 3 put k/a x01 %
 undeclare pub 2
 < 5 ok
 < 5 send interest 2 final subscribers
@@ -88,14 +88,14 @@ sub any k
 < 4 send sub 5 s0:k
 pput 2 x01
 < 5 ok
-< 5 hand sub 5 put k x01 Q
+< 5 hand sub 5 put k x01 %
 pput 3 x01
 < 6 ok
-< 6 send push s0:k put x01 Q
+< 6 send push s0:k put x01 %
 pput 4 x01
 < 7 ok
-< 7 send push s0:k put x01 Q
-< 7 hand sub 5 put k x01 Q
+< 7 send push s0:k put x01 %
+< 7 hand sub 5 put k x01 %
 pput 5 x01
 < 8 refused NotFound
 undeclare pub 5

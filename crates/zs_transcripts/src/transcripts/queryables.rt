@@ -54,8 +54,8 @@ queryable local complete b
 < 3 ok 4
 put any a x01
 < 4 ok
-< 4 send push s0:a put x01 Q
-< 4 hand sub 2 put a x01 Q
+< 4 send push s0:a put x01 %
+< 4 hand sub 2 put a x01 %
 close
 < 5 ok
 < 5 send close

@@ -16,7 +16,7 @@ put any k x01 enc=text/plain ts=5:a prio=1 cc=block express=1 rel=0 src=7:3:9 at
 < 2 hand sub 2 put k x01 enc=text/plain ts=5:a prio=1 cc=block express=1 rel=0 src=7:3:9 att=xff
 net push s0:k put x01 prio=0
 < 3 ok
-< 3 hand sub 2 put k x01 Q
+< 3 hand sub 2 put k x01 %
 < 4 ok
 < 4 send close
 < 4 end sub 2",
@@ -52,7 +52,7 @@ put any k x enc=a=b;é
 < 2 send push s0:k put x enc=a=b;é prio=5 cc=drop express=0 rel=1
 put any k x enc=
 < 3 ok
-< 3 send push s0:k put x Q
+< 3 send push s0:k put x %
 net push s0:k put xAB enc= ts=7:Ff prio=7 cc=block express=1 rel=0 src=fF:1:2 att=x00
 < 4 ok
 < 4 hand sub 2 put k xab enc=zenoh/bytes ts=7:ff prio=7 cc=block express=1 rel=0 src=ff:1:2 att=x00

@@ -101,7 +101,7 @@ sub any a/b
 < 4 send sub 5 s0:a/b
 pput 4 x01
 < 5 ok
-< 5 send push s0:a/c put x01 Q
+< 5 send push s0:a/c put x01 %
 undeclare pub 2
 < 6 ok
 undeclare pub 4

@@ -18,12 +18,12 @@ sub any test/k
 < 1 send sub 2 s0:test/k
 put any test/k x7a656e6f68
 < 2 ok
-< 2 send push s0:test/k put x7a656e6f68 Q
-< 2 hand sub 2 put test/k x7a656e6f68 Q
+< 2 send push s0:test/k put x7a656e6f68 %
+< 2 hand sub 2 put test/k x7a656e6f68 %
 delete any test/k
 < 3 ok
 < 3 send push s0:test/k del prio=5 cc=drop express=0 rel=1
-< 3 hand sub 2 del test/k x Q
+< 3 hand sub 2 del test/k x %
 < 4 ok
 < 4 send close
 < 4 end sub 2",
@@ -40,15 +40,15 @@ sub any k
 < 3 ok 4
 put local k x01
 < 4 ok
-< 4 hand sub 2 put k x01 Q
-< 4 hand sub 4 put k x01 Q
+< 4 hand sub 2 put k x01 %
+< 4 hand sub 4 put k x01 %
 put remote k x01
 < 5 ok
-< 5 send push s0:k put x01 Q
+< 5 send push s0:k put x01 %
 net push s0:k put x01
 < 6 ok
-< 6 hand sub 3 put k x01 Q
-< 6 hand sub 4 put k x01 Q
+< 6 hand sub 3 put k x01 %
+< 6 hand sub 4 put k x01 %
 < 7 ok
 < 7 send close
 < 7 end sub 2
@@ -69,7 +69,7 @@ undeclare sub 2
 < 3 refused NotFound
 put any k x01
 < 4 ok
-< 4 send push s0:k put x01 Q
+< 4 send push s0:k put x01 %
 < 5 ok
 < 5 send close",
     },
@@ -87,8 +87,8 @@ background sub 2
 < 4 refused NotFound
 put any k x01
 < 5 ok
-< 5 send push s0:k put x01 Q
-< 5 hand sub 2 put k x01 Q
+< 5 send push s0:k put x01 %
+< 5 hand sub 2 put k x01 %
 sub any k
 < 6 ok 3
 undeclare sub 3
@@ -135,22 +135,22 @@ sub any **
 < 4 send sub 5 s0:**
 put any a x
 < 5 ok
-< 5 send push s0:a put x Q
-< 5 hand sub 2 put a x Q
-< 5 hand sub 5 put a x Q
+< 5 send push s0:a put x %
+< 5 hand sub 2 put a x %
+< 5 hand sub 5 put a x %
 put any a/@b x
 < 6 ok
-< 6 send push s0:a/@b put x Q
+< 6 send push s0:a/@b put x %
 put any a/x x
 < 7 ok
-< 7 send push s0:a/x put x Q
-< 7 hand sub 2 put a/x x Q
-< 7 hand sub 3 put a/x x Q
-< 7 hand sub 4 put a/x x Q
-< 7 hand sub 5 put a/x x Q
+< 7 send push s0:a/x put x %
+< 7 hand sub 2 put a/x x %
+< 7 hand sub 3 put a/x x %
+< 7 hand sub 4 put a/x x %
+< 7 hand sub 5 put a/x x %
 put any @v/a x
 < 8 ok
-< 8 send push s0:@v/a put x Q
+< 8 send push s0:@v/a put x %
 < 9 ok
 < 9 send close
 < 9 end sub 2
@@ -168,9 +168,9 @@ sub any k
 < 2 ok 3
 put any k xAb
 < 3 ok
-< 3 send push s0:k put xab Q
-< 3 hand sub 2 put k xab Q
-< 3 hand sub 3 put k xab Q
+< 3 send push s0:k put xab %
+< 3 hand sub 2 put k xab %
+< 3 hand sub 3 put k xab %
 < 4 ok
 < 4 send close
 < 4 end sub 2
@@ -199,7 +199,7 @@ sub any **
 < 1 send sub 2 s0:**
 put remote k x01
 < 2 ok
-< 2 send push s0:k put x01 Q
+< 2 send push s0:k put x01 %
 undeclare sub 3
 < 3 refused NotFound
 < 4 ok
@@ -217,13 +217,13 @@ sub any c
 < 2 send sub 3 s0:c
 put any a/* x
 < 3 ok
-< 3 send push s0:a/* put x Q
-< 3 hand sub 2 put a/* x Q
+< 3 send push s0:a/* put x %
+< 3 hand sub 2 put a/* x %
 put any ** x
 < 4 ok
-< 4 send push s0:** put x Q
-< 4 hand sub 2 put ** x Q
-< 4 hand sub 3 put ** x Q
+< 4 send push s0:** put x %
+< 4 hand sub 2 put ** x %
+< 4 hand sub 3 put ** x %
 < 5 ok
 < 5 send close
 < 5 end sub 2
