@@ -152,8 +152,8 @@ pub data ToLiveliness : Type 0 where
 abbrev pub asking_token : ToGets → ToLiveliness → Option ℕ
 asking_token (Asks question) to = question.token
 asking_token (AsksBy id question) to = question.token
-asking_token to_gets (AsksTokens timeout token) = token
-asking_token to_gets to = None
+asking_token _ (AsksTokens timeout token) = token
+asking_token _ _ = None
 
 -- and the one that an event names
 abbrev pub token_named : ToGets → ToLiveliness → Option ℕ

@@ -201,7 +201,10 @@ fn encoding_of(alloc: Global, value: &Option<Value>) -> Result<Option<Encoding>,
     }
 }
 
-fn clone_encoding(encoding: &Option<Encoding>, alloc: Global) -> Result<Option<Encoding>, AllocError>
+fn clone_encoding(
+    encoding: &Option<Encoding>,
+    alloc: Global,
+) -> Result<Option<Encoding>, AllocError>
     ensures { IfOk result (λ copy. copy ≡ encoding.now) }
 {
     match encoding {
