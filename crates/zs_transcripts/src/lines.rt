@@ -229,7 +229,7 @@ fn reads_queryables_and_queries(rt: HostRuntime) -> Result<(), Fail> {
 }
 
 #[test]
-fn reads_queriers_and_tokens(rt: HostRuntime) -> Result<(), Fail> {
+fn reads_queriers_and_cancels(rt: HostRuntime) -> Result<(), Fail> {
     let table = [
         (
             "querier\tany\tk",
@@ -254,6 +254,14 @@ fn reads_queriers_and_tokens(rt: HostRuntime) -> Result<(), Fail> {
         ("ctoken\t0", "nothing"),
         ("cancel\t4294967295", "cancel 4294967295"),
         ("cancel\t01", "nothing"),
+    ];
+    assert_told(&rt, rt.alloc(), table.as_slice())?;
+    Ok(())
+}
+
+#[test]
+fn reads_tokens(rt: HostRuntime) -> Result<(), Fail> {
+    let table = [
         ("token\ta/b", "token a/b"),
         ("undeclare\ttoken\t3", "undeclare Token 3"),
         ("background\ttoken\t3", "nothing"),

@@ -38,17 +38,6 @@ fn event_told(alloc: Global, event: &Event) -> Result<String, AllocError> {
         Event::PublisherPut { id, payload, .. } => pput_told(alloc, *id, payload),
         Event::PublisherDelete { id, timestamp, .. } => pdel_told(alloc, *id, timestamp),
         Event::Get { .. } => get_told(alloc, event),
-        Event::Querier { .. } => querier_told(alloc, event),
-        Event::QuerierGet { .. } => querier_get_told(alloc, event),
-        Event::CancelToken => String::from_str(alloc, "ctoken"),
-        Event::Cancel { token } => format!(in alloc; "cancel {token}"),
-        Event::Token { key } => keyed(alloc, "token", key),
-        Event::Lsub { history, key } => lsub_told(alloc, *history, key),
-        Event::LivelinessGet {
-            key,
-            timeout,
-            token,
-        } => lget_told(alloc, key, *timeout, *token),
         Event::Reply { .. } => reply_told(alloc, event),
         Event::ReplyDelete { .. } => reply_delete_told(alloc, event),
         Event::ReplyErr {
@@ -61,6 +50,25 @@ fn event_told(alloc: Global, event: &Event) -> Result<String, AllocError> {
         Event::Tick { now } => format!(in alloc; "tick {now}"),
         Event::Close => String::from_str(alloc, "close"),
         Event::Net(message) => message_told(alloc, message),
+        _ => asking_told(alloc, event),
+    }
+}
+
+/// What asks by a querier or of liveliness, or cancels.
+fn asking_told(alloc: Global, event: &Event) -> Result<String, AllocError> {
+    match event {
+        Event::Querier { .. } => querier_told(alloc, event),
+        Event::QuerierGet { .. } => querier_get_told(alloc, event),
+        Event::CancelToken => String::from_str(alloc, "ctoken"),
+        Event::Cancel { token } => format!(in alloc; "cancel {token}"),
+        Event::Token { key } => keyed(alloc, "token", key),
+        Event::Lsub { history, key } => lsub_told(alloc, *history, key),
+        Event::LivelinessGet {
+            key,
+            timeout,
+            token,
+        } => lget_told(alloc, key, *timeout, *token),
+        _ => String::from_str(alloc, "another event"),
     }
 }
 
@@ -260,6 +268,18 @@ fn message_told(alloc: Global, message: &Message) -> Result<String, AllocError> 
             format!(in alloc; "keyexpr {number} {wire}")
         }
         Message::UndeclareKeyExpr { number } => format!(in alloc; "unkeyexpr {number}"),
+        Message::Push(push) => push_told(alloc, push),
+        Message::Request(request) => request_told(alloc, request),
+        Message::Response(response) => response_told(alloc, response),
+        Message::ResponseFinal { rid } => format!(in alloc; "responsefinal {rid}"),
+        Message::Close => String::from_str(alloc, "net close"),
+        _ => liveliness_told(alloc, message),
+    }
+}
+
+/// What the network tells of tokens.
+fn liveliness_told(alloc: Global, message: &Message) -> Result<String, AllocError> {
+    match message {
         Message::DeclareToken { id, wire, interest } => {
             token_told(alloc, "token", *id, &Some(wire), *interest)
         }
@@ -267,11 +287,6 @@ fn message_told(alloc: Global, message: &Message) -> Result<String, AllocError> 
             token_told(alloc, "untoken", *id, &wire.as_ref(), *interest)
         }
         Message::DeclareFinal { interest } => format!(in alloc; "declarefinal {interest:?}"),
-        Message::Push(push) => push_told(alloc, push),
-        Message::Request(request) => request_told(alloc, request),
-        Message::Response(response) => response_told(alloc, response),
-        Message::ResponseFinal { rid } => format!(in alloc; "responsefinal {rid}"),
-        Message::Close => String::from_str(alloc, "net close"),
         _ => String::from_str(alloc, "another message"),
     }
 }
