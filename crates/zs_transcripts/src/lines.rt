@@ -299,7 +299,10 @@ fn a_line_that_is_no_text_has_no_event(rt: HostRuntime) -> Result<(), Fail> {
         number: 1,
         bytes: Vec::from_slice(rt.alloc(), b"sub\tany\t\xff")?,
     };
-    assert!(rt; parse_event(rt.alloc(), &line)?.is_none());
+    let event = parse_event(rt.alloc(), &line)?;
+    let is_none = event.is_none();
+    drop(event);
+    assert!(rt; is_none);
     Ok(())
 }
 

@@ -17,7 +17,9 @@ pub(super) fn told(alloc: Global, text: &str) -> Result<String, AllocError> {
     let Some(event) = parse_event(alloc, &line)? else {
         return String::from_str(alloc, "nothing");
     };
-    event_told(alloc, &event)
+    let text = event_told(alloc, &event);
+    drop(event);
+    text
 }
 
 fn event_told(alloc: Global, event: &Event) -> Result<String, AllocError> {
