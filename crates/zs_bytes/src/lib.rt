@@ -15,7 +15,5 @@ mod payload;
 mod reader;
 mod slice_iterator;
 mod slices;
-#[cfg(test)]
-mod tests;
 mod text;
 mod writer;

@@ -20,8 +20,6 @@ mod prefix;
 mod segment;
 mod steps;
 mod stream;
-#[cfg(test)]
-mod tests;
 mod units;
 mod verbatim;
 

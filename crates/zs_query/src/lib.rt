@@ -34,8 +34,6 @@ mod request_row;
 mod request_table;
 mod requests;
 mod side;
-#[cfg(test)]
-mod tests;
 mod timeout;
 mod timestamps;
 mod values;

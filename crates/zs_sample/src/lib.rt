@@ -32,5 +32,3 @@ mod sample;
 mod sample_fields;
 mod selector;
 mod selector_display;
-#[cfg(test)]
-mod tests;

@@ -11,8 +11,6 @@ mod least;
 mod matching;
 mod runs;
 mod search;
-#[cfg(test)]
-mod tests;
 mod tree;
 mod walk;
 

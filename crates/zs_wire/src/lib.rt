@@ -30,7 +30,5 @@ mod quality;
 mod request;
 mod response;
 mod sample_kind;
-#[cfg(test)]
-mod tests;
 mod wire_expr;
 mod zenoh_parameters;

@@ -1,10 +1,10 @@
 //! The worked example, and each public call once with memory at hand.
 
-use crate::{BeforeStart, ReadError, Text, TextError, ZBytes, ZBytesWriter, from_reader};
 use bytes::Bytes;
 use std::alloc::{AllocError, Global};
 use std::io::{self, ErrorKind, Read, Seek, SeekFrom, Write};
 use std::test::Fail;
+use zs_bytes::{BeforeStart, ReadError, Text, TextError, ZBytes, ZBytesWriter, from_reader};
 use zs_keys::{MemorySource, SteadySource};
 
 /// Appends, and once more where it found no memory.

@@ -1,12 +1,12 @@
 ghost use Rattle.std.specs.Prelude.{◌≡◌, ◌<◌, []};
 
-use crate::KeyTree;
 use std::alloc::{AllocError, Global};
 use std::marker::Brand;
 use std::process::Abort;
 use std::sync::ledger::{Blank, Ledger};
 use std::test::Fail;
 use zs_keys::{KeyError, KeyExpr, Steps};
+use zs_tree::KeyTree;
 
 fn key(rt: &impl Abort, text: &'static str) -> KeyExpr<'static> {
     KeyExpr::new(text).expect(rt, "a canonical text")

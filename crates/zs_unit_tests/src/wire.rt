@@ -1,13 +1,13 @@
 //! The worked examples, and each public call once with memory at hand.
 
-use crate::{
+use std::alloc::{AllocError, Global};
+use std::test::Fail;
+use zs_keys::SteadySource;
+use zs_wire::{
     Answered, Body, CongestionControl, ConsolidationMode, EntityGlobalId, Mapping, Message,
     Parameters, Push, QoSType, QueryTarget, Request, Response, SampleKind, SourceInfo, Text,
     Timestamp, Value, WireExpr, ZBytes, ZenohParameters, from_reader,
 };
-use std::alloc::{AllocError, Global};
-use std::test::Fail;
-use zs_keys::SteadySource;
 
 /// Each pair as `name:value,`.
 fn shown(alloc: Global, parameters: &Parameters<'_>) -> Result<String, AllocError> {

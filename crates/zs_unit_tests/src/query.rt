@@ -1,11 +1,12 @@
-use crate::{
-    Ends, Finished, GetRow, Gets, Outcome, Peek, QueryData, Replies, RequestRow, Requests, Side,
-};
 use std::alloc::Global;
 use std::process::Abort;
 use std::test::Fail;
 use zs_bytes::{Text, ZBytes};
 use zs_keys::KeyExpr;
+use zs_query::{
+    Ends, Finished, Finishing, GetRow, Gets, Outcome, Peek, QueryData, Replies, RequestRow,
+    RequestTable, Requests, Side,
+};
 use zs_sample::{
     CongestionControl, ConsolidationMode, Encoding, Priority, QoSType, Reliability, Reply,
     ReplyError, ReplyKeyExpr, Sample, SampleFields, SampleKind, Timestamp,
@@ -270,6 +271,44 @@ fn query_values(rt: HostRuntime) {
     assert_eq!(rt; finish(&mut requests, 0), 0);
     assert_eq!(rt; finish(&mut requests, 1), 4);
     assert_eq!(rt; finish(&mut requests, 1), 1);
+}
+
+/// Hands a request out, and ends the test where too few numbers are left.
+fn hand(rt: &impl Abort, alloc: Global, table: &mut RequestTable, queryables: &[u32]) {
+    assert!(rt; table.next() < 1000);
+    assert!(rt; queryables.len() < 1000);
+    table
+        .hand(request(rt, alloc), queryables)
+        .expect(rt, "memory");
+}
+
+/// What `finish` would tell of a value.
+fn look(table: &RequestTable, value: u32) -> u32 {
+    match table.peek_finish(value) {
+        Finishing::Unknown => 1,
+        Finishing::MoreLeft => 0,
+        Finishing::Last(row) => row.rid,
+    }
+}
+
+#[test]
+fn query_values_in_turn(rt: HostRuntime) {
+    let alloc = rt.alloc();
+    let mut table = RequestTable::new(alloc);
+    hand(&rt, alloc, &mut table, &[]);
+    assert_eq!(rt; table.next(), 0);
+    hand(&rt, alloc, &mut table, &[2, 7]);
+    assert_eq!(rt; table.next(), 2);
+    assert!(rt; table.share(1).is_ok());
+    assert_eq!(rt; table.next(), 3);
+    assert_eq!(rt; table.find(2).map_or(0, |found| found.1), 7);
+    assert_eq!(rt; table.left(0), 3);
+    assert!(rt; matches!(table.finish(0), Finished::MoreLeft));
+    assert!(rt; matches!(table.finish(1), Finished::MoreLeft));
+    assert_eq!(rt; look(&table, 1), 1);
+    assert_eq!(rt; look(&table, 2), 4);
+    assert!(rt; matches!(table.finish(2), Finished::Last(_)));
+    assert_eq!(rt; look(&table, 2), 1);
 }
 
 #[test]

@@ -1,14 +1,14 @@
 //! The worked examples, and each public call once with memory at hand.
 
-use crate::{
+use std::alloc::Global;
+use std::test::Fail;
+use zs_keys::{KeyError, KeyExpr};
+use zs_sample::{
     BadPriority, CongestionControl, ConsolidationMode, Encoding, EntityGlobalId, Locality,
     MatchingStatus, Priority, QoS, QoSBuilder, QoSType, QueryConsolidation, Reliability, Reply,
     ReplyError, ReplyKeyExpr, Sample, SampleFields, SampleKind, Selector, SourceInfo, Text,
     Timestamp, ZBytes,
 };
-use std::alloc::Global;
-use std::test::Fail;
-use zs_keys::{KeyError, KeyExpr};
 
 #[test]
 fn encodings(rt: HostRuntime) -> Result<(), Fail> {
