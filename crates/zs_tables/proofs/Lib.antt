@@ -10,3 +10,9 @@ pub mod GroupLemmas
 pub mod Tabled
 pub mod Putting
 pub mod Telling
+pub mod Pairs
+pub mod Merging
+pub mod Recounting
+pub mod Counting
+pub mod Moving
+pub mod Answering

@@ -13,3 +13,7 @@ pub mod Laws
 pub mod LivelinessGets
 pub mod Liveliness
 pub mod ToldTokens
+pub mod Matching
+pub mod Listeners
+pub mod Present
+pub mod MatchingLaws

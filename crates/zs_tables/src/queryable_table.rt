@@ -1,9 +1,9 @@
-ghost use Rattle.std.specs.Prelude.{◌≡◌, ◌<◌, ◌==◌, ◌++◌, [], ◌∷◌, All, not, filter, OnOk, OnErr};
+ghost use Rattle.std.specs.Prelude.{◌≡◌, ◌<◌, ◌==◌, ◌++◌, [], ◌∷◌, All, map, not, filter, OnOk, OnErr};
 ghost use Rattle.std.specs.List.{find, list_any};
 ghost use Rattle.std.specs.Option.{option_copied};
 ghost use Rattle.zs_tables.specs.Ascending.{Ascend};
 ghost use Rattle.zs_tables.specs.Keyed.{passes_by};
-ghost use Rattle.zs_tables.specs.Queryables.{met, is_for};
+ghost use Rattle.zs_tables.specs.Queryables.{met, is_for, answers_for, answers_whole};
 
 use crate::keyed_rows::{KeyedRows, find_keyed};
 use crate::queryable::QueryableRow;
@@ -108,6 +108,55 @@ impl QueryableTable {
         keep_met(local, complete, self.rows.rows(), into);
         Ok(())
     }
+
+    /// Makes a list the ascending ids of the queryables, of any origin, that answer for that key: those whose own has a
+    /// key in common with it, or, where complete ones alone are wanted, the complete ones whose own includes it.
+    ///
+    /// # Errors
+    ///
+    /// Want of memory alone; the list is as before then.
+    pub fn answering_into(
+        &self,
+        key: &KeyExpr<'_>,
+        complete: bool,
+        into: &mut Vec<u32>,
+    ) -> Result<(), AllocError>
+        ensures ok { OnOk result (into.new.items ≡ map (λ q. q.id) (filter (answers_for complete key.now.text) self.now)) }
+        ensures err { OnErr result (into.new.items ≡ into.old.items) }
+    {
+        if !complete {
+            return self.rows.matches_into(key, into);
+        }
+        self.rows.matches_into(key, into)?;
+        keep_complete(key, self.rows.rows(), into);
+        Ok(())
+    }
+}
+
+/// Leaves those ids out of a list whose queryables aren't complete, or don't include that key.
+fn keep_complete(key: &KeyExpr<'_>, rows: &[QueryableRow], ids: &mut Vec<u32>)
+    requires { Ascend (λ row. row.id) rows.now }
+    ensures { ids.new.items ≡ filter (passes_by (λ row. row.id) (answers_whole key.now.text) rows.now) ids.old.items }
+{
+    ids.retain(|id| is_whole(key, rows, *id));
+}
+
+/// Whether the queryable of that id is complete and includes that key.
+fn is_whole(key: &KeyExpr<'_>, rows: &[QueryableRow], id: u32) -> bool
+    requires { Ascend (λ row. row.id) rows.now }
+    ensures { result ≡ passes_by (λ row. row.id) (answers_whole key.now.text) rows.now id }
+{
+    let Some(row) = find_keyed(rows, id) else {
+        return false;
+    };
+    answers_whole(key, row)
+}
+
+/// Whether a queryable is complete and includes that key.
+fn answers_whole(key: &KeyExpr<'_>, row: &QueryableRow) -> bool
+    ensures { result ≡ answers_whole key.now.text row.now }
+{
+    row.complete && row.key.includes(key)
 }
 
 /// Leaves those ids out of a list whose queryables don't take such a request.

@@ -200,6 +200,18 @@ impl Tables {
         Some(&row.matches)
     }
 
+    /// Makes a list the ascending ids of the subscribers whose key has a key in common with that one.
+    ///
+    /// # Errors
+    ///
+    /// Want of memory alone; the list is as before then.
+    pub fn met_into(&self, key: &KeyExpr<'_>, into: &mut Vec<u32>) -> Result<(), AllocError>
+        ensures ok { OnOk result (into.new.items ≡ matches key.now.text self.now.rows) }
+        ensures err { OnErr result (into.new.items ≡ into.old.items) }
+    {
+        self.tree.matches_into(key, into)
+    }
+
     /// Makes a list the ascending ids of the subscribers that receive a publication on that key. `local` says that the
     /// publication was made in this session.
     ///

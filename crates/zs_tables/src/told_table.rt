@@ -1,7 +1,8 @@
 ghost use Rattle.std.specs.Prelude.{◌≡◌, ◌==◌, [], not, filter, OnOk, OnErr};
-ghost use Rattle.std.specs.List.{find, list_any};
+ghost use Rattle.std.specs.List.{find, list_any, count_by};
 ghost use Rattle.std.specs.Option.{option_copied};
-ghost use Rattle.zs_tables.specs.Ascending.{placed_by};
+ghost use Rattle.zs_keys.specs.Matching.{intersects};
+ghost use Rattle.zs_tables.specs.Ascending.{Ascend, placed_by};
 ghost use Rattle.zs_tables.specs.Told.{is_subscribed, answers, is_answered};
 
 use crate::keyed_rows::find_keyed;
@@ -97,6 +98,36 @@ impl ToldTable {
         find_keyed(&self.queryables, number)
     }
 
+    /// The subscribers, in ascending number.
+    pub fn subs(&self) -> &[ToldSub]
+        ensures rows { result.now ≡ self.now.subs }
+        ensures ascending { Ascend (λ row. row.number) self.now.subs }
+    {
+        &self.subs
+    }
+
+    /// The queryables, in ascending number.
+    pub fn queryables(&self) -> &[ToldQueryable]
+        ensures rows { result.now ≡ self.now.queryables }
+        ensures ascending { Ascend (λ row. row.number) self.now.queryables }
+    {
+        &self.queryables
+    }
+
+    /// Whether a subscriber of that number is known.
+    pub fn has_sub(&self, number: u32) -> bool
+        ensures { result ≡ list_any (λ row. row.number == number) self.now.subs }
+    {
+        self.find_sub(number).is_some()
+    }
+
+    /// Whether a queryable of that number is known.
+    pub fn has_queryable(&self, number: u32) -> bool
+        ensures { result ≡ list_any (λ row. row.number == number) self.now.queryables }
+    {
+        self.find_queryable(number).is_some()
+    }
+
     /// Whether the key of a subscriber has a key in common with that one.
     pub fn is_subscribed(&self, key: &KeyExpr<'_>) -> bool
         ensures { result ≡ is_subscribed key.now.text self.now.subs }
@@ -112,6 +143,23 @@ impl ToldTable {
         self.queryables
             .iter()
             .any(|row| answers(row, key, complete))
+    }
+
+    /// How many subscribers have a key that has a key in common with that one.
+    pub fn count_subs(&self, key: &KeyExpr<'_>) -> usize
+        ensures { result ≡ count_by (λ row. intersects row.key.text key.now.text) self.now.subs }
+    {
+        self.subs.iter().filter(|row| row.key.meets(key)).count()
+    }
+
+    /// How many queryables answer for that key, as `is_answered` says.
+    pub fn count_queryables(&self, key: &KeyExpr<'_>, complete: bool) -> usize
+        ensures { result ≡ count_by (answers complete key.now.text) self.now.queryables }
+    {
+        self.queryables
+            .iter()
+            .filter(|row| answers(row, key, complete))
+            .count()
     }
 }
 

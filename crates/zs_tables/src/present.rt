@@ -1,0 +1,72 @@
+ghost use Rattle.std.specs.Prelude.{◌≡◌, length, IfOk, OnOk};
+ghost use Rattle.zs_tables.specs.Matching.{candidates, count_of};
+ghost use Rattle.zs_tables.specs.Present.{own_count, told_count, own_sought, told_sought};
+
+use crate::listener::{ListenerRow, Sought};
+use crate::queryable_table::QueryableTable;
+use crate::recipients::takes;
+use crate::tables::Tables;
+use crate::told_table::ToldTable;
+use std::alloc::{AllocError, Global};
+
+/// Those whom a listener may listen for: the live subscribers and queryables, and those that the other side declared.
+#[derive(Clone, Copy)]
+pub struct Present<'a> {
+    pub tables: &'a Tables,
+    pub queryables: &'a QueryableTable,
+    pub told: &'a ToldTable,
+}
+
+impl Present<'_> {
+    /// How many of them match a listener. It takes memory from `alloc`, and gives it back.
+    ///
+    /// # Errors
+    ///
+    /// Want of memory. So is a count above 2^64 - 1.
+    pub fn count(&self, alloc: Global, listener: &ListenerRow) -> Result<usize, AllocError>
+        ensures { IfOk result (λ n. n ≡ count_of (candidates self.now.tables.now.rows self.now.queryables.now self.now.told.now) listener.now) }
+    {
+        let own = self.count_own(alloc, listener)?;
+        let Some(count) = own.checked_add(self.count_told(listener)) else {
+            return Err(AllocError);
+        };
+        Ok(count)
+    }
+
+    /// How many of this session.
+    fn count_own(&self, alloc: Global, listener: &ListenerRow) -> Result<usize, AllocError>
+        ensures { IfOk result (λ n. n ≡ own_count self.now.tables.now.rows self.now.queryables.now listener.now) }
+    {
+        if !takes(true, listener.destination) {
+            return Ok(0);
+        }
+        let mut ids = Vec::new(alloc);
+        self.own_into(listener, &mut ids)?;
+        Ok(ids.len())
+    }
+
+    /// Makes a list the ids of those of this session, of any destination.
+    fn own_into(&self, listener: &ListenerRow, ids: &mut Vec<u32>) -> Result<(), AllocError>
+        ensures { OnOk result (length ids.new.items ≡ own_sought listener.now.sought listener.now.key.text self.now.tables.now.rows self.now.queryables.now) }
+    {
+        match listener.sought {
+            Sought::Subscribers => self.tables.met_into(&listener.key, ids),
+            Sought::Queryables => self.queryables.answering_into(&listener.key, false, ids),
+            Sought::CompleteQueryables => self.queryables.answering_into(&listener.key, true, ids),
+        }
+    }
+
+    /// How many of the other side.
+    fn count_told(&self, listener: &ListenerRow) -> usize
+        ensures { result ≡ told_count self.now.told.now listener.now }
+    {
+        if !takes(false, listener.destination) {
+            return 0;
+        }
+        match listener.sought {
+            Sought::Subscribers => self.told.count_subs(&listener.key),
+            Sought::Queryables => self.told.count_queryables(&listener.key, false),
+            Sought::CompleteQueryables => self.told.count_queryables(&listener.key, true),
+        }
+    }
+}
