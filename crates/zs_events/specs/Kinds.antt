@@ -2,15 +2,17 @@
 -- texts in them. What is said of all events is read off these rows.
 use Rattle.std.specs.Prelude.{ℕ, Bool, true, false, not, ◌==◌, List, [], ◌∷◌, length, Option, Some, None, codes, encode_utf8_all, if◌then◌else◌}
 use Rattle.zs_events.specs.declared.event.Event.{Event}
-use Rattle.zs_events.specs.declared.event.Event.TheVariants.{Key, UndeclareKey, Sub, Pub, Undeclare, Background, Put, Delete, PublisherPut, PublisherDelete, Close, Net, Get, Tick, Queryable, Reply as reply_event, ReplyDelete, ReplyErr, Share, Finish, Querier, QuerierGet, CancelToken, Cancel, Token, Lsub, LivelinessGet}
+use Rattle.zs_events.specs.declared.event.Event.TheVariants.{Key, UndeclareKey, Sub, Pub, Undeclare, Background, Put, Delete, PublisherPut, PublisherDelete, Close, Net, Get, Tick, Queryable, Reply as reply_event, ReplyDelete, ReplyErr, Share, Finish, Querier, QuerierGet, CancelToken, Cancel, Listen, Status, Token, Lsub, LivelinessGet}
 use Rattle.zs_events.specs.declared.event.EntityKind.{EntityKind}
-use Rattle.zs_events.specs.declared.event.EntityKind.TheVariants.{Sub as sub_kind, Pub as pub_kind, Queryable as queryable_kind, Querier as querier_kind, Token as token_kind, Lsub as lsub_kind}
+use Rattle.zs_events.specs.declared.event.EntityKind.TheVariants.{Sub as sub_kind, Pub as pub_kind, Queryable as queryable_kind, Querier as querier_kind, Listener as listener_kind, Token as token_kind, Lsub as lsub_kind}
 use Rattle.zs_events.specs.declared.event.BackgroundKind.{BackgroundKind}
-use Rattle.zs_events.specs.declared.event.BackgroundKind.TheVariants.{Sub as background_sub, Queryable as background_queryable, Lsub as background_lsub}
+use Rattle.zs_events.specs.declared.event.BackgroundKind.TheVariants.{Sub as background_sub, Queryable as background_queryable, Listener as background_listener, Lsub as background_lsub}
+use Rattle.zs_events.specs.declared.event.ParentKind.{ParentKind}
+use Rattle.zs_events.specs.declared.event.ParentKind.TheVariants.{Pub as pub_parent, Querier as querier_parent}
 use Rattle.zs_events.specs.declared.event.KeyArg.{KeyArg}
 use Rattle.zs_events.specs.declared.event.KeyArg.TheVariants.{Text, Number, Declared}
 use Rattle.zs_events.specs.declared.turn.Kind.{Kind}
-use Rattle.zs_events.specs.declared.turn.Kind.TheVariants.{Subscriber, Publisher, Queryable as kind_queryable, Querier as kind_querier, Token as kind_token, LivelinessSubscriber}
+use Rattle.zs_events.specs.declared.turn.Kind.TheVariants.{Subscriber, Publisher, Queryable as kind_queryable, Querier as kind_querier, Listener as kind_listener, Token as kind_token, LivelinessSubscriber}
 use Rattle.zs_sample.specs.Encoding.{encoding_of}
 use Rattle.zs_sample.specs.declared.locality.Locality.{Locality}
 use Rattle.zs_sample.specs.declared.locality.Locality.TheVariants.{Any}
@@ -48,7 +50,7 @@ pub data NamedKey : Type 0 where
   WireKey : (wire : WireExpr) → NamedKey
 
 -- what an event draws and is answered: no number, one of an entity, of a query, of a query value, of a cancellation token, or of a
--- key, unless the key has one
+-- key, unless the key has one; or, without drawing it, 1 or 0, as anyone matches what has this kind and number or nobody does
 pub data Draws : Type 0 where
   NoNumber : Draws
   EntityNumber : Draws
@@ -56,6 +58,7 @@ pub data Draws : Type 0 where
   ValueNumber : Draws
   TokenNumber : Draws
   KeyNumber : Draws
+  StatusOf : (kind : Kind) (id : ℕ) → Draws
 
 -- an entity by its kind and number
 pub record Named : Type 0 where
@@ -160,6 +163,15 @@ abbrev pub token_named : ToGets → ToLiveliness → Option ℕ
 token_named (Cancels token) to = Some token
 token_named to_gets to = asking_token to_gets to
 
+-- what the network tells of its subscribers and queryables: nothing, one under this number, in place of the one before it, or that the
+-- one of this number is gone
+pub data ToMatching : Type 0 where
+  NoMatch : ToMatching
+  TellsSub : (id : ℕ) → ToMatching
+  EndsSub : (id : ℕ) → ToMatching
+  TellsQueryable : (id : ℕ) (complete : Bool) → ToMatching
+  EndsQueryable : (id : ℕ) → ToMatching
+
 -- what is said of a kind of event
 pub record Row : Type 0 where
   pub says : Speaker
@@ -176,6 +188,7 @@ pub record Row : Type 0 where
   pub to_gets : ToGets
   pub to_values : ToValues
   pub to_liveliness : ToLiveliness
+  pub to_matching : ToMatching
   -- its texts beside that of its key
   pub texts : List (List ℕ)
 
@@ -193,6 +206,7 @@ said_by speaker = record {
   to_gets = NoGet;
   to_values = NoValue;
   to_liveliness = NoToken;
+  to_matching = NoMatch;
   texts = [];
 }
 
@@ -227,13 +241,20 @@ kind_of sub_kind = Subscriber
 kind_of pub_kind = Publisher
 kind_of queryable_kind = kind_queryable
 kind_of querier_kind = kind_querier
+kind_of listener_kind = kind_listener
 kind_of token_kind = kind_token
 kind_of lsub_kind = LivelinessSubscriber
 
 abbrev pub background_kind_of : BackgroundKind → Kind
 background_kind_of background_sub = Subscriber
 background_kind_of background_queryable = kind_queryable
+background_kind_of background_listener = kind_listener
 background_kind_of background_lsub = LivelinessSubscriber
+
+-- the kind of what a listener listens to
+abbrev pub parent_kind_of : ParentKind → Kind
+parent_kind_of pub_parent = Publisher
+parent_kind_of querier_parent = kind_querier
 
 -- what the end of an entity is to gets: a querier's gets end with it
 abbrev pub gets_ended : EntityKind → ℕ → ToGets
@@ -241,6 +262,7 @@ gets_ended sub_kind id = NoGet
 gets_ended pub_kind id = NoGet
 gets_ended queryable_kind id = NoGet
 gets_ended querier_kind id = EndsQuerier id
+gets_ended listener_kind id = NoGet
 gets_ended token_kind id = NoGet
 gets_ended lsub_kind id = NoGet
 
@@ -319,10 +341,10 @@ response_texts (Error value) = value.encoding ∷ []
 abbrev pub message_row : Message → Row
 message_row (DeclareKeyExpr number wire) = record (told_on wire) { tells_zero = number == 0 }
 message_row (UndeclareKeyExpr number) = said_by Network
-message_row (DeclareSubscriber id wire) = told_on wire
-message_row (UndeclareSubscriber id) = said_by Network
-message_row (DeclareQueryable id complete wire) = told_on wire
-message_row (UndeclareQueryable id) = said_by Network
+message_row (DeclareSubscriber id wire) = record (told_on wire) { to_matching = TellsSub id }
+message_row (UndeclareSubscriber id) = record (said_by Network) { to_matching = EndsSub id }
+message_row (DeclareQueryable id complete wire) = record (told_on wire) { to_matching = TellsQueryable id complete }
+message_row (UndeclareQueryable id) = record (said_by Network) { to_matching = EndsQueryable id }
 message_row (DeclareToken id wire interest) = record (told_on wire) { to_liveliness = TellsToken id interest }
 message_row (UndeclareToken id wire interest) = record (said_by Network) { key = wire_key wire; to_liveliness = EndsToken id interest }
 message_row (DeclareFinal interest) = record (said_by Network) { to_liveliness = EndsAnswers interest }
@@ -355,6 +377,11 @@ row_of (Pub destination key encoding qos reliable) = record (said_by Application
 }
 row_of (Queryable origin complete key) = record (said_by Application) { key = OwnKey key; draws = EntityNumber }
 row_of (Querier destination key target consolidation timeout qos any_key) = record (said_by Application) { key = OwnKey key; draws = EntityNumber }
+row_of (Listen parent id) = record (said_by Application) { draws = EntityNumber; names = Some (record { kind = parent_kind_of parent; id = id }) }
+row_of (Status parent id) = record (said_by Application) {
+  draws = StatusOf (parent_kind_of parent) id;
+  names = Some (record { kind = parent_kind_of parent; id = id });
+}
 row_of (Token key) = record (said_by Application) { key = OwnKey key; draws = EntityNumber }
 row_of (Lsub history key) = record (said_by Application) { key = OwnKey key; draws = EntityNumber; to_liveliness = Subscribes history }
 row_of (LivelinessGet key timeout token) = record (said_by Application) { key = OwnKey key; draws = EntityNumber; to_liveliness = AsksTokens timeout token }

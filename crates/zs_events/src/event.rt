@@ -31,6 +31,7 @@ pub enum EntityKind {
     Pub,
     Queryable,
     Querier,
+    Listener,
     Token,
     Lsub,
 }
@@ -40,7 +41,15 @@ pub enum EntityKind {
 pub enum BackgroundKind {
     Sub,
     Queryable,
+    Listener,
     Lsub,
+}
+
+/// The sorts of entities whose matching can be asked for.
+#[derive(Clone, Copy, Debug, PartialEq, Eq, Hash)]
+pub enum ParentKind {
+    Pub,
+    Querier,
 }
 
 /// What can happen to a session.
@@ -86,6 +95,16 @@ pub enum Event {
         qos: QoSType,
         /// Whether its gets take replies on any key.
         any_key: bool,
+    },
+    /// The application declares a listener, which is told from now on whether anyone matches that publisher or querier.
+    Listen {
+        parent: ParentKind,
+        id: u32,
+    },
+    /// The application asks whether anyone matches that publisher or querier.
+    Status {
+        parent: ParentKind,
+        id: u32,
     },
     /// The application declares a liveliness token: others see that it is alive while it is not undeclared.
     Token {
@@ -240,6 +259,6 @@ pub enum Event {
     },
     /// The application closes the session.
     Close,
-    /// A message comes in from the network. Those of matching change nothing yet.
+    /// A message comes in from the network.
     Net(Message),
 }

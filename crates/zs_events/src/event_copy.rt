@@ -12,22 +12,28 @@ impl KeyArg {
     pub fn try_clone(&self, alloc: Global) -> Result<KeyArg, AllocError>
         ensures { IfOk result (λ copy. copy ≡ self.now) }
     {
-        Ok(match self {
-            KeyArg::Text(text) => KeyArg::Text(text.try_clone(alloc)?),
-            KeyArg::Number { number, suffix } => KeyArg::Number {
-                number: *number,
-                suffix: suffix.try_clone(alloc)?,
-            },
+        match self {
+            KeyArg::Text(text) => Ok(KeyArg::Text(text.try_clone(alloc)?)),
+            KeyArg::Number { number, suffix } => {
+                let suffix = suffix.try_clone(alloc)?;
+                Ok(KeyArg::Number {
+                    number: *number,
+                    suffix,
+                })
+            }
             KeyArg::Declared {
                 text,
                 number,
                 prefix_len,
-            } => KeyArg::Declared {
-                text: text.try_clone(alloc)?,
-                number: *number,
-                prefix_len: *prefix_len,
-            },
-        })
+            } => {
+                let text = text.try_clone(alloc)?;
+                Ok(KeyArg::Declared {
+                    text,
+                    number: *number,
+                    prefix_len: *prefix_len,
+                })
+            }
+        }
     }
 }
 
@@ -53,13 +59,16 @@ impl Event {
                 encoding,
                 qos,
                 reliable,
-            } => Ok(Event::Pub {
-                destination: *destination,
-                key: key.try_clone(alloc)?,
-                encoding: encoding.try_clone(alloc)?,
-                qos: *qos,
-                reliable: *reliable,
-            }),
+            } => {
+                let (key, encoding) = clone_named(key, encoding, alloc)?;
+                Ok(Event::Pub {
+                    destination: *destination,
+                    key,
+                    encoding,
+                    qos: *qos,
+                    reliable: *reliable,
+                })
+            }
             Event::Queryable {
                 origin,
                 complete,
@@ -86,6 +95,14 @@ impl Event {
                 qos: *qos,
                 any_key: *any_key,
             }),
+            Event::Listen { parent, id } => Ok(Event::Listen {
+                parent: *parent,
+                id: *id,
+            }),
+            Event::Status { parent, id } => Ok(Event::Status {
+                parent: *parent,
+                id: *id,
+            }),
             Event::Token { key } => Ok(Event::Token {
                 key: key.try_clone(alloc)?,
             }),
@@ -111,17 +128,22 @@ impl Event {
                 reliable,
                 source,
                 attachment,
-            } => Ok(Event::Put {
-                destination: *destination,
-                key: key.try_clone(alloc)?,
-                payload: payload.try_clone(alloc)?,
-                encoding: encoding.try_clone(alloc)?,
-                timestamp: *timestamp,
-                qos: *qos,
-                reliable: *reliable,
-                source: *source,
-                attachment: clone_bytes(attachment, alloc)?,
-            }),
+            } => {
+                let (key, payload, encoding, attachment) = clone_content(
+                    key, payload, encoding, attachment, alloc,
+                )?;
+                Ok(Event::Put {
+                    destination: *destination,
+                    key,
+                    payload,
+                    encoding,
+                    timestamp: *timestamp,
+                    qos: *qos,
+                    reliable: *reliable,
+                    source: *source,
+                    attachment,
+                })
+            }
             Event::Delete {
                 destination,
                 key,
@@ -130,15 +152,18 @@ impl Event {
                 reliable,
                 source,
                 attachment,
-            } => Ok(Event::Delete {
-                destination: *destination,
-                key: key.try_clone(alloc)?,
-                timestamp: *timestamp,
-                qos: *qos,
-                reliable: *reliable,
-                source: *source,
-                attachment: clone_bytes(attachment, alloc)?,
-            }),
+            } => {
+                let (key, attachment) = clone_marked(key, attachment, alloc)?;
+                Ok(Event::Delete {
+                    destination: *destination,
+                    key,
+                    timestamp: *timestamp,
+                    qos: *qos,
+                    reliable: *reliable,
+                    source: *source,
+                    attachment,
+                })
+            }
             Event::PublisherPut {
                 id,
                 payload,
@@ -146,14 +171,19 @@ impl Event {
                 timestamp,
                 source,
                 attachment,
-            } => Ok(Event::PublisherPut {
-                id: *id,
-                payload: payload.try_clone(alloc)?,
-                encoding: clone_text(encoding, alloc)?,
-                timestamp: *timestamp,
-                source: *source,
-                attachment: clone_bytes(attachment, alloc)?,
-            }),
+            } => {
+                let (payload, encoding, attachment) = clone_update(
+                    payload, encoding, attachment, alloc,
+                )?;
+                Ok(Event::PublisherPut {
+                    id: *id,
+                    payload,
+                    encoding,
+                    timestamp: *timestamp,
+                    source: *source,
+                    attachment,
+                })
+            }
             Event::PublisherDelete {
                 id,
                 timestamp,
@@ -180,20 +210,26 @@ impl Event {
                 attachment,
                 any_key,
                 token,
-            } => Ok(Event::Get {
-                destination: *destination,
-                key: key.try_clone(alloc)?,
-                parameters: parameters.try_clone(alloc)?,
-                target: *target,
-                consolidation: *consolidation,
-                timeout: *timeout,
-                value: clone_value(value, alloc)?,
-                qos: *qos,
-                source: *source,
-                attachment: clone_bytes(attachment, alloc)?,
-                any_key: *any_key,
-                token: *token,
-            }),
+            } => {
+                let key = key.try_clone(alloc)?;
+                let (parameters, value, attachment) = clone_question(
+                    parameters, value, attachment, alloc,
+                )?;
+                Ok(Event::Get {
+                    destination: *destination,
+                    key,
+                    parameters,
+                    target: *target,
+                    consolidation: *consolidation,
+                    timeout: *timeout,
+                    value,
+                    qos: *qos,
+                    source: *source,
+                    attachment,
+                    any_key: *any_key,
+                    token: *token,
+                })
+            }
             Event::QuerierGet {
                 id,
                 parameters,
@@ -201,14 +237,19 @@ impl Event {
                 source,
                 attachment,
                 token,
-            } => Ok(Event::QuerierGet {
-                id: *id,
-                parameters: parameters.try_clone(alloc)?,
-                value: clone_value(value, alloc)?,
-                source: *source,
-                attachment: clone_bytes(attachment, alloc)?,
-                token: *token,
-            }),
+            } => {
+                let (parameters, value, attachment) = clone_question(
+                    parameters, value, attachment, alloc,
+                )?;
+                Ok(Event::QuerierGet {
+                    id: *id,
+                    parameters,
+                    value,
+                    source: *source,
+                    attachment,
+                    token: *token,
+                })
+            }
             Event::LivelinessGet {
                 key,
                 timeout,
@@ -229,18 +270,23 @@ impl Event {
                 express,
                 source,
                 attachment,
-            } => Ok(Event::Reply {
-                value: *value,
-                key: key.try_clone(alloc)?,
-                payload: payload.try_clone(alloc)?,
-                encoding: encoding.try_clone(alloc)?,
-                timestamp: *timestamp,
-                priority: *priority,
-                congestion: *congestion,
-                express: *express,
-                source: *source,
-                attachment: clone_bytes(attachment, alloc)?,
-            }),
+            } => {
+                let (key, payload, encoding, attachment) = clone_content(
+                    key, payload, encoding, attachment, alloc,
+                )?;
+                Ok(Event::Reply {
+                    value: *value,
+                    key,
+                    payload,
+                    encoding,
+                    timestamp: *timestamp,
+                    priority: *priority,
+                    congestion: *congestion,
+                    express: *express,
+                    source: *source,
+                    attachment,
+                })
+            }
             Event::ReplyDelete {
                 value,
                 key,
@@ -250,25 +296,31 @@ impl Event {
                 express,
                 source,
                 attachment,
-            } => Ok(Event::ReplyDelete {
-                value: *value,
-                key: key.try_clone(alloc)?,
-                timestamp: *timestamp,
-                priority: *priority,
-                congestion: *congestion,
-                express: *express,
-                source: *source,
-                attachment: clone_bytes(attachment, alloc)?,
-            }),
+            } => {
+                let (key, attachment) = clone_marked(key, attachment, alloc)?;
+                Ok(Event::ReplyDelete {
+                    value: *value,
+                    key,
+                    timestamp: *timestamp,
+                    priority: *priority,
+                    congestion: *congestion,
+                    express: *express,
+                    source: *source,
+                    attachment,
+                })
+            }
             Event::ReplyErr {
                 value,
                 payload,
                 encoding,
-            } => Ok(Event::ReplyErr {
-                value: *value,
-                payload: payload.try_clone(alloc)?,
-                encoding: encoding.try_clone(alloc)?,
-            }),
+            } => {
+                let (payload, encoding) = clone_value_parts(payload, encoding, alloc)?;
+                Ok(Event::ReplyErr {
+                    value: *value,
+                    payload,
+                    encoding,
+                })
+            }
             Event::Share { value } => Ok(Event::Share { value: *value }),
             Event::Finish { value } => Ok(Event::Finish { value: *value }),
             Event::Tick { now } => Ok(Event::Tick { now: *now }),
@@ -306,4 +358,86 @@ fn clone_value(value: &Option<Value>, alloc: Global) -> Result<Option<Value>, Al
         Some(value) => Ok(Some(value.try_clone(alloc)?)),
         None => Ok(None),
     }
+}
+
+/// A key and an encoding, in the memory that both share.
+fn clone_named(key: &KeyArg, encoding: &Text, alloc: Global) -> Result<(KeyArg, Text), AllocError>
+    ensures key { IfOk result (λ copies. copies.0 ≡ key.now) }
+    ensures encoding { IfOk result (λ copies. copies.1 ≡ encoding.now) }
+{
+    Ok((key.try_clone(alloc)?, encoding.try_clone(alloc)?))
+}
+
+/// A payload and its encoding, in the memory that both share.
+fn clone_value_parts(
+    payload: &ZBytes,
+    encoding: &Text,
+    alloc: Global,
+) -> Result<(ZBytes, Text), AllocError>
+    ensures payload { IfOk result (λ copies. copies.0 ≡ payload.now) }
+    ensures encoding { IfOk result (λ copies. copies.1 ≡ encoding.now) }
+{
+    Ok((payload.try_clone(alloc)?, encoding.try_clone(alloc)?))
+}
+
+/// A key and an attachment, in the memory that both share.
+fn clone_marked(
+    key: &KeyArg,
+    attachment: &Option<ZBytes>,
+    alloc: Global,
+) -> Result<(KeyArg, Option<ZBytes>), AllocError>
+    ensures key { IfOk result (λ copies. copies.0 ≡ key.now) }
+    ensures attachment { IfOk result (λ copies. copies.1 ≡ attachment.now) }
+{
+    Ok((key.try_clone(alloc)?, clone_bytes(attachment, alloc)?))
+}
+
+/// What a publication or a reply says, in the memory that both share.
+fn clone_content(
+    key: &KeyArg,
+    payload: &ZBytes,
+    encoding: &Text,
+    attachment: &Option<ZBytes>,
+    alloc: Global,
+) -> Result<(KeyArg, ZBytes, Text, Option<ZBytes>), AllocError>
+    ensures key { IfOk result (λ copies. copies.0 ≡ key.now) }
+    ensures payload { IfOk result (λ copies. copies.1 ≡ payload.now) }
+    ensures encoding { IfOk result (λ copies. copies.2 ≡ encoding.now) }
+    ensures attachment { IfOk result (λ copies. copies.3 ≡ attachment.now) }
+{
+    let (key, attachment) = clone_marked(key, attachment, alloc)?;
+    let (payload, encoding) = clone_value_parts(payload, encoding, alloc)?;
+    Ok((key, payload, encoding, attachment))
+}
+
+/// What a publisher puts, in the memory that both share.
+fn clone_update(
+    payload: &ZBytes,
+    encoding: &Option<Text>,
+    attachment: &Option<ZBytes>,
+    alloc: Global,
+) -> Result<(ZBytes, Option<Text>, Option<ZBytes>), AllocError>
+    ensures payload { IfOk result (λ copies. copies.0 ≡ payload.now) }
+    ensures encoding { IfOk result (λ copies. copies.1 ≡ encoding.now) }
+    ensures attachment { IfOk result (λ copies. copies.2 ≡ attachment.now) }
+{
+    let payload = payload.try_clone(alloc)?;
+    let encoding = clone_text(encoding, alloc)?;
+    Ok((payload, encoding, clone_bytes(attachment, alloc)?))
+}
+
+/// What a get asks, in the memory that both share.
+fn clone_question(
+    parameters: &Text,
+    value: &Option<Value>,
+    attachment: &Option<ZBytes>,
+    alloc: Global,
+) -> Result<(Text, Option<Value>, Option<ZBytes>), AllocError>
+    ensures parameters { IfOk result (λ copies. copies.0 ≡ parameters.now) }
+    ensures value { IfOk result (λ copies. copies.1 ≡ value.now) }
+    ensures attachment { IfOk result (λ copies. copies.2 ≡ attachment.now) }
+{
+    let parameters = parameters.try_clone(alloc)?;
+    let value = clone_value(value, alloc)?;
+    Ok((parameters, value, clone_bytes(attachment, alloc)?))
 }

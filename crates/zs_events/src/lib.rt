@@ -2,7 +2,7 @@
 #![tactic(auto)]
 
 pub use chan::Chan;
-pub use event::{BackgroundKind, EntityKind, Event, KeyArg};
+pub use event::{BackgroundKind, EntityKind, Event, KeyArg, ParentKind};
 pub use event_copy::clone_bytes;
 pub use received::Received;
 pub use script_event::ScriptEvent;

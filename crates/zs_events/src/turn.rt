@@ -111,6 +111,8 @@ pub enum Effect {
     Hand(HandOver),
     /// A handler is called no more.
     End { kind: Kind, id: u32 },
+    /// A listener is told whether anyone matches, which is not what it was told before.
+    Matching { id: u32, matching: bool },
 }
 
 impl Effect {
@@ -124,6 +126,10 @@ impl Effect {
             Effect::End { kind, id } => Effect::End {
                 kind: *kind,
                 id: *id,
+            },
+            Effect::Matching { id, matching } => Effect::Matching {
+                id: *id,
+                matching: *matching,
             },
         })
     }
