@@ -1,8 +1,10 @@
 -- What an open session makes of answers to query values, and of values that are given back, by what is found of them.
-use Rattle.std.proofs.Common.{◌≡◌, ℕ, List, [], Bool, true, false, Option, Some, None, refl, sym, ◌∙◌, ap}
+use Rattle.std.proofs.Common.{◌≡◌, ℕ, List, [], Bool, true, false, Option, Some, None, Result, Ok, Err, refl, sym, ◌∙◌, ap}
 use Rattle.std.specs.Prelude.{not, ◌||◌, is_some, if◌then◌else◌}
 use Rattle.std.specs.Borrow.{Bor}
 use Rattle.zs_keys.specs.Text.{is_canonical}
+use Rattle.zs_keys.specs.Key.{Key, undeclared}
+use Rattle.zs_tables.proofs.ByKey.{by_test}
 use Rattle.zs_wire.specs.declared.body.Body.{Body}
 use Rattle.zs_wire.specs.declared.body.Value.{Value}
 use Rattle.zs_query.specs.declared.query_value.QueryValue.{QueryValue}
@@ -15,7 +17,7 @@ use Rattle.zs_events.specs.Kinds.{ReplyQuality, OwnKey}
 use Rattle.zs_core.specs.declared.change.Change.TheVariants.{Nothing, OfValues}
 use Rattle.zs_core.specs.declared.change.ValueChange.TheVariants.{GiveBack}
 use Rattle.zs_core.specs.World.{World}
-use Rattle.zs_core.specs.Keys.{key_of}
+use Rattle.zs_core.specs.Keys.{key_of, resolution}
 use Rattle.zs_core.specs.Answers.{is_refused_on, local_reply}
 use Rattle.zs_core.specs.Changes.{replied_change}
 use Rattle.zs_core.specs.Effects.{answering}
@@ -95,3 +97,19 @@ pub error_unsent : (w : World) (value : ℕ) (error : Value) (o : Option QueryVa
 error_unsent w value error o f is none at =
     let gone : value_at value w.handing.values ≡ None = at ∙ missing o f is none in
     sym (ap (error_answered w value error) gone)
+
+-- a reply on a key that stands for a text, and that its query takes
+pub taken_by : (w : World) (key : KeyArg) (queryable : ℕ) (row : RequestRow) (quality : ReplyQuality) (body : Body) (o : Option (List ℕ)) (k : Key) → Ok k ≡ resolution NotFound o
+    → is_refused_on k.text row ≡ false → answered_by w key queryable row quality body o ≡ replied_by w key queryable row quality body k.text
+taken_by w key queryable row quality body None k is taken = absurd (cc)
+taken_by w key queryable row quality body (Some text) k is taken =
+    by_test (is_canonical text)
+    (λ c.
+    let found : Ok k ≡ Ok (undeclared text) = is ∙ rw c refl in
+    let key_is : k ≡ undeclared text = cc in
+    let same : k.text ≡ text = ap (λ (x : Key). x.text) key_is in
+    let takes : is_refused_on text row ≡ false = ap (λ (t : List ℕ). is_refused_on t row) (sym same) ∙ taken in
+    rw (c, takes) (ap (λ (t : List ℕ). replied_by w key queryable row quality body t) (sym same)))
+    (λ c.
+    let none : Ok k ≡ Err BadKeyExpr = is ∙ rw c refl in
+    absurd (cc))

@@ -8,6 +8,8 @@ use Rattle.std.proofs.lemmas.Bool.Decides.{nat_tests}
 use Rattle.std.proofs.lemmas.List.Elements.{recursion_from_All, All-from_recursion}
 use Rattle.zs_keys.specs.Key.{Key}
 use Rattle.zs_tables.specs.Groups.{Group, has_text, members_of, with_group, joined, left, without_member, has_members, AllGroups}
+use Rattle.zs_tables.specs.Told.{Told}
+use Rattle.zs_tables.specs.Matching.{Listener}
 use Rattle.zs_tables.specs.declared.subscriber.SubRow.{SubRow}
 use Rattle.zs_tables.specs.declared.queryable.QueryableRow.{QueryableRow}
 use Rattle.zs_core.specs.declared.publisher.PubRow.{PubRow}
@@ -120,9 +122,9 @@ rows_up number next after rows le all =
     All-from_recursion (λ r. number r < after) rows
     (all_weaker (λ r. number r < next) (λ r. number r < after) (λ r less. omega (arith, less, le)) rows (recursion_from_All (λ r. number r < next) rows all))
 
-pub below_weaker : (next after : ℕ) (rows : List SubRow) (publishers : List PubRow) (queryables : List QueryableRow) (queriers : List QuerierRow) (groups : AllGroups) → next ≤ after
-    → AreBelow next rows publishers queryables queriers groups → AreBelow after rows publishers queryables queriers groups
-below_weaker next after rows publishers queryables queriers groups le b = record {
+pub below_weaker : (next after : ℕ) (rows : List SubRow) (publishers : List PubRow) (queryables : List QueryableRow) (queriers : List QuerierRow) (groups : AllGroups) (told : Told) (listeners : List Listener) → next ≤ after
+    → AreBelow next rows publishers queryables queriers groups told listeners → AreBelow after rows publishers queryables queriers groups told listeners
+below_weaker next after rows publishers queryables queriers groups told listeners le b = record {
   subs = rows_up (λ (row : SubRow). row.id) next after rows le b.subs;
   pubs = rows_up (λ (row : PubRow). row.id) next after publishers le b.pubs;
   queryables = rows_up (λ (row : QueryableRow). row.id) next after queryables le b.queryables;
@@ -130,4 +132,6 @@ below_weaker next after rows publishers queryables queriers groups le b = record
   sub_groups = groups_weaker next after groups.subscribers le b.sub_groups;
   pub_groups = groups_weaker next after groups.publishers le b.pub_groups;
   querier_groups = groups_weaker next after groups.queriers le b.querier_groups;
+  listening = rows_up (λ (l : Listener). l.row.id) next after listeners le b.listening;
+  counted = b.counted;
 }

@@ -30,7 +30,7 @@ use Rattle.zs_events.specs.Kinds.{NamedKey, Publishes, NoContent, OwnContent, By
 use Rattle.zs_core.specs.declared.publisher.PubRow.{PubRow}
 use Rattle.zs_core.specs.declared.settings.Settings.{Settings}
 use Rattle.zs_core.specs.declared.change.Change.{Change}
-use Rattle.zs_core.specs.declared.change.Change.TheVariants.{Nothing, OfEntities, Shut, OfLiveliness}
+use Rattle.zs_core.specs.declared.change.Change.TheVariants.{Nothing, OfEntities, Shut, OfLiveliness, OfMatching}
 use Rattle.zs_core.specs.declared.change.EntityChange.TheVariants.{AddSub, EndSub, AddPub, EndPub, AddQueryable, EndQueryable, AddQuerier, EndQuerier, LeaveSub, LeaveQueryable}
 use Rattle.zs_core.specs.declared.change.Decision.{Decision}
 use Rattle.zs_core.specs.World.{World}
@@ -58,12 +58,15 @@ use Rattle.zs_core.specs.Covered.{subscription_text, covers, IsCovered}
 use Rattle.zs_core.specs.Laws.{SubscribersAreCovered}
 use Rattle.zs_core.proofs.Filters.{all_weaker}
 use Rattle.zs_core.proofs.Decisions.{entry_for, cases}
-use Rattle.zs_core.proofs.Changes.{IsMade, made}
-use Rattle.zs_core.proofs.Watching.{never_down}
+use Rattle.zs_core.proofs.Saying.{IsMade}
+use Rattle.zs_core.proofs.Changes.{made}
+use Rattle.zs_core.proofs.Watching.{never_down, listening_up}
 use Rattle.zs_core.proofs.Groups.{AreApart}
 use Rattle.zs_core.proofs.GroupNumbers.{AreShared}
-use Rattle.zs_core.proofs.Stands.{AreStanding, standing, same_turn, same_text, steps}
-use Rattle.zs_core.proofs.Received.{asked_by, answered_by, told_by_event, value_cases, request_cases, all_messages, behind_both, keys_read}
+use Rattle.zs_core.proofs.Stands.{AreStanding, standing, same_text, steps}
+use Rattle.zs_core.proofs.Messages.{same_messages, asked_by, answered_by, told_by_event, value_cases, all_messages, behind_both}
+use Rattle.zs_core.proofs.Reading.{request_cases}
+use Rattle.zs_core.proofs.Received.{keys_read}
 use Rattle.zs_core.proofs.CoveredGroups.{AreSubscribed, number_there, subscribed_more, subscribed_less}
 use Rattle.zs_core.proofs.CoveredKeys.{shared_includes}
 
@@ -211,6 +214,7 @@ unmoved w x (OfEntities (EndQuerier id)) m drew ended = (refl, same w.counters.e
 unmoved w x (OfEntities (LeaveSub id)) m drew ended = (refl, same w.counters.entity)
 unmoved w x (OfEntities (LeaveQueryable id)) m drew ended = (refl, same w.counters.entity)
 unmoved w x (OfLiveliness change) m drew ended = (refl, never_down change w.counters.entity)
+unmoved w x (OfMatching change) m drew ended = (refl, listening_up change w.counters.entity)
 unmoved w x Nothing m drew ended = (refl, same w.counters.entity)
 unmoved w x c m drew ended = (refl, same w.counters.entity)
 
@@ -392,11 +396,11 @@ covers_after s (e ∷ h) = λ spelled utf8.
     let Reads = λ (ms : List Message). AreUtf8 (past_of s h) → IfSome (text_for w e) IsUtf8 → AreReadAs w.settings (spoken_at w e) (sent s h) ms in
     let P = λ (d : Decision) (past : List Entry). AreUtf8 past → Reads (messages_of d.turn.effects) → Covers (world_of s past) (sent_behind (messages_of d.turn.effects) (sent s h)) in
     let reads : Reads (messages_of (decision w e).turn.effects) = λ utf8 own.
-    subst (λ (t : Turn). AreReadAs w.settings (spoken_at w e) (sent s h) (messages_of t.effects)) (sym (same_turn s w (past_of s h) e st))
+    subst (AreReadAs w.settings (spoken_at w e) (sent s h)) (sym (same_messages s w (past_of s h) e st))
     (subst (λ (o : Option (List ℕ)). AreReadAs w.settings o (sent s h) (messages_of (effects s h e).effects)) (sym (spoken_is s w (past_of s h) e st))
     (subst (λ (t : Settings). AreReadAs t (spoken_text (past_of s h) e) (sent s h) (messages_of (effects s h e).effects)) (sym st.settings)
     (keys_read s h e spelled utf8 (subst (λ (o : Option (List ℕ)). IfSome o IsUtf8) (same_text s w (past_of s h) e st) own)))) in
-    subst (λ (turn : Turn). Covers (world_after s (e ∷ h)) (sent_behind (messages_of turn.effects) (sent s h))) (same_turn s w (past_of s h) e st)
+    subst (λ (ms : List Message). Covers (world_after s (e ∷ h)) (sent_behind ms (sent s h))) (same_messages s w (past_of s h) e st)
     (steps s h e P (cases w e (past_of s h) P
     (λ refusal number fx c utf8 read. covers_after s h spelled utf8)
     (λ shut utf8 read. covers_after s h spelled utf8)

@@ -18,7 +18,7 @@ use Rattle.zs_core.specs.DeclaredKeys.{holders_of, has_holder, raised, is_last, 
 use Rattle.zs_core.specs.Changes.{with_change, Fits}
 use Rattle.zs_core.proofs.Numbers.{has_holder-raised, holders_of-raised, has_holder-lowered, holders_of-lowered, holders_none, key_at-placed, key_at-without, or_known}
 use Rattle.zs_core.proofs.DistinctNumbers.{Once, apart, once-placed, once-without}
-use Rattle.zs_core.proofs.Changes.{IsMade, IsText, closes, declares_by, returns_by, told_by}
+use Rattle.zs_core.proofs.Saying.{IsMade, IsText, closes, declares_by, returns_by, told_by}
 
 -- what the tables of keys are behind a past
 pub record AreKnown (w : World) (past : List Entry) : Type 0 where

@@ -25,7 +25,7 @@ use Rattle.zs_core.specs.Finals.{is_last_of, ends_request, times_ended, is_asked
 use Rattle.zs_core.specs.Live.{to_gets_of}
 use Rattle.zs_core.specs.Turns.{to_gets_at}
 use Rattle.zs_core.specs.Stands.{world_after}
-use Rattle.zs_core.proofs.Changes.{IsMade}
+use Rattle.zs_core.proofs.Saying.{IsMade}
 use Rattle.zs_core.proofs.Values.{handing_next}
 use Rattle.zs_core.proofs.Steps.{along}
 use Rattle.zs_core.proofs.Live.{same_gets}
@@ -314,7 +314,7 @@ ends_once s h r =
     let P = λ (w : World) (past : List Entry). AreStanding s w past × AreEnded r w past in
     let both : P (world_after s h) (past_of s h) =
     along s P (standing s [], record { same = refl; order = record { ascend = tt; below = tt; handed = tt }; ended = sym (ap times (none_yet r)) })
-    (λ w past x c m p. let st = standing_more s w past x c m p.0 in (st, ended_more r w past x c m st.handing (same_gets w past x.event p.0.live) p.1)) h in
+    (λ w past x c m k p. let st = standing_more s w past x c m k p.0 in (st, ended_more r w past x c m st.handing (same_gets w past x.event p.0.live) p.1)) h in
     both.1.ended ∙ ap (λ (h : Handing). times (over r h)) both.1.same
   where
     none_yet : (r : ℕ) → (nat_lt r 0 && true) ≡ false

@@ -46,8 +46,9 @@ use Rattle.zs_core.specs.Received.{messages_of}
 use Rattle.zs_core.specs.Finals.{finals_among, unmet_final, last_final, finals_by, finals_due}
 use Rattle.zs_core.specs.Turns.{known_at, own_keys_at, text_for, number_for, effects_of, cause, closed_cause, open_cause, decision_of, open_decision, decision}
 use Rattle.zs_core.specs.Stands.{world_after}
-use Rattle.zs_core.proofs.Stands.{standing, same_turn, same_text, same_cause}
-use Rattle.zs_core.proofs.Received.{no_messages_in_queries, no_messages_in_reply, no_messages_in_error, no_messages_in_final, told_beside, asked_by, answered_by, told_by_event, all_messages, request_cases}
+use Rattle.zs_core.proofs.Stands.{standing, same_text, same_cause}
+use Rattle.zs_core.proofs.Messages.{same_messages, no_messages_in_queries, no_messages_in_reply, no_messages_in_error, no_messages_in_final, told_beside, asked_by, answered_by, told_by_event, all_messages}
+use Rattle.zs_core.proofs.Reading.{request_cases}
 
 -- finals of two lists of messages
 finals_append : (xs ys : List Message) → finals_among (xs ++ ys) ≡ finals_among xs ++ finals_among ys
@@ -262,11 +263,10 @@ pub finals_are : (s : Settings) (h : List Event) (e : Event) → finals_among (m
 finals_are s h e =
     let w = world_after s h in
     let st = standing s h in
-    let turn : (decision w e).turn ≡ effects s h e = same_turn s w (past_of s h) e st in
     let refusal = same_cause s w (past_of s h) e st in
     let closed = st.known.closed in
     let text = same_text s w (past_of s h) e st in
     let rows = st.live.queryables.table in
     let handing = st.handing in
-    ap (λ (t : Turn). finals_among (messages_of t.effects)) (sym turn) ∙ by_tables w e
+    ap finals_among (sym (same_messages s w (past_of s h) e st)) ∙ by_tables w e
     ∙ (λ i. if is_some (refusal i) || closed i then [] else finals_by (rows i) (handing i).values (text i) (row_of e).to_values)

@@ -22,7 +22,7 @@ use Rattle.zs_core.specs.Changes.{with_change}
 use Rattle.zs_core.proofs.Groups.{numbered, number_kept}
 use Rattle.zs_core.proofs.Sharing.{AreGrouped, grouped_none, grouped_more, grouped_less, number_more, number_less, only_found}
 use Rattle.zs_core.proofs.Entities.{table_ascends}
-use Rattle.zs_core.proofs.Changes.{IsMade, IsNumber}
+use Rattle.zs_core.proofs.Saying.{IsMade, IsNumber}
 use Rattle.zs_core.proofs.Live.{AreLive}
 
 -- the groups are those of these tables

@@ -3,8 +3,12 @@ mod Asking
 mod Bounds
 mod Cancelling
 mod Causes
+mod Saying
+mod DeclaredMade
+mod AskedMade
+mod AnsweredMade
+mod ToldMade
 mod Changes
-mod Counts
 mod Covered
 mod CoveredGroups
 mod CoveredKeys
@@ -19,6 +23,7 @@ mod Finals
 mod Gets
 mod GroupNumbers
 mod Groups
+mod HolderCounts
 mod KeyNumbers
 mod Keys
 mod Live
@@ -27,7 +32,11 @@ mod Placing
 mod Publications
 mod Publishers
 mod Queriers
+mod Messages
+mod Reading
+mod ToldNumbers
 mod Received
+mod OneMessage
 mod Recipients
 mod Replies
 mod Sharing
@@ -39,3 +48,10 @@ pub mod Tokens
 pub mod Ended
 mod Untaken
 mod Values
+pub mod Hearing
+pub mod Counted
+pub mod Matched
+pub mod MatchingMade
+pub mod Listening
+mod Silent
+mod Knowing

@@ -8,9 +8,12 @@ use Rattle.zs_events.specs.declared.event.Event.TheVariants.{Key, Sub, Pub, Quer
 use Rattle.zs_events.specs.declared.turn.Kind.{Kind}
 use Rattle.zs_events.specs.declared.turn.Kind.TheVariants.{Subscriber, LivelinessSubscriber, Publisher, Queryable, Querier, Token, Listener, Get, LivelinessGet}
 use Rattle.zs_core.specs.declared.change.Change.{Change}
-use Rattle.zs_core.specs.declared.change.Change.TheVariants.{Nothing, OfEntities, Shut, OfLiveliness}
+use Rattle.zs_core.specs.declared.change.Change.TheVariants.{Nothing, OfEntities, Shut, OfLiveliness, OfMatching}
 use Rattle.zs_core.specs.declared.change.EntityChange.TheVariants.{AddSub, EndSub, AddPub, EndPub, AddQueryable, EndQueryable, AddQuerier, EndQuerier, LeaveSub, LeaveQueryable}
 use Rattle.zs_core.specs.declared.change.LivelinessChange.TheVariants.{DeclareToken, EndToken, AddLsub, EndLsub, LeaveLsub, AskTokens}
+use Rattle.zs_core.specs.declared.change.MatchingChange.{MatchingChange}
+use Rattle.zs_core.specs.MatchingChanges.{next_listening}
+use Rattle.zs_core.specs.declared.change.MatchingChange.TheVariants.{AddListener, EndListener, LeaveListener, TellSub}
 use Rattle.zs_core.specs.World.{World}
 use Rattle.zs_core.specs.Entry.{Entry}
 use Rattle.zs_core.specs.Subscribers.{sub_row}
@@ -19,14 +22,14 @@ use Rattle.zs_core.specs.Queryables.{queryable_row}
 use Rattle.zs_core.specs.declared.querier.QuerierRow.{QuerierRow}
 use Rattle.zs_core.specs.Queriers.{querier_row, to_gets_by}
 use Rattle.zs_events.specs.Kinds.{row_of}
-use Rattle.zs_core.specs.Live.{is_subscriber, is_publisher, is_queryable, is_querier_kind, drew, drew_unended, is_live, was_left, to_gets_of, is_token, is_lsub}
+use Rattle.zs_core.specs.Live.{is_subscriber, is_publisher, is_queryable, is_querier_kind, drew, drew_unended, is_live, was_left, to_gets_of, is_token, is_lsub, is_listener_kind}
 use Rattle.zs_core.specs.Liveliness.{token_row, lsub_row}
 use Rattle.zs_tables.specs.declared.liveliness_sub.LivelinessSub.{LivelinessSub}
 use Rattle.zs_core.specs.Changes.{with_change, Fits}
 use Rattle.zs_core.specs.Turns.{is_there, is_left, to_gets_at, left_of}
 use Rattle.zs_core.proofs.Placing.{placed_any}
 use Rattle.zs_core.proofs.Entities.{FitsIn, AreRows, rows_after, rows_none, rows_more}
-use Rattle.zs_core.proofs.Changes.{IsMade, subs_by, pubs_by, queryables_by, queriers_by, leaves_by}
+use Rattle.zs_core.proofs.Saying.{IsMade, subs_by, pubs_by, queryables_by, queriers_by, leaves_by}
 use Rattle.zs_core.proofs.Watching.{placed_new, put_last, never_down, entity_up, tokens_by, lsubs_by}
 
 -- what the tables of entities are behind a past
@@ -71,6 +74,12 @@ queriers_step w c = refl
 same : (n : ℕ) → n ≤ n
 same n = omega arith
 
+matching_up : (w : World) (change : MatchingChange) → w.counters.entity ≤ next_listening change w.counters.entity
+matching_up w (AddListener row) = omega arith
+matching_up w (EndListener id) = same w.counters.entity
+matching_up w (TellSub row) = same w.counters.entity
+matching_up w change = same w.counters.entity
+
 subs_fit : (w : World) (c : Change) → Fits w c → FitsIn (λ row. row.id) w.counters.entity (with_change c w).counters.entity (subs_by c)
 subs_fit w (OfEntities (AddSub row)) fits = (fits.0, refl)
 subs_fit w (OfEntities (AddPub row)) fits = omega arith
@@ -78,6 +87,7 @@ subs_fit w (OfEntities (AddQueryable row)) fits = omega arith
 subs_fit w (OfEntities (AddQuerier row)) fits = omega arith
 subs_fit w (OfEntities (EndSub id)) fits = same w.counters.entity
 subs_fit w (OfLiveliness change) fits = never_down change w.counters.entity
+subs_fit w (OfMatching change) fits = matching_up w change
 subs_fit w Nothing fits = same w.counters.entity
 subs_fit w c fits = same w.counters.entity
 
@@ -88,6 +98,7 @@ pubs_fit w (OfEntities (AddQueryable row)) fits = omega arith
 pubs_fit w (OfEntities (AddQuerier row)) fits = omega arith
 pubs_fit w (OfEntities (EndPub id)) fits = same w.counters.entity
 pubs_fit w (OfLiveliness change) fits = never_down change w.counters.entity
+pubs_fit w (OfMatching change) fits = matching_up w change
 pubs_fit w Nothing fits = same w.counters.entity
 pubs_fit w c fits = same w.counters.entity
 
@@ -98,6 +109,7 @@ queryables_fit w (OfEntities (AddPub row)) fits = omega arith
 queryables_fit w (OfEntities (AddQuerier row)) fits = omega arith
 queryables_fit w (OfEntities (EndQueryable id)) fits = same w.counters.entity
 queryables_fit w (OfLiveliness change) fits = never_down change w.counters.entity
+queryables_fit w (OfMatching change) fits = matching_up w change
 queryables_fit w Nothing fits = same w.counters.entity
 queryables_fit w c fits = same w.counters.entity
 
@@ -108,6 +120,7 @@ queriers_fit w (OfEntities (AddPub row)) fits = omega arith
 queriers_fit w (OfEntities (AddQueryable row)) fits = omega arith
 queriers_fit w (OfEntities (EndQuerier id)) fits = same w.counters.entity
 queriers_fit w (OfLiveliness change) fits = never_down change w.counters.entity
+queriers_fit w (OfMatching change) fits = matching_up w change
 queriers_fit w Nothing fits = same w.counters.entity
 queriers_fit w c fits = same w.counters.entity
 
@@ -125,6 +138,7 @@ tokens_fit w (OfLiveliness (EndToken id)) fits = same w.counters.entity
 tokens_fit w (OfLiveliness (AddLsub row)) fits = omega arith
 tokens_fit w (OfLiveliness (AskTokens row)) fits = omega arith
 tokens_fit w (OfEntities change) fits = entity_up w (OfEntities change)
+tokens_fit w (OfMatching change) fits = matching_up w change
 tokens_fit w Nothing fits = same w.counters.entity
 tokens_fit w c fits = same w.counters.entity
 
@@ -142,19 +156,21 @@ lsubs_fit w (OfLiveliness (DeclareToken id)) fits = omega arith
 lsubs_fit w (OfLiveliness (AskTokens row)) fits = omega arith
 lsubs_fit w (OfLiveliness (EndLsub id)) fits = same w.counters.entity
 lsubs_fit w (OfEntities change) fits = entity_up w (OfEntities change)
+lsubs_fit w (OfMatching change) fits = matching_up w change
 lsubs_fit w Nothing fits = same w.counters.entity
 lsubs_fit w c fits = same w.counters.entity
 
-left_same : (kind : Kind) (w v : World) → v.entities.left_subs ≡ w.entities.left_subs → v.entities.left_queryables ≡ w.entities.left_queryables → v.liveliness.left ≡ w.liveliness.left
+left_same : (kind : Kind) (w v : World) → v.entities.left_subs ≡ w.entities.left_subs → v.entities.left_queryables ≡ w.entities.left_queryables → v.liveliness.left ≡ w.liveliness.left → v.matching.left ≡ w.matching.left
     → left_of kind v ≡ left_of kind w
-left_same Subscriber w v subs queryables lsubs = subs
-left_same Queryable w v subs queryables lsubs = queryables
-left_same LivelinessSubscriber w v subs queryables lsubs = lsubs
-left_same kind w v subs queryables lsubs = refl
+left_same Subscriber w v subs queryables lsubs listeners = subs
+left_same Queryable w v subs queryables lsubs listeners = queryables
+left_same LivelinessSubscriber w v subs queryables lsubs listeners = lsubs
+left_same Listener w v subs queryables lsubs listeners = listeners
+left_same kind w v subs queryables lsubs listeners = refl
 
-left_stays : (w v : World) (kind : Kind) (id : ℕ) → v.entities.left_subs ≡ w.entities.left_subs → v.entities.left_queryables ≡ w.entities.left_queryables → v.liveliness.left ≡ w.liveliness.left
+left_stays : (w v : World) (kind : Kind) (id : ℕ) → v.entities.left_subs ≡ w.entities.left_subs → v.entities.left_queryables ≡ w.entities.left_queryables → v.liveliness.left ≡ w.liveliness.left → v.matching.left ≡ w.matching.left
     → is_left kind id v ≡ is_left kind id w
-left_stays w v kind id subs queryables lsubs = ap (λ (ids : List ℕ). list_any (λ other. other == id) ids) (left_same kind w v subs queryables lsubs)
+left_stays w v kind id subs queryables lsubs listeners = ap (λ (ids : List ℕ). list_any (λ other. other == id) ids) (left_same kind w v subs queryables lsubs listeners)
 
 left_step : (w : World) (c : Change) (kind : Kind) (id : ℕ) → is_left kind id (with_change c w) ≡ (leaves_by kind id c || is_left kind id w)
 left_step w (OfEntities (LeaveSub new)) Subscriber id = placed_any id new w.entities.left_subs
@@ -163,8 +179,10 @@ left_step w (OfEntities (LeaveQueryable new)) Queryable id = placed_any id new w
 left_step w (OfEntities (LeaveQueryable new)) kind id = refl
 left_step w (OfLiveliness (LeaveLsub new)) LivelinessSubscriber id = placed_any id new w.liveliness.left
 left_step w (OfLiveliness (LeaveLsub new)) kind id = refl
+left_step w (OfMatching (LeaveListener new)) Listener id = placed_any id new w.matching.left
+left_step w (OfMatching (LeaveListener new)) kind id = refl
 left_step w Nothing kind id = refl
-left_step w c kind id = left_stays w (with_change c w) kind id refl refl refl
+left_step w c kind id = left_stays w (with_change c w) kind id refl refl refl refl
 
 -- an accepted event keeps them so
 pub live_more : (w : World) (past : List Entry) (x : Entry) (c : Change) → IsMade w x c → AreLive w past → AreLive (with_change c w) (x ∷ past)
@@ -186,22 +204,23 @@ live_more w past x c m l = record {
       ∙ ap (λ (b : Bool). b || was_left kind id past) (sym (m.entities.left kind id));
 }
 
-none_left : (kind : Kind) (w : World) → w.entities.left_subs ≡ [] → w.entities.left_queryables ≡ [] → w.liveliness.left ≡ [] → left_of kind w ≡ []
-none_left Subscriber w subs queryables lsubs = subs
-none_left Queryable w subs queryables lsubs = queryables
-none_left LivelinessSubscriber w subs queryables lsubs = lsubs
-none_left kind w subs queryables lsubs = refl
+none_left : (kind : Kind) (w : World) → w.entities.left_subs ≡ [] → w.entities.left_queryables ≡ [] → w.liveliness.left ≡ [] → w.matching.left ≡ [] → left_of kind w ≡ []
+none_left Subscriber w subs queryables lsubs listeners = subs
+none_left Queryable w subs queryables lsubs listeners = queryables
+none_left LivelinessSubscriber w subs queryables lsubs listeners = lsubs
+none_left Listener w subs queryables lsubs listeners = listeners
+none_left kind w subs queryables lsubs listeners = refl
 
 pub live_none : (w : World) → w.entities.subs ≡ [] → w.entities.pubs ≡ [] → w.entities.queryables ≡ [] → w.entities.queriers ≡ [] → w.liveliness.tokens ≡ [] → w.liveliness.subs ≡ []
-    → w.entities.left_subs ≡ [] → w.entities.left_queryables ≡ [] → w.liveliness.left ≡ [] → AreLive w []
-live_none w subs pubs queryables queriers tokens lsubs left left_queryables left_lsubs = record {
+    → w.entities.left_subs ≡ [] → w.entities.left_queryables ≡ [] → w.liveliness.left ≡ [] → w.matching.left ≡ [] → AreLive w []
+live_none w subs pubs queryables queriers tokens lsubs left left_queryables left_lsubs left_listeners = record {
   subs = rw subs (rows_none (λ row. row.id) Subscriber sub_row w.counters.entity);
   pubs = rw pubs (rows_none (λ row. row.id) Publisher pub_row w.counters.entity);
   queryables = rw queryables (rows_none (λ row. row.id) Queryable queryable_row w.counters.entity);
   queriers = rw queriers (rows_none (λ row. row.id) Querier querier_row w.counters.entity);
   tokens = rw tokens (rows_none (λ (id : ℕ). id) Token token_row w.counters.entity);
   lsubs = rw lsubs (rows_none (λ (row : LivelinessSub). row.id) LivelinessSubscriber lsub_row w.counters.entity);
-  left = λ kind id. ap (λ (ids : List ℕ). list_any (λ other. other == id) ids) (none_left kind w left left_queryables left_lsubs);
+  left = λ kind id. ap (λ (ids : List ℕ). list_any (λ other. other == id) ids) (none_left kind w left left_queryables left_lsubs left_listeners);
 }
 
 -- what an event is to gets is told by the past
@@ -231,14 +250,14 @@ other_live : (kind : Kind) (id : ℕ) → IsOther kind → (later : List Event) 
 other_live kind id o later [] = refl
 other_live kind id o later (x ∷ past) = rw (other_drew kind id o x.event x.number, other_live kind id o (x.event ∷ later) past) refl
 
--- what is live is there
-pub there_is : (w : World) (past : List Entry) (kind : Kind) (id : ℕ) → AreLive w past → is_there kind id w ≡ is_live kind id past
-there_is w past Subscriber id l = l.subs.found id
-there_is w past Publisher id l = l.pubs.found id
-there_is w past LivelinessSubscriber id l = l.lsubs.found id
-there_is w past Queryable id l = l.queryables.found id
-there_is w past Querier id l = l.queriers.found id
-there_is w past Token id l = l.tokens.found id
-there_is w past Listener id l = sym (other_live Listener id (record { sub = refl; publisher = refl; queryable = refl; querier = refl; token = refl; lsub = refl }) [] past)
-there_is w past Get id l = sym (other_live Get id (record { sub = refl; publisher = refl; queryable = refl; querier = refl; token = refl; lsub = refl }) [] past)
-there_is w past LivelinessGet id l = sym (other_live LivelinessGet id (record { sub = refl; publisher = refl; queryable = refl; querier = refl; token = refl; lsub = refl }) [] past)
+-- what is live is there, where it is no listener
+pub there_is : (w : World) (past : List Entry) (kind : Kind) (id : ℕ) → is_listener_kind kind ≡ false → AreLive w past → is_there kind id w ≡ is_live kind id past
+there_is w past Subscriber id other l = l.subs.found id
+there_is w past Publisher id other l = l.pubs.found id
+there_is w past LivelinessSubscriber id other l = l.lsubs.found id
+there_is w past Queryable id other l = l.queryables.found id
+there_is w past Querier id other l = l.queriers.found id
+there_is w past Token id other l = l.tokens.found id
+there_is w past Listener id other l = absurd (cc)
+there_is w past Get id other l = sym (other_live Get id (record { sub = refl; publisher = refl; queryable = refl; querier = refl; token = refl; lsub = refl }) [] past)
+there_is w past LivelinessGet id other l = sym (other_live LivelinessGet id (record { sub = refl; publisher = refl; queryable = refl; querier = refl; token = refl; lsub = refl }) [] past)

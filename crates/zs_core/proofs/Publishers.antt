@@ -21,7 +21,7 @@ found_there id (r ∷ rows) row found = go (r.id == id) found (found_there id ro
     go true found ih = refl
     go false found ih = ih found
 
-missing_there : (id : ℕ) (rows : List PubRow) → pub_at id rows ≡ None → is_pub id rows ≡ false
+pub missing_there : (id : ℕ) (rows : List PubRow) → pub_at id rows ≡ None → is_pub id rows ≡ false
 missing_there id [] found = refl
 missing_there id (r ∷ rows) found = go (r.id == id) found (missing_there id rows)
   where

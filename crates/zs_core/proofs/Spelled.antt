@@ -73,7 +73,7 @@ next_text rows EndsAll does number text h utf8 all = all
 pub values_spelled : (s : Settings) (h : List Event) → AreUtf8 (past_of s h) → AreText (world_after s h).handing.values
 values_spelled s h =
     along s (λ (w : World) (past : List Entry). AreUtf8 past → AreText w.handing.values) (λ utf8. tt)
-    (λ w past x c m ih utf8.
+    (λ w past x c m k ih utf8.
     subst (λ (h : Handing). AreText h.values) (sym m.gets.handing)
     (next_text w.entities.queryables (to_gets_at w x.event) (row_of x.event).to_values x.number x.text w.handing utf8.0 (ih utf8.1))) h
 

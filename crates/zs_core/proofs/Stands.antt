@@ -1,10 +1,10 @@
 -- What the tables are behind every history: one induction, by the changes of accepted events.
-use Rattle.std.proofs.Common.{◌≡◌, ◌+◌, ℕ, List, [], ◌∷◌, Bool, true, false, Option, Some, None, refl, sym, ◌∙◌, ap, subst}
-use Rattle.std.specs.Prelude.{not, ◌&&◌, ◌||◌, is_some, unwrap_or, if◌then◌else◌}
+use Rattle.std.proofs.Common.{◌++◌, ◌≡◌, ◌+◌, ℕ, List, [], ◌∷◌, Bool, true, false, Option, Some, None, refl, sym, ◌∙◌, ap, subst}
+use Rattle.std.specs.Prelude.{not, filter, ◌&&◌, ◌||◌, is_some, unwrap_or, if◌then◌else◌}
 use Rattle.zs_events.specs.declared.event.Event.{Event}
 use Rattle.zs_core.specs.declared.settings.Settings.{Settings}
 use Rattle.zs_core.specs.declared.change.Change.{Change}
-use Rattle.zs_core.specs.declared.change.Change.TheVariants.{Nothing, OfKeys, OfEntities, OfLiveliness}
+use Rattle.zs_core.specs.declared.change.Change.TheVariants.{Nothing, OfKeys, OfEntities, OfLiveliness, OfMatching}
 use Rattle.zs_core.specs.declared.change.KeyChange.TheVariants.{Declare, Hold, Release}
 use Rattle.zs_core.specs.declared.change.EntityChange.TheVariants.{AddSub, EndSub, AddPub, AddQueryable, AddQuerier, EndQuerier}
 use Rattle.zs_core.specs.declared.change.LivelinessChange.TheVariants.{DeclareToken, EndToken, AddLsub, AskTokens}
@@ -14,11 +14,18 @@ use Rattle.zs_events.specs.declared.turn.Turn.{Turn}
 use Rattle.zs_core.specs.Settings.{last_entity, last_query, last_key}
 use Rattle.zs_events.specs.Turn.{answered}
 use Rattle.zs_core.specs.World.{World}
-use Rattle.zs_events.specs.Kinds.{Draws, NoNumber, EntityNumber, QueryNumber, ValueNumber, TokenNumber, KeyNumber, Named, ToGets, asking_token, token_named, row_of}
+use Rattle.zs_events.specs.Kinds.{Draws, NoNumber, EntityNumber, QueryNumber, ValueNumber, TokenNumber, KeyNumber, StatusOf, Named, ToGets, asking_token, token_named, row_of}
 use Rattle.zs_core.specs.Seen.{Sight}
 use Rattle.zs_core.specs.Entry.{Entry, is_closed}
 use Rattle.zs_core.specs.Held.{held_number, is_claimed, named_text}
 use Rattle.zs_core.specs.Keys.{has_claim}
+use Rattle.zs_core.specs.Matching.{told_subs, told_queryables, is_untold, turned, listener_effects}
+use Rattle.zs_core.proofs.Matched.{AreMatched, SaysMatching, matched_more, matched_none, status_is, untold_is, living_is, matched_is}
+use Rattle.zs_core.proofs.MatchingMade.{matching_made}
+use Rattle.zs_core.proofs.Hearing.{between_same}
+use Rattle.zs_core.specs.Listeners.{is_listener, listener_ends}
+use Rattle.zs_core.specs.World.{present_at}
+use Rattle.zs_events.specs.declared.turn.Effect.{Effect}
 use Rattle.zs_core.specs.Live.{live_queryables, names_some, to_gets_of}
 use Rattle.zs_tables.specs.declared.queryable.QueryableRow.{QueryableRow}
 use Rattle.zs_query.specs.RequestTable.{Handing}
@@ -39,11 +46,13 @@ use Rattle.zs_core.specs.Causes.{past_sight, holds, in_order, first_that, refusa
 use Rattle.zs_core.specs.Past.{entry_of, with_entry, past_with, past_of}
 use Rattle.zs_core.specs.Effects.{Known, known_of, own_keys_of, effects_on, turn_of}
 use Rattle.zs_core.specs.Changes.{with_change, change_for}
-use Rattle.zs_core.specs.Turns.{text_for, to_gets_at, finds, has_run_out, number_of, number_for, sight, closed_cause, open_cause, cause, own_keys_at, known_at, decision_of, open_decision, decision}
+use Rattle.zs_core.specs.Turns.{text_for, to_gets_at, finds, has_run_out, number_of, number_for, sight, closed_cause, open_cause, cause, own_keys_at, known_at, decision_of, open_decision, decision, effects_of, with_listeners, listener_effects_at}
 use Rattle.zs_core.specs.Stands.{new_world, world_of, world_after}
 use Rattle.zs_core.proofs.Decisions.{entry_for, past_with_by, cases}
-use Rattle.zs_core.proofs.Changes.{IsMade, adds, draws_by, draws_new, made}
-use Rattle.zs_core.proofs.Live.{AreLive, live_more, live_none, same_gets, there_is}
+use Rattle.zs_core.proofs.Saying.{IsMade, adds, draws_by, draws_new}
+use Rattle.zs_core.proofs.Changes.{made}
+use Rattle.zs_core.specs.declared.change.MatchingChange.TheVariants.{AddListener, EndListener}
+use Rattle.zs_core.proofs.Live.{AreLive, live_more, live_none, same_gets}
 use Rattle.zs_core.proofs.Sharing.{grouped_none}
 use Rattle.zs_core.proofs.GroupNumbers.{AreShared, shared_more, members_are, number_next}
 use Rattle.zs_core.proofs.DeclaredKeys.{AreKnown, known_more, held_text_is, count_is}
@@ -69,6 +78,7 @@ pub record AreStanding (s : Settings) (w : World) (past : List Entry) : Type 0 w
   pub watched : AreWatched s w past
   pub handing : w.handing ≡ handing_of past
   pub cancelling : AreCancelled w.cancelling past
+  pub matched : AreMatched w past
 
 settings_step : (w : World) (c : Change) → (with_change c w).settings ≡ w.settings
 settings_step w Nothing = refl
@@ -83,6 +93,8 @@ entity_step w (OfLiveliness (DeclareToken id)) = refl
 entity_step w (OfLiveliness (AddLsub row)) = refl
 entity_step w (OfLiveliness (AskTokens row)) = refl
 entity_step w (OfLiveliness (EndToken id)) = refl
+entity_step w (OfMatching (AddListener row)) = refl
+entity_step w (OfMatching (EndListener id)) = refl
 entity_step w (OfEntities (EndSub id)) = refl
 entity_step w Nothing = refl
 entity_step w c = refl
@@ -103,6 +115,7 @@ draws_is w past EntityNumber text k = refl
 draws_is w past QueryNumber text k = refl
 draws_is w past ValueNumber text k = refl
 draws_is w past TokenNumber text k = refl
+draws_is w past (StatusOf kind id) text k = refl
 
 -- what gets hear of an event is told by the past
 asking_told : (s : Settings) (w : World) (past : List Entry) (x : Entry) → AreStanding s w past
@@ -119,8 +132,8 @@ asking_told s w past x st =
 under_told : (w : World) (past : List Entry) (x : Entry) → AreLive w past → IsAskedUnder (to_gets_at w x.event) x.number w.asking.next → IsAskedUnder (to_gets_of past x.event) x.number w.asking.next
 under_told w past x l under = subst (λ (to : ToGets). IsAskedUnder to x.number w.asking.next) (same_gets w past x.event l) under
 
-pub standing_more : (s : Settings) (w : World) (past : List Entry) (x : Entry) (c : Change) → IsMade w x c → AreStanding s w past → AreStanding s (with_change c w) (x ∷ past)
-standing_more s w past x c m st = record {
+pub standing_more : (s : Settings) (w : World) (past : List Entry) (x : Entry) (c : Change) → IsMade w x c → SaysMatching w x c → AreStanding s w past → AreStanding s (with_change c w) (x ∷ past)
+standing_more s w past x c m k st = record {
   settings = settings_step w c ∙ st.settings;
   live = live_more w past x c m st.live;
   shared = shared_more w past c st.live st.shared;
@@ -142,6 +155,7 @@ standing_more s w past x c m st = record {
       (m.gets.handing ∙ (λ i. handing_next (st.live.queryables.table i) (same_gets w past x.event st.live i) (row_of x.event).to_values x.number x.text w.handing))
       (under_told w past x st.live m.gets.under) st.handing;
   cancelling = rw m.gets.cancelling (cancelled_more w.cancelling past x st.cancelling);
+  matched = matched_more w past x c k st.live st.matched;
   watched = watched_more s w past x c m.fits m.liveliness st.settings st.asking.moment st.watched;
 }
 
@@ -149,10 +163,10 @@ standing_more s w past x c m st = record {
 pub same_text : (s : Settings) (w : World) (past : List Entry) (e : Event) → AreStanding s w past → text_for w e ≡ named_text past e
 same_text s w past e st = text_is w past (row_of e).key st.live st.known
 
-finds_is : (w : World) (past : List Entry) (names : Option Named) → AreLive w past → finds w names ≡ names_some past names
-finds_is w past None l = refl
-finds_is w past (Some named) l =
-    let there = there_is w past named.kind named.id l in
+finds_is : (w : World) (past : List Entry) (names : Option Named) → AreLive w past → AreMatched w past → finds w names ≡ names_some past names
+finds_is w past None l m = refl
+finds_is w past (Some named) l m =
+    let there = living_is w past named.kind named.id l m in
     let left = l.left named.kind named.id in
     λ i. there i && not (left i)
 
@@ -162,6 +176,7 @@ lacks_is s w past EntityNumber text st = ap (is_spent last_entity) st.entity
 lacks_is s w past QueryNumber text st = ap (is_spent last_query) st.asking.next
 lacks_is s w past ValueNumber text st = ap (λ (h : Handing). is_spent last_value h.next) st.handing
 lacks_is s w past TokenNumber text st = ap (is_spent last_token) st.cancelling.next
+lacks_is s w past (StatusOf kind id) text st = refl
 lacks_is s w past KeyNumber None st = refl
 lacks_is s w past KeyNumber (Some text) st =
     ap (λ (o : Option ℕ). not (is_some o) && is_spent last_key w.counters.key) (number_is w past text st.known)
@@ -173,6 +188,7 @@ number_drawn s w past EntityNumber text st = ap (λ (n : ℕ). Some n) st.entity
 number_drawn s w past QueryNumber text st = ap (λ (n : ℕ). Some n) st.asking.next
 number_drawn s w past ValueNumber text st = ap (λ (h : Handing). Some h.next) st.handing
 number_drawn s w past TokenNumber text st = ap (λ (n : ℕ). Some n) st.cancelling.next
+number_drawn s w past (StatusOf kind id) text st = ap (λ (n : ℕ). Some n) (status_is w past kind id st.live st.matched)
 number_drawn s w past KeyNumber None st = refl
 number_drawn s w past KeyNumber (Some text) st =
     ap (λ (o : Option ℕ). Some (unwrap_or o w.counters.key)) (number_is w past text st.known)
@@ -181,7 +197,7 @@ number_drawn s w past KeyNumber (Some text) st =
 same_sight : (s : Settings) (w : World) (past : List Entry) (e : Event) → AreStanding s w past → sight w e ≡ past_sight s past e
 same_sight s w past e st =
     let text : text_for w e ≡ named_text past e = same_text s w past e st in
-    let lives : finds w (row_of e).names ≡ names_some past (row_of e).names = finds_is w past (row_of e).names st.live in
+    let lives : finds w (row_of e).names ≡ names_some past (row_of e).names = finds_is w past (row_of e).names st.live st.matched in
     let claimed : has_claim w (row_of e).claims (text_for w e) ≡ is_claimed past (row_of e).claims (named_text past e) =
     ap (has_claim w (row_of e).claims) text ∙ claim_is w past (row_of e).claims (named_text past e) st.known in
     let spent : has_run_out w (row_of e).draws (text_for w e) ≡ lacks_number s past (row_of e).draws (named_text past e) =
@@ -199,8 +215,10 @@ same_sight s w past e st =
     let lacks : lacks_values w.handing.next (met_by w.entities.queryables (to_gets_at w e) (row_of e).to_values (text_for w e)) || has_run_out w (row_of e).draws (text_for w e)
     ≡ (lacks_values (next_value past) (met_by (live_queryables past) (to_gets_of past e) (row_of e).to_values (named_text past e)) || lacks_number s past (row_of e).draws (named_text past e)) =
     λ i. lacks_values (handing i).next (met_by (rows i) (to i) (row_of e).to_values (text i)) || spent i in
-    let idle : (is_pointless (row_of e).to_liveliness || is_idle w.asking.gets (row_of e).to_gets (text_for w e)) ≡ (is_pointless (row_of e).to_liveliness || is_idle (open_now s past) (row_of e).to_gets (named_text past e)) =
-    ap (λ (b : Bool). is_pointless (row_of e).to_liveliness || b)
+    let untold : is_untold w.matching.told.subs w.matching.told.queryables (row_of e).to_matching ≡ is_untold (told_subs past) (told_queryables past) (row_of e).to_matching = untold_is w past (row_of e).to_matching st.matched in
+    let idle : (is_pointless (row_of e).to_liveliness || is_untold w.matching.told.subs w.matching.told.queryables (row_of e).to_matching || is_idle w.asking.gets (row_of e).to_gets (text_for w e)) ≡ (is_pointless (row_of e).to_liveliness || is_untold (told_subs past) (told_queryables past) (row_of e).to_matching || is_idle (open_now s past) (row_of e).to_gets (named_text past e)) =
+    ap (λ (b : Bool). is_pointless (row_of e).to_liveliness || b || is_idle w.asking.gets (row_of e).to_gets (text_for w e)) untold
+    ∙ ap (λ (b : Bool). is_pointless (row_of e).to_liveliness || is_untold (told_subs past) (told_queryables past) (row_of e).to_matching || b)
     (ap (λ (gets : List OpenGet). is_idle gets (row_of e).to_gets (text_for w e)) st.asking.gets ∙ ap (is_idle (open_now s past) (row_of e).to_gets) text) in
     let spared : is_spared w.liveliness.told (row_of e).to_liveliness ≡ is_spared (told_tokens s past) (row_of e).to_liveliness =
     ap (λ (tokens : List ToldToken). is_spared tokens (row_of e).to_liveliness) st.watched.told in
@@ -263,27 +281,52 @@ known_same s w past st =
     let handing = st.handing in
     λ i. record { keys = keys i; subs = subs i; pubs = pubs i; queryables = queryables i; queriers = (st.live.queriers.table) i; company = λ kind. company_same s w past kind st i; timeout = (settings i).default_timeout; gets = gets i; watch = record { subs = lsubs i; told = told i; gets = asking i }; zid = (settings i).zid; handing = handing i }
 
+-- what listeners make of an event is the same by the tables and by the events
+listeners_agree : (w v : World) (past : List Entry) (x : Entry) → AreLive w past → AreMatched w past → AreLive v (x ∷ past) → AreMatched v (x ∷ past)
+    → listener_effects_at w v ≡ listener_effects past x
+listeners_agree w v past x lw mw lv mv = λ i.
+    listener_ends (filter (λ row. not (is_listener row.id (mv.listeners i))) (mw.listeners i))
+    ++ turned (λ row. is_listener row.id (mw.listeners i) && matched_is w past row lw mw i) (λ row. matched_is v (x ∷ past) row lv mv i) (mv.listeners i)
+
 -- and so is the turn
-abbrev turn_by : Bool → Option Refusal → Option ℕ → Known → Option (List ℕ) → Event → Turn
-turn_by closed refusal number known text e =
-    if closed then answered refusal None [] else answered refusal number (effects_on known number text e)
+abbrev turn_by : Bool → Option Refusal → Option ℕ → List Effect → List Effect → Turn
+turn_by closed refusal number fx heard = if closed then answered refusal None [] else answered refusal number (fx ++ heard)
 
-turn_decided : (w : World) (e : Event) → (decision w e).turn ≡ turn_by w.closed (cause w e) (number_for w e) (known_at w) (text_for w e) e
-turn_decided w e = go w.closed
+turn_decided : (s : Settings) (w : World) (past : List Entry) (e : Event) → AreStanding s w past
+    → (with_listeners w (decision w e)).turn ≡ turn_by w.closed (cause w e) (number_for w e) (effects_of w e) (listener_effects past (entry_for w e))
+turn_decided s w past e st = go w.closed refl
   where
-    go : (b : Bool) → (if b then decision_of (closed_cause e) None [] Nothing else open_decision w e).turn
-        ≡ turn_by b (if b then closed_cause e else open_cause w e) (number_for w e) (known_at w) (text_for w e) e
-    go true = refl
-    go false = refl
+    quiet : listener_effects_at w w ≡ []
+    quiet = between_same w.matching.listeners (present_at w)
 
-pub same_turn : (s : Settings) (w : World) (past : List Entry) (e : Event) → AreStanding s w past → (decision w e).turn ≡ turn_of s past e
+    by_shut : (o : Option Refusal) → (with_listeners w (decision_of o None [] Nothing)).turn ≡ answered o None []
+    by_shut (Some refusal) = ap (λ (fx : List Effect). record (answered (Some refusal) None []) { effects = fx }) quiet
+    by_shut None = ap (λ (fx : List Effect). record (answered None None []) { effects = fx }) quiet
+
+    by_open : (o : Option Refusal) → open_cause w e ≡ o → w.closed ≡ false
+        → (with_listeners w (decision_of o (number_for w e) (effects_of w e) (change_for w e))).turn ≡ answered o (number_for w e) (effects_of w e ++ listener_effects past (entry_for w e))
+    by_open (Some refusal) k c = ap (λ (fx : List Effect). record (answered (Some refusal) None []) { effects = fx }) quiet
+    by_open None k c =
+        let next = standing_more s w past (entry_for w e) (change_for w e) (made w e c k) (matching_made w e c k) st in
+        ap (λ (heard : List Effect). answered None (number_for w e) (effects_of w e ++ heard))
+        (listeners_agree w (with_change (change_for w e) w) past (entry_for w e) st.live st.matched next.live next.matched)
+
+    go : (b : Bool) → w.closed ≡ b
+        → (with_listeners w (if b then decision_of (closed_cause e) None [] Nothing else open_decision w e)).turn
+        ≡ turn_by b (if b then closed_cause e else open_cause w e) (number_for w e) (effects_of w e) (listener_effects past (entry_for w e))
+    go true c = by_shut (closed_cause e)
+    go false c = by_open (open_cause w e) refl c
+
+pub same_turn : (s : Settings) (w : World) (past : List Entry) (e : Event) → AreStanding s w past → (with_listeners w (decision w e)).turn ≡ turn_of s past e
 same_turn s w past e st =
     let closed = st.known.closed in
     let refusal = same_cause s w past e st in
     let number = same_number s w past e st in
     let known = known_same s w past st in
     let text = same_text s w past e st in
-    turn_decided w e ∙ (λ i. turn_by (closed i) (refusal i) (number i) (known i) (text i) e)
+    let entry = same_entry s w past e st in
+    turn_decided s w past e st
+    ∙ (λ i. turn_by (closed i) (refusal i) (number i) (effects_on (known i) (number i) (text i) e) (listener_effects past (entry i)))
 
 no_numbers : (s : Settings) (kind : GroupKind) (text : List ℕ) → number_of_group text (groups_of kind (new_world s).groups) ≡ group_number s kind text []
 no_numbers s Subscribers text = refl
@@ -293,7 +336,7 @@ no_numbers s Queriers text = refl
 standing_opened : (s : Settings) → AreStanding s (new_world s) []
 standing_opened s = record {
   settings = refl;
-  live = live_none (new_world s) refl refl refl refl refl refl refl refl refl;
+  live = live_none (new_world s) refl refl refl refl refl refl refl refl refl refl;
   shared = record { subs = grouped_none s.aggregated_subscribers; pubs = grouped_none s.aggregated_publishers; queriers = grouped_none [] };
   numbers = no_numbers s;
   known = record {
@@ -313,6 +356,7 @@ standing_opened s = record {
   watched = record { gets = refl; below = tt; told = refl };
   handing = refl;
   cancelling = cancelled_opened;
+  matched = matched_none (new_world s) refl refl;
 }
 
 pub standing : (s : Settings) (h : List Event) → AreStanding s (world_after s h) (past_of s h)
@@ -323,7 +367,7 @@ standing s (e ∷ h) =
     subst (λ (past : List Entry). AreStanding s (world_of s past) past) (same_joins s w (past_of s h) e st)
     (cases w e (past_of s h) (λ (made_is : Decision) (past : List Entry). AreStanding s (world_of s past) past)
     (λ refusal number fx c. st) (λ shut. st)
-    (λ unshut accepted. standing_more s w (past_of s h) (entry_for w e) (change_for w e) (made w e unshut accepted) st))
+    (λ unshut accepted. standing_more s w (past_of s h) (entry_for w e) (change_for w e) (made w e unshut accepted) (matching_made w e unshut accepted) st))
 
 -- what holds of a decision and the past that it makes holds behind every history
 pub steps : (s : Settings) (h : List Event) (e : Event) (P : Decision → List Entry → Type 0)

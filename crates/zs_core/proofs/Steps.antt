@@ -17,17 +17,19 @@ use Rattle.zs_core.specs.Entry.{Entry}
 use Rattle.zs_core.specs.DeclaredKeys.{has_holder}
 use Rattle.zs_core.specs.Past.{past_of}
 use Rattle.zs_core.specs.Changes.{with_change, change_for, Fits}
-use Rattle.zs_core.specs.Turns.{is_there, decision}
+use Rattle.zs_core.specs.Turns.{is_there, decision, with_listeners}
 use Rattle.zs_core.specs.Stands.{world_of, world_after, lives, Previews, Steps, ClosedIs, NowIs, IsHeld, IsLive, IsTaken}
 use Rattle.zs_core.proofs.Decisions.{entry_for, cases}
-use Rattle.zs_core.proofs.Changes.{made, IsMade}
+use Rattle.zs_core.proofs.Changes.{made}
+use Rattle.zs_core.proofs.Saying.{IsMade}
 use Rattle.zs_core.proofs.DeclaredKeys.{held_is}
-use Rattle.zs_core.proofs.Live.{there_is}
+use Rattle.zs_core.proofs.Matched.{living_is, SaysMatching}
+use Rattle.zs_core.proofs.MatchingMade.{matching_made}
 use Rattle.zs_core.proofs.Stands.{AreStanding, standing, same_turn, steps}
 
 -- what holds of no past, and goes on with each event that an open session accepts, holds after every history
 pub along : (s : Settings) (P : World → List Entry → Type 0) → P (world_after s []) []
-    → ((w : World) (past : List Entry) (x : Entry) (c : Change) → IsMade w x c → P w past → P (with_change c w) (x ∷ past))
+    → ((w : World) (past : List Entry) (x : Entry) (c : Change) → IsMade w x c → SaysMatching w x c → P w past → P (with_change c w) (x ∷ past))
     → (h : List Event) → P (world_after s h) (past_of s h)
 along s P none more [] = none
 along s P none more (e ∷ h) =
@@ -36,10 +38,10 @@ along s P none more (e ∷ h) =
     steps s h e (λ (d : Decision) (past : List Entry). P (world_of s past) past)
     (cases w e (past_of s h) (λ (d : Decision) (past : List Entry). P (world_of s past) past)
     (λ refusal number fx c. p) (λ shut. p)
-    (λ unshut accepted. more w (past_of s h) (entry_for w e) (change_for w e) (made w e unshut accepted) p))
+    (λ unshut accepted. more w (past_of s h) (entry_for w e) (change_for w e) (made w e unshut accepted) (matching_made w e unshut accepted) p))
 
 -- a decision's change makes of the world what the event makes of it
-next_is : (s : Settings) (h : List Event) (e : Event) → with_change (decision (world_after s h) e).change (world_after s h) ≡ world_after s (e ∷ h)
+pub next_is : (s : Settings) (h : List Event) (e : Event) → with_change (decision (world_after s h) e).change (world_after s h) ≡ world_after s (e ∷ h)
 next_is s h e =
     let w = world_after s h in
     steps s h e (λ (d : Decision) (past : List Entry). with_change d.change w ≡ world_of s past)
@@ -47,12 +49,12 @@ next_is s h e =
     (λ refusal number fx c. refl) (λ shut. refl) (λ unshut accepted. refl))
 
 -- a preview's turn is the decision's
-pub previews_on : (w : World) (e : Event) (d : Decision) → d ≡ decision w e → Previews w e d.turn
+pub previews_on : (w : World) (e : Event) (d : Decision) → d ≡ with_listeners w (decision w e) → Previews w e d.turn
 previews_on w e d is s h stands =
-    ap (λ (d : Decision). d.turn) is ∙ ap (λ (v : World). (decision v e).turn) stands ∙ same_turn s (world_after s h) (past_of s h) e (standing s h)
+    ap (λ (d : Decision). d.turn) is ∙ ap (λ (v : World). (with_listeners v (decision v e)).turn) stands ∙ same_turn s (world_after s h) (past_of s h) e (standing s h)
 
 -- one step decides and applies
-pub steps_on : (w new : World) (e : Event) (d : Decision) → d ≡ decision w e → new ≡ with_change d.change w → Steps w new e d.turn
+pub steps_on : (w new : World) (e : Event) (d : Decision) → d ≡ with_listeners w (decision w e) → new ≡ with_change d.change w → Steps w new e d.turn
 steps_on w new e d is changed s h stands = (
   previews_on w e d is s h stands,
   changed ∙ ap (λ (d : Decision). with_change d.change w) is ∙ ap (λ (v : World). with_change (decision v e).change v) stands ∙ next_is s h e,
@@ -64,7 +66,11 @@ fits_by w e =
     cases w e [] (λ (d : Decision) (past : List Entry). Fits w d.change) (λ refusal number fx c. tt) (λ shut. tt)
     (λ unshut accepted. (made w e unshut accepted).fits)
 
-pub decision_fits : (w : World) (e : Event) (d : Decision) → d ≡ decision w e → Fits w d.change
+-- before listeners hear of it, and then
+pub alone_fits : (w : World) (e : Event) (d : Decision) → d ≡ decision w e → Fits w d.change
+alone_fits w e d is = subst (λ (d : Decision). Fits w d.change) (sym is) (fits_by w e)
+
+pub decision_fits : (w : World) (e : Event) (d : Decision) → d ≡ with_listeners w (decision w e) → Fits w d.change
 decision_fits w e d is = subst (λ (d : Decision). Fits w d.change) (sym is) (fits_by w e)
 
 -- a refused event changes nothing
@@ -73,7 +79,7 @@ refused_by w e =
     cases w e [] (λ (d : Decision) (past : List Entry). was_refused d.turn.answer ≡ true → with_change d.change w ≡ w)
     (λ refusal number fx c refused. refl) (λ shut refused. refl) (λ unshut accepted refused. cc)
 
-pub refused_same : (w new : World) (e : Event) (d : Decision) → d ≡ decision w e → new ≡ with_change d.change w → was_refused d.turn.answer ≡ true → new ≡ w
+pub refused_same : (w new : World) (e : Event) (d : Decision) → d ≡ with_listeners w (decision w e) → new ≡ with_change d.change w → was_refused d.turn.answer ≡ true → new ≡ w
 refused_same w new e d is changed refused =
     changed ∙ ap (λ (d : Decision). with_change d.change w) is ∙ refused_by w e (sym (ap (λ (d : Decision). was_refused d.turn.answer) is) ∙ refused)
 
@@ -86,7 +92,7 @@ is_here kind id w = is_there kind id w
 here_is : (s : Settings) (w : World) (past : List Entry) (kind : Kind) (id : ℕ) → AreStanding s w past → is_here kind id w ≡ lives s kind id past
 here_is s w past Get id st = ap (λ (gets : List OpenGet). is_some (get_at id gets)) st.asking.gets
 here_is s w past LivelinessGet id st = ap (is_asking id) st.watched.gets
-here_is s w past kind id st = there_is w past kind id st.live
+here_is s w past kind id st = living_is w past kind id st.live st.matched
 
 -- what a state is asked is what the events of its history tell
 pub closed_told : (w : World) (answer : Bool) → answer ≡ w.closed → ClosedIs w answer

@@ -40,7 +40,8 @@ use Rattle.zs_core.proofs.Placing.{placed_any}
 use Rattle.zs_core.proofs.Cancelling.{taken_by}
 use Rattle.zs_core.proofs.Gets.{asking_by}
 use Rattle.zs_core.proofs.Decisions.{entry_for, cases}
-use Rattle.zs_core.proofs.Changes.{IsMade, passed, made}
+use Rattle.zs_core.proofs.Saying.{IsMade, passed}
+use Rattle.zs_core.proofs.Changes.{made}
 use Rattle.zs_core.proofs.Stands.{standing, steps}
 
 -- the tokens of these gets were not taken

@@ -19,7 +19,7 @@ use Rattle.zs_events.specs.declared.turn.Kind.{Kind}
 use Rattle.zs_events.specs.declared.turn.Kind.TheVariants.{Token, LivelinessSubscriber}
 use Rattle.zs_core.specs.declared.settings.Settings.{Settings}
 use Rattle.zs_core.specs.declared.change.Change.{Change}
-use Rattle.zs_core.specs.declared.change.Change.TheVariants.{Nothing, OfKeys, OfEntities, OfNetwork, OfGets, OfTokens, OfLiveliness, Shut}
+use Rattle.zs_core.specs.declared.change.Change.TheVariants.{Nothing, OfKeys, OfEntities, OfNetwork, OfGets, OfTokens, OfLiveliness, OfMatching, Shut}
 use Rattle.zs_core.specs.declared.change.EntityChange.TheVariants.{AddSub, AddPub, AddQueryable, AddQuerier}
 use Rattle.zs_core.specs.declared.change.TokenChange.TheVariants.{Take as TakeToken}
 use Rattle.zs_core.specs.declared.change.GetChange.TheVariants.{Advance}
@@ -32,6 +32,9 @@ use Rattle.zs_core.specs.Liveliness.{token_row, lsub_row}
 use Rattle.zs_core.specs.Gets.{moment_of}
 use Rattle.zs_core.specs.Tokens.{tokens_asked, ends_asking, unended, asking_now, told_behind, told_tokens}
 use Rattle.zs_core.specs.LivelinessChanges.{next_behind}
+use Rattle.zs_core.specs.declared.change.MatchingChange.{MatchingChange}
+use Rattle.zs_core.specs.declared.change.MatchingChange.TheVariants.{AddListener}
+use Rattle.zs_core.specs.MatchingChanges.{next_listening}
 use Rattle.zs_core.specs.Changes.{with_change, Fits}
 use Rattle.zs_core.proofs.Entities.{AreRows, RowChange, Keep, Add, Take, Clear, SaysRows}
 use Rattle.zs_core.proofs.Filters.{filter-filter, filter_none, all_weaker, all_append}
@@ -69,6 +72,10 @@ never_down (DeclareToken id) next = omega arith
 never_down (AddLsub row) next = omega arith
 never_down (AskTokens row) next = omega arith
 never_down c next = omega arith
+
+pub listening_up : (c : MatchingChange) (next : ℕ) → next ≤ next_listening c next
+listening_up (AddListener row) next = omega arith
+listening_up c next = omega arith
 
 -- what a change makes of the open gets of tokens: those that it ends, and the one that it asks
 abbrev pub stops_by : LivelinessGet → Change → Bool
@@ -144,6 +151,7 @@ entity_up w (OfEntities (AddPub row)) = omega arith
 entity_up w (OfEntities (AddQueryable row)) = omega arith
 entity_up w (OfEntities (AddQuerier row)) = omega arith
 entity_up w (OfLiveliness change) = never_down change w.counters.entity
+entity_up w (OfMatching change) = listening_up change w.counters.entity
 entity_up w Nothing = same w.counters.entity
 entity_up w c = same w.counters.entity
 

@@ -14,6 +14,7 @@ use Rattle.zs_core.specs.Values.{met_by, values_now, lacks_values}
 use Rattle.zs_core.specs.Answers.{is_owed, is_disjoint}
 use Rattle.zs_core.specs.Gets.{open_now, is_idle}
 use Rattle.zs_core.specs.Tokens.{told_tokens, is_spared, is_pointless}
+use Rattle.zs_core.specs.Matching.{told_subs, told_queryables, is_untold}
 use Rattle.zs_core.specs.Seen.{Sight, is_not_found, is_unknown, is_bad_key}
 
 -- an event that only an open session takes
@@ -51,7 +52,7 @@ past_sight s past e = record {
   lacks =
       lacks_values (next_value past) (met_by (live_queryables past) (to_gets_of past e) (row_of e).to_values (named_text past e))
       || lacks_number s past (row_of e).draws (named_text past e);
-  idle = is_pointless (row_of e).to_liveliness || is_idle (open_now s past) (row_of e).to_gets (named_text past e);
+  idle = is_pointless (row_of e).to_liveliness || is_untold (told_subs past) (told_queryables past) (row_of e).to_matching || is_idle (open_now s past) (row_of e).to_gets (named_text past e);
   spared = is_spared (told_tokens s past) (row_of e).to_liveliness;
 }
 

@@ -8,15 +8,15 @@ use Rattle.zs_tables.specs.declared.subscriber.SubRow.{SubRow}
 use Rattle.zs_tables.specs.declared.queryable.QueryableRow.{QueryableRow}
 use Rattle.zs_core.specs.declared.declared_key.KeyHolders.{KeyHolders}
 use Rattle.zs_events.specs.declared.event.Event.{Event}
-use Rattle.zs_events.specs.declared.event.Event.TheVariants.{Key, UndeclareKey, Sub, Pub, Queryable, Querier, Undeclare, Background, Close, Net, Get, QuerierGet, CancelToken, Cancel, Tick, Reply as reply_event, ReplyDelete, Share, Finish, Token, Lsub, LivelinessGet}
-use Rattle.zs_events.specs.declared.event.EntityKind.TheVariants.{Sub as sub_kind, Pub as pub_kind, Queryable as queryable_sort, Querier as querier_sort, Token as token_sort, Lsub as lsub_sort}
-use Rattle.zs_events.specs.declared.event.BackgroundKind.TheVariants.{Sub as background_sub, Queryable as background_queryable, Lsub as background_lsub}
+use Rattle.zs_events.specs.declared.event.Event.TheVariants.{Key, UndeclareKey, Sub, Pub, Queryable, Querier, Undeclare, Background, Close, Net, Get, QuerierGet, Listen, CancelToken, Cancel, Tick, Reply as reply_event, ReplyDelete, Share, Finish, Token, Lsub, LivelinessGet}
+use Rattle.zs_events.specs.declared.event.EntityKind.TheVariants.{Sub as sub_kind, Pub as pub_kind, Queryable as queryable_sort, Querier as querier_sort, Listener as listener_sort, Token as token_sort, Lsub as lsub_sort}
+use Rattle.zs_events.specs.declared.event.BackgroundKind.TheVariants.{Sub as background_sub, Queryable as background_queryable, Listener as background_listener, Lsub as background_lsub}
 use Rattle.zs_events.specs.declared.event.KeyArg.{KeyArg}
 use Rattle.zs_events.specs.declared.event.KeyArg.TheVariants.{Number, Declared}
 use Rattle.zs_wire.specs.declared.message.Message.{Message}
-use Rattle.zs_wire.specs.declared.message.Message.TheVariants.{DeclareKeyExpr, Request as request_message, Response as response_message, ResponseFinal, DeclareToken as token_message, UndeclareToken as token_end_message, DeclareFinal}
+use Rattle.zs_wire.specs.declared.message.Message.TheVariants.{DeclareKeyExpr, Request as request_message, Response as response_message, ResponseFinal, DeclareToken as token_message, UndeclareToken as token_end_message, DeclareFinal, DeclareSubscriber, UndeclareSubscriber, DeclareQueryable, UndeclareQueryable}
 use Rattle.zs_core.specs.declared.change.Change.{Change}
-use Rattle.zs_core.specs.declared.change.Change.TheVariants.{Nothing, OfKeys, OfEntities, OfNetwork, OfGets, OfValues, OfTokens, Shut, OfLiveliness}
+use Rattle.zs_core.specs.declared.change.Change.TheVariants.{Nothing, OfKeys, OfEntities, OfNetwork, OfGets, OfValues, OfTokens, Shut, OfLiveliness, OfMatching}
 use Rattle.zs_core.specs.declared.change.KeyChange.{KeyChange}
 use Rattle.zs_core.specs.declared.change.KeyChange.TheVariants.{Declare, Hold, Release}
 use Rattle.zs_core.specs.declared.change.EntityChange.{EntityChange}
@@ -24,6 +24,7 @@ use Rattle.zs_core.specs.declared.change.EntityChange.TheVariants.{AddSub, EndSu
 use Rattle.zs_core.specs.declared.change.NetworkChange.{NetworkChange}
 use Rattle.zs_core.specs.declared.change.NetworkChange.TheVariants.{TellKey}
 use Rattle.zs_core.specs.declared.change.LivelinessChange.TheVariants.{DeclareToken, EndToken, EndLsub, LeaveLsub, ForgetToken}
+use Rattle.zs_core.specs.declared.change.MatchingChange.TheVariants.{EndListener, LeaveListener, ForgetSub, ForgetQueryable}
 use Rattle.zs_core.specs.declared.change.ValueChange.{ValueChange}
 use Rattle.zs_core.specs.declared.change.ValueChange.TheVariants.{HandOut, AskHere, ShareOf, GiveBack}
 use Rattle.zs_core.specs.declared.change.TokenChange.{TokenChange}
@@ -48,7 +49,7 @@ use Rattle.zs_wire.specs.declared.request.Request.{Request}
 use Rattle.zs_sample.specs.Reply.{Replied}
 use Rattle.zs_core.specs.Answers.{local_reply}
 use Rattle.zs_core.specs.Values.{met_by_get, met_by_request, get_request, network_request, last_value, lacks_values}
-use Rattle.zs_events.specs.Kinds.{Question, QuerierQuestion, ReplyQuality, put_body, delete_body, response_key}
+use Rattle.zs_events.specs.Kinds.{Question, QuerierQuestion, ReplyQuality, put_body, delete_body, response_key, parent_kind_of}
 use Rattle.zs_core.specs.Questions.{row_waiting}
 use Rattle.zs_core.specs.Gets.{sample_reply}
 use Rattle.zs_core.specs.Settings.{last_entity, last_query, last_key}
@@ -67,6 +68,9 @@ use Rattle.zs_core.specs.Cancelling.{last_token, cancelling_after, asking_cancel
 use Rattle.zs_core.specs.Groups.{sub_shared, pub_shared, querier_shared, joined_by, left_found, no_groups}
 use Rattle.zs_core.specs.Liveliness.{shut_liveliness}
 use Rattle.zs_core.specs.LivelinessChanges.{lsub_change, asking_change, told_change, answered_change, liveliness_after, liveliness_by, liveliness_cancelled, next_behind, LivelinessFits}
+use Rattle.zs_core.specs.Listeners.{listening}
+use Rattle.zs_core.specs.MatchingTables.{shut_matching}
+use Rattle.zs_core.specs.MatchingChanges.{listen_change, told_sub_change, told_queryable_change, next_listening, matching_after, listeners_left, MatchingFits}
 use Rattle.zs_core.specs.World.{World, Entities}
 use Rattle.zs_core.specs.Keys.{key_of, wire_of, text_of}
 use Rattle.zs_core.specs.DeclaredKeys.{raised, lowered, own_left}
@@ -154,6 +158,10 @@ message_change w (response_message response) = response_change response response
 message_change w (ResponseFinal rid) = OfGets (Final rid)
 message_change w (token_message id wire interest) = told_change w.liveliness.gets id interest (wire_of w wire)
 message_change w (token_end_message id wire interest) = OfLiveliness (ForgetToken id)
+message_change w (DeclareSubscriber id wire) = told_sub_change id (wire_of w wire)
+message_change w (UndeclareSubscriber id) = OfMatching (ForgetSub id)
+message_change w (DeclareQueryable id complete wire) = told_queryable_change id complete (wire_of w wire)
+message_change w (UndeclareQueryable id) = OfMatching (ForgetQueryable id)
 message_change w (DeclareFinal interest) = answered_change interest
 message_change w message = Nothing
 
@@ -217,6 +225,9 @@ change_for w (reply_event value key payload encoding timestamp priority congesti
 change_for w (ReplyDelete value key timestamp priority congestion express source attachment) =
     answer_change w.settings.zid (record { priority = priority; congestion = congestion; express = express })
     (delete_body timestamp source attachment) (value_at value w.handing.values) (key_of w key)
+change_for w (Listen parent id) = listen_change (listening w.entities.pubs w.entities.queriers w.counters.entity (parent_kind_of parent) id)
+change_for w (Undeclare listener_sort id) = OfMatching (EndListener id)
+change_for w (Background background_listener id) = OfMatching (LeaveListener id)
 change_for w (Share value) = OfValues (ShareOf value)
 change_for w (Finish value) = OfValues (GiveBack value)
 change_for w (Tick now) = OfGets (Advance now)
@@ -355,12 +366,17 @@ with_change (OfEntities change) w = record w {
   };
   groups = groups_after w.settings w.entities change w.groups;
   asking = asking_left change w.asking;
+  matching = listeners_left change w.matching;
 }
 with_change (OfNetwork change) w = record w { keys = record w.keys { told = told_after change w.keys.told } }
 with_change (OfGets change) w = record w { asking = asking_after change w.asking; liveliness = liveliness_by change w.liveliness }
 with_change (OfLiveliness change) w = record w {
   counters = record w.counters { entity = next_behind change w.counters.entity };
   liveliness = liveliness_after change w.liveliness;
+}
+with_change (OfMatching change) w = record w {
+  counters = record w.counters { entity = next_listening change w.counters.entity };
+  matching = matching_after change w.matching;
 }
 with_change (OfValues change) w = record w {
   asking = asking_beside change w.handing.values w.asking;
@@ -378,6 +394,7 @@ with_change Shut w = record w {
   groups = no_groups;
   asking = all_ended w.asking;
   liveliness = shut_liveliness w.liveliness;
+  matching = shut_matching w.matching;
 }
 
 -- what a change takes for granted: a number that it draws is the next one, and is there; a number that it names stands for a key
@@ -422,4 +439,5 @@ Fits w (OfGets change) = GetsFit w change
 Fits w (OfLiveliness change) = LivelinessFits w.counters.entity change
 Fits w (OfValues change) = ValuesFit w change
 Fits w (OfTokens change) = TokensFit w change
+Fits w (OfMatching change) = MatchingFits w.counters.entity change
 Fits w change = Unit {0}

@@ -1,6 +1,6 @@
 -- The tables of declared keys: how many hold each number, and what is left where one is given back.
 use Rattle.std.specs.Prelude.{ℕ, ◌+◌, ◌-◌, Bool, ◌==◌, nat_lt, nat_le, not, List, [], ◌∷◌, ◌++◌, map, filter, if◌then◌else◌}
-use Rattle.std.specs.List.{list_any, list_all}
+use Rattle.std.specs.List.{list_any}
 use Rattle.zs_tables.specs.Numbers.{NumberedKey, without}
 use Rattle.zs_core.specs.declared.declared_key.KeyHolders.{KeyHolders}
 
@@ -28,9 +28,9 @@ raised number rows = if has_holder number rows then map (one_more number) rows e
 abbrev pub last_count : ℕ
 last_count = 18446744073709551615
 
--- whether each count of holders can still rise
-abbrev pub can_rise : List KeyHolders → Bool
-can_rise rows = list_all (λ row. nat_lt row.count last_count) rows
+-- whether the count of a number's holders can still rise
+abbrev pub can_rise : ℕ → List KeyHolders → Bool
+can_rise number rows = nat_lt (holders_of number rows) last_count
 
 -- whether no more than one holds a number
 abbrev pub is_last : ℕ → List KeyHolders → Bool

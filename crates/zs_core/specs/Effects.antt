@@ -14,7 +14,7 @@ use Rattle.zs_core.specs.Entry.{Entry, is_closed}
 use Rattle.zs_core.specs.Held.{held_text, held_count, held_number, named_text}
 use Rattle.zs_core.specs.Live.{live_subs, live_pubs, live_queryables, live_queriers, live_lsubs}
 use Rattle.zs_events.specs.declared.event.EntityKind.{EntityKind}
-use Rattle.zs_events.specs.declared.event.EntityKind.TheVariants.{Sub as sub_kind, Pub as pub_kind, Queryable as queryable_sort, Querier as querier_sort, Token as token_sort, Lsub as lsub_sort}
+use Rattle.zs_events.specs.declared.event.EntityKind.TheVariants.{Sub as sub_kind, Pub as pub_kind, Queryable as queryable_sort, Querier as querier_sort, Listener as listener_sort, Token as token_sort, Lsub as lsub_sort}
 use Rattle.zs_events.specs.declared.turn.Kind.TheVariants.{Subscriber, Queryable as queryable_kind, LivelinessSubscriber}
 use Rattle.zs_core.specs.declared.publisher.PubRow.{PubRow}
 use Rattle.zs_events.specs.declared.event.KeyArg.{KeyArg}
@@ -45,6 +45,7 @@ use Rattle.zs_core.specs.Values.{drawn_by, handing_of}
 use Rattle.zs_core.specs.ValueEffects.{Answering, value_effects, with_values}
 use Rattle.zs_core.specs.Publications.{Publication, sample_on, hands}
 use Rattle.zs_core.specs.Sends.{OwnKeys, wire_form, group_wire, declared_by, prefix_declaration, sends_of}
+use Rattle.zs_core.specs.Matching.{listener_effects}
 use Rattle.zs_core.specs.Causes.{refusal_of}
 use Rattle.zs_core.specs.Past.{entry_of, past_of}
 
@@ -72,7 +73,7 @@ hands_for rows (Some p) = hands p rows
 abbrev pub hands_of : List SubRow → List PubRow → Option (List ℕ) → Event → List Effect
 hands_of rows pubs text e = hands_for rows (publication_of pubs text e)
 
--- an undeclared entity's handler is called no more, if it has one
+-- an undeclared entity's handler is called no more, if it has one; what an event ends of listeners comes behind all else
 abbrev pub undeclared_ends : EntityKind → ℕ → List Effect
 undeclared_ends sub_kind id = End Subscriber id ∷ []
 undeclared_ends pub_kind id = []
@@ -80,6 +81,7 @@ undeclared_ends queryable_sort id = End queryable_kind id ∷ []
 undeclared_ends querier_sort id = []
 undeclared_ends token_sort id = []
 undeclared_ends lsub_sort id = End LivelinessSubscriber id ∷ []
+undeclared_ends listener_sort id = []
 
 abbrev pub ends_of : List QueryableRow → List SubRow → List LivelinessSub → Event → List Effect
 ends_of queryables rows lsubs (Undeclare kind id) = undeclared_ends kind id
@@ -208,11 +210,16 @@ known_of s past = record {
   handing = handing_of past;
 }
 
+-- all that an accepted event brings about behind these accepted events, what it means to listeners last
+abbrev pub effects_behind : Settings → List Entry → Event → List Effect
+effects_behind s past e =
+    effects_on (known_of s past) (entry_of s past e).number (named_text past e) e ++ listener_effects past (entry_of s past e)
+
 -- the answer and effects of an event behind these accepted events
 abbrev pub turn_of : Settings → List Entry → Event → Turn
 turn_of s past e =
     if is_closed past then answered (refusal_of s past e) None []
-    else answered (refusal_of s past e) (entry_of s past e).number (effects_on (known_of s past) (entry_of s past e).number (named_text past e) e)
+    else answered (refusal_of s past e) (entry_of s past e).number (effects_behind s past e)
 
 -- the answer and effects of an event behind a history
 abbrev pub effects : Settings → List Event → Event → Turn

@@ -1,7 +1,7 @@
 -- What the tables hold after every history, and how events are answered, told by the events alone: each law is the clause of a
 -- public function.
 use Rattle.std.specs.Prelude.{◌≡◌, ◌≤◌, ℕ, length, Bool, true, false, List, [], Option, Some, None, option_map, IsUtf8, if◌then◌else◌, ◌∷◌, ◌++◌, ◌==◌, not, filter}
-use Rattle.std.specs.List.{AllByRecursion, find}
+use Rattle.std.specs.List.{AllByRecursion, find, list_any}
 use Rattle.std.specs.Option.{IfSome}
 use Rattle.zs_wire.specs.declared.wire_expr.Mapping.{Mapping}
 use Rattle.zs_tables.specs.Ascending.{Ascend}
@@ -17,7 +17,7 @@ use Rattle.zs_events.specs.declared.turn.Refusal.{Refusal}
 use Rattle.zs_events.specs.Kinds.{row_of}
 use Rattle.zs_core.specs.Entry.{is_closed, Entry}
 use Rattle.zs_core.specs.Held.{times_declared, is_held, held_text, held_count, key_text, told_text, mapped_text, named_text}
-use Rattle.zs_core.specs.Live.{live_subs, live_pubs, live_queryables, live_queriers, live_tokens, live_lsubs}
+use Rattle.zs_core.specs.Live.{live_subs, live_pubs, live_queryables, live_queriers, live_tokens, live_lsubs, live_listeners}
 use Rattle.zs_core.specs.Tokens.{tokens_asked, ends_asking, asking_now, token_text}
 use Rattle.zs_core.specs.Groups.{group, group_number}
 use Rattle.zs_core.specs.Counters.{next_entity, next_key, drawn_number, next_query}
@@ -32,6 +32,12 @@ use Rattle.zs_query.specs.Asked.{CancelledBy}
 use Rattle.zs_core.specs.Effects.{effects}
 use Rattle.zs_core.specs.Received.{messages_of, sent, spoken_text, AreReadAs, AreSpelled, AreUtf8}
 use Rattle.zs_core.specs.Covered.{IsCovered}
+use Rattle.zs_tables.specs.declared.told_row.ToldSub.{ToldSub}
+use Rattle.zs_tables.specs.declared.told_row.ToldQueryable.{ToldQueryable}
+use Rattle.zs_tables.specs.MatchingLaws.{differ}
+use Rattle.zs_core.specs.Listeners.{is_listener}
+use Rattle.zs_core.specs.Matching.{told_subs, told_queryables, is_matched}
+use Rattle.zs_core.specs.Heard.{told_to, last_told}
 use Rattle.zs_core.specs.Keys.{numbers_for}
 use Rattle.zs_core.specs.DeclaredKeys.{holders_of}
 use Rattle.zs_core.specs.Turns.{cause, text_for, number_for}
@@ -216,3 +222,33 @@ abbrev pub SubscribersAreCovered : Type 0
 SubscribersAreCovered =
     (s : Settings) (h : List Event) → AreSpelled s → AreUtf8 (past_of s h)
     → AllByRecursion (λ row. has_network row.origin ≡ true → IsCovered (sent s h) row.key.text) (live_subs (past_of s h))
+
+-- the table of listeners holds the live ones
+abbrev pub ListenersAreLive : Type 0
+ListenersAreLive = (s : Settings) (h : List Event) → (world_after s h).matching.listeners ≡ live_listeners (past_of s h)
+
+-- the tables of told subscribers and queryables hold those that were told last of their numbers and not ended, whatever is asked of any
+-- of them
+abbrev pub ToldAreLast : Type 0
+ToldAreLast =
+    (s : Settings) (h : List Event)
+    → ((test : ToldSub → Bool) → list_any test (world_after s h).matching.told.subs ≡ list_any test (told_subs (past_of s h)))
+    × ((test : ToldQueryable → Bool) → list_any test (world_after s h).matching.told.queryables ≡ list_any test (told_queryables (past_of s h)))
+
+-- each live listener was told last whether anyone matches, or nobody does and it was told nothing
+abbrev pub ListenersKnow : Type 0
+ListenersKnow = (s : Settings) (h : List Event) → AllByRecursion (λ row. last_told s row.id h ≡ is_matched (past_of s h) row) (live_listeners (past_of s h))
+
+-- an event tells a listener that lives behind it just what changed: once, where whether anyone matches is another than it was told last,
+-- and else nothing
+abbrev pub ListenersHearChanges : Type 0
+ListenersHearChanges =
+    (s : Settings) (h : List Event) (e : Event)
+    → AllByRecursion (λ row. told_to row.id (effects s h e).effects
+    ≡ (if differ (last_told s row.id h) (is_matched (past_of s (e ∷ h)) row) then is_matched (past_of s (e ∷ h)) row ∷ [] else []))
+    (live_listeners (past_of s (e ∷ h)))
+
+-- and it tells nobody else
+abbrev pub OthersHearNothing : Type 0
+OthersHearNothing =
+    (s : Settings) (h : List Event) (e : Event) (id : ℕ) → is_listener id (live_listeners (past_of s (e ∷ h))) ≡ false → told_to id (effects s h e).effects ≡ []

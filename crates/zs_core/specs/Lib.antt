@@ -30,6 +30,7 @@ pub mod Bounds
 pub mod World
 pub mod Keys
 pub mod DeclaredKeys
+pub mod HolderCounts
 pub mod Changes
 pub mod Turns
 pub mod Stands
@@ -38,3 +39,8 @@ pub mod Liveliness
 pub mod LivelinessChanges
 pub mod LivelinessEffects
 pub mod Tokens
+pub mod Listeners
+pub mod Matching
+pub mod MatchingTables
+pub mod MatchingChanges
+pub mod Heard

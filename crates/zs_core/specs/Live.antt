@@ -4,10 +4,10 @@ use Rattle.std.specs.List.{list_any}
 use Rattle.zs_events.specs.declared.event.Event.{Event}
 use Rattle.zs_events.specs.declared.event.Event.TheVariants.{Sub, Pub, Queryable, Querier, Undeclare, Background, Close, Token, Lsub}
 use Rattle.zs_events.specs.declared.event.EntityKind.{EntityKind}
-use Rattle.zs_events.specs.declared.event.EntityKind.TheVariants.{Sub as sub_kind, Pub as pub_kind, Queryable as queryable_sort, Querier as querier_sort, Token as token_sort, Lsub as lsub_sort}
-use Rattle.zs_events.specs.declared.event.BackgroundKind.TheVariants.{Sub as background_sub, Queryable as background_queryable, Lsub as background_lsub}
+use Rattle.zs_events.specs.declared.event.EntityKind.TheVariants.{Sub as sub_kind, Pub as pub_kind, Queryable as queryable_sort, Querier as querier_sort, Listener as listener_sort, Token as token_sort, Lsub as lsub_sort}
+use Rattle.zs_events.specs.declared.event.BackgroundKind.TheVariants.{Sub as background_sub, Queryable as background_queryable, Listener as background_listener, Lsub as background_lsub}
 use Rattle.zs_events.specs.declared.turn.Kind.{Kind}
-use Rattle.zs_events.specs.declared.turn.Kind.TheVariants.{Subscriber, Publisher, Queryable as queryable_kind, Querier as querier_kind, Token as token_kind, LivelinessSubscriber}
+use Rattle.zs_events.specs.declared.turn.Kind.TheVariants.{Subscriber, Publisher, Queryable as queryable_kind, Querier as querier_kind, Token as token_kind, LivelinessSubscriber, Listener}
 use Rattle.zs_tables.specs.declared.subscriber.SubRow.{SubRow}
 use Rattle.zs_tables.specs.declared.queryable.QueryableRow.{QueryableRow}
 use Rattle.zs_events.specs.Kinds.{Named, ToGets, row_of}
@@ -20,6 +20,8 @@ use Rattle.zs_core.specs.declared.querier.QuerierRow.{QuerierRow}
 use Rattle.zs_core.specs.Queriers.{querier_row, to_gets_by}
 use Rattle.zs_tables.specs.declared.liveliness_sub.LivelinessSub.{LivelinessSub}
 use Rattle.zs_core.specs.Liveliness.{token_row, lsub_row}
+use Rattle.zs_tables.specs.declared.listener.ListenerRow.{ListenerRow}
+use Rattle.zs_core.specs.Listeners.{listener_row, ends_listener, is_listener}
 
 -- the list with more behind it
 abbrev pub appended : {A : Type 0} → List A → List A → List A
@@ -56,6 +58,10 @@ abbrev pub is_lsub : Kind → Bool
 is_lsub LivelinessSubscriber = true
 is_lsub kind = false
 
+abbrev pub is_listener_kind : Kind → Bool
+is_listener_kind Listener = true
+is_listener_kind kind = false
+
 -- whether the sort of what is undeclared has that kind
 abbrev pub is_of : EntityKind → Kind → Bool
 is_of sub_kind kind = is_subscriber kind
@@ -64,6 +70,7 @@ is_of queryable_sort kind = is_queryable kind
 is_of querier_sort kind = is_querier_kind kind
 is_of token_sort kind = is_token kind
 is_of lsub_sort kind = is_lsub kind
+is_of listener_sort kind = is_listener_kind kind
 
 -- whether a declaration of that kind drew this number
 abbrev pub drew : Kind → ℕ → Event → Option ℕ → Bool
@@ -86,6 +93,7 @@ abbrev pub leaves : Kind → ℕ → Event → Bool
 leaves kind id (Background background_sub number) = is_subscriber kind && id == number
 leaves kind id (Background background_queryable number) = is_queryable kind && id == number
 leaves kind id (Background background_lsub number) = is_lsub kind && id == number
+leaves kind id (Background background_listener number) = is_listener_kind kind && id == number
 leaves kind id e = false
 
 -- an event of the past drew the number, and none after it, nor any of the later ones, ended it
@@ -94,22 +102,13 @@ drew_unended kind id later [] = false
 drew_unended kind id later (x ∷ past) =
     (drew kind id x.event x.number && not (list_any (ends kind id) later)) || drew_unended kind id (x.event ∷ later) past
 
--- whether what has this kind and number is live
+-- whether what has this kind and number is live, where it is no listener
 abbrev pub is_live : Kind → ℕ → List Entry → Bool
 is_live kind id past = drew_unended kind id [] past
 
 -- whether it was left to itself
 abbrev pub was_left : Kind → ℕ → List Entry → Bool
 was_left kind id past = list_any (λ x. leaves kind id x.event) past
-
--- whether it can be named: it is live and was not left to itself
-abbrev pub is_named : Kind → ℕ → List Entry → Bool
-is_named kind id past = is_live kind id past && not (was_left kind id past)
-
--- whether what an event names can be named, if it names anything
-abbrev pub names_some : List Entry → Option Named → Bool
-names_some past None = true
-names_some past (Some named) = is_named named.kind named.id past
 
 -- the live subscribers, publishers, queryables and queriers, in the order of their declarations
 abbrev pub live_subs : List Entry → List SubRow
@@ -135,3 +134,25 @@ live_tokens past = filter (λ id. is_live token_kind id past) (declared token_ro
 -- and the live subscribers to liveliness
 abbrev pub live_lsubs : List Entry → List LivelinessSub
 live_lsubs past = filter (λ row. is_live LivelinessSubscriber row.id past) (declared lsub_row past)
+
+-- and the live listeners: those that were live before the last event and that it doesn't end, and the one that it declares. So a listener
+-- lives no longer than what it listens to
+abbrev pub live_listeners : List Entry → List ListenerRow
+live_listeners [] = []
+live_listeners (x ∷ past) =
+    appended (filter (λ row. not (ends_listener x.event row)) (live_listeners past))
+    (listener_row (live_pubs past) (live_queriers past) x.event x.number)
+
+-- whether what has a kind and number is live, listeners among them
+abbrev pub is_living : Kind → ℕ → List Entry → Bool
+is_living Listener id past = is_listener id (live_listeners past)
+is_living kind id past = is_live kind id past
+
+-- whether it can be named: it is live and was not left to itself
+abbrev pub is_named : Kind → ℕ → List Entry → Bool
+is_named kind id past = is_living kind id past && not (was_left kind id past)
+
+-- whether what an event names can be named, if it names anything
+abbrev pub names_some : List Entry → Option Named → Bool
+names_some past None = true
+names_some past (Some named) = is_named named.kind named.id past

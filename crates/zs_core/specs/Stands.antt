@@ -9,7 +9,8 @@ use Rattle.zs_core.specs.World.{World}
 use Rattle.zs_core.specs.Changes.{with_change, change_for}
 use Rattle.zs_core.specs.Entry.{Entry, is_closed}
 use Rattle.zs_core.specs.Held.{is_held}
-use Rattle.zs_core.specs.Live.{is_live}
+use Rattle.zs_core.specs.Live.{is_living}
+use Rattle.zs_core.specs.MatchingTables.{no_matching}
 use Rattle.zs_core.specs.Groups.{no_groups}
 use Rattle.zs_core.specs.Liveliness.{no_liveliness}
 use Rattle.zs_core.specs.Past.{past_of}
@@ -31,6 +32,7 @@ new_world s = record {
   groups = no_groups;
   asking = record { gets = []; next = s.query_start; moment = 0 };
   liveliness = no_liveliness;
+  matching = no_matching;
   handing = record { handed = 0; values = []; next = 0 };
   cancelling = record { next = 0; taken = [] };
 }
@@ -70,7 +72,7 @@ IsHeld w number answer = (s : Settings) (h : List Event) → Stands w s h → an
 abbrev pub lives : Settings → Kind → ℕ → List Entry → Bool
 lives s Get id past = is_some (get_at id (open_now s past))
 lives s LivelinessGet id past = is_asking id (asking_now s past)
-lives s kind id past = is_live kind id past
+lives s kind id past = is_living kind id past
 
 abbrev pub IsLive : World → Kind → ℕ → Bool → Type 0
 IsLive w kind id answer = (s : Settings) (h : List Event) → Stands w s h → answer ≡ lives s kind id (past_of s h)

@@ -1,9 +1,9 @@
 -- What a session makes of an event, by the tables: its turn and what it changes.
-use Rattle.std.specs.Prelude.{ℕ, Bool, true, false, not, ◌&&◌, ◌||◌, ◌==◌, is_some, unwrap_or, map, List, [], ◌++◌, Option, Some, None, option_map, if◌then◌else◌, ◌∷◌}
+use Rattle.std.specs.Prelude.{ℕ, Bool, true, false, not, ◌&&◌, ◌||◌, ◌==◌, is_some, unwrap_or, map, filter, List, [], ◌++◌, Option, Some, None, option_map, if◌then◌else◌, ◌∷◌}
 use Rattle.zs_events.specs.declared.event.Event.{Event}
 use Rattle.zs_events.specs.declared.turn.Effect.{Effect}
 use Rattle.zs_events.specs.declared.turn.Kind.{Kind}
-use Rattle.zs_events.specs.declared.turn.Kind.TheVariants.{Subscriber, Publisher, Queryable, Querier, Token, LivelinessSubscriber}
+use Rattle.zs_events.specs.declared.turn.Kind.TheVariants.{Subscriber, Publisher, Queryable, Querier, Token, LivelinessSubscriber, Listener}
 use Rattle.zs_events.specs.declared.turn.Refusal.{Refusal}
 use Rattle.zs_events.specs.declared.turn.Refusal.TheVariants.{SessionClosedError, NotFound, UnknownScope, BadKeyExpr, QueryCancelled, ReplyDisjoint, NotDeclared, IdsExhausted, Ignored}
 use Rattle.zs_core.specs.declared.change.Change.{Change}
@@ -19,7 +19,7 @@ use Rattle.zs_wire.specs.declared.response.Response.{Response}
 use Rattle.zs_wire.specs.declared.wire_expr.WireExpr.{WireExpr}
 use Rattle.zs_core.specs.Settings.{last_entity, last_query, last_key}
 use Rattle.zs_events.specs.Turn.{answered}
-use Rattle.zs_events.specs.Kinds.{Speaker, Application, Anytime, Network, NamedKey, OwnKey, PublisherKey, WireKey, ToGets, asking_token, token_named, Draws, NoNumber, EntityNumber, ValueNumber, TokenNumber, KeyNumber, Named, Content, Question, ReplyQuality, PublisherContent, Publishes, OwnContent, ByPublisher, Row, AnswersBy, AnswersError, said_by, publisher_named, row_of, QueryNumber, Answers, told_on, TellsToken}
+use Rattle.zs_events.specs.Kinds.{Speaker, Application, Anytime, Network, NamedKey, OwnKey, PublisherKey, WireKey, ToGets, asking_token, token_named, Draws, NoNumber, EntityNumber, ValueNumber, TokenNumber, KeyNumber, StatusOf, Named, Content, Question, ReplyQuality, PublisherContent, Publishes, OwnContent, ByPublisher, Row, AnswersBy, AnswersError, said_by, publisher_named, row_of, QueryNumber, Answers, told_on, TellsToken}
 use Rattle.zs_core.specs.Seen.{Sight, is_not_found, is_unknown, is_bad_key}
 use Rattle.zs_core.specs.Counters.{is_spent}
 use Rattle.zs_core.specs.Values.{met_by, met_by_get, get_request, last_value, lacks_values}
@@ -41,7 +41,11 @@ use Rattle.zs_core.specs.Gets.{is_unmet, is_unwanted, is_idle_response, is_idle}
 use Rattle.zs_core.specs.GetEffects.{hand_query, request_sends, unmet_effects, ask_effects, reply_effects, response_effects, final_effects}
 use Rattle.zs_core.specs.Effects.{Known, answering, key_wire, publication_on, hands_for, effects_on}
 use Rattle.zs_core.specs.Groups.{company_at}
-use Rattle.zs_core.specs.World.{World}
+use Rattle.zs_core.specs.World.{World, present_at}
+use Rattle.zs_tables.specs.Matching.{status}
+use Rattle.zs_core.specs.Listeners.{listening, is_listener, listener_ends}
+use Rattle.zs_core.specs.Matching.{as_number, is_untold, turned}
+use Rattle.zs_core.specs.Changes.{with_change}
 use Rattle.zs_core.specs.Keys.{has_claim, key_of, wire_of, text_of}
 use Rattle.zs_core.specs.Changes.{response_change, ask_change, replied_change, answer_change, change_for}
 use Rattle.zs_core.specs.LivelinessChanges.{told_change}
@@ -70,6 +74,7 @@ is_there Queryable id w = list_any (λ row. row.id == id) w.entities.queryables
 is_there Querier id w = is_querier id w.entities.queriers
 is_there Token id w = list_any (λ other. other == id) w.liveliness.tokens
 is_there LivelinessSubscriber id w = list_any (λ row. row.id == id) w.liveliness.subs
+is_there Listener id w = is_listener id w.matching.listeners
 is_there kind id w = false
 
 -- the numbers of a kind that were left to themselves
@@ -77,6 +82,7 @@ abbrev pub left_of : Kind → World → List ℕ
 left_of Subscriber w = w.entities.left_subs
 left_of Queryable w = w.entities.left_queryables
 left_of LivelinessSubscriber w = w.liveliness.left
+left_of Listener w = w.matching.left
 left_of kind w = []
 
 -- whether it was left to itself
@@ -88,6 +94,10 @@ abbrev pub finds : World → Option Named → Bool
 finds w None = true
 finds w (Some named) = is_there named.kind named.id w && not (is_left named.kind named.id w)
 
+-- whether anyone matches what has a kind and number, as a number
+abbrev pub status_at : World → Kind → ℕ → ℕ
+status_at w kind id = as_number (list_any (status (present_at w)) (listening w.entities.pubs w.entities.queriers 0 kind id))
+
 -- whether the counter of what is drawn has run out
 abbrev pub has_run_out : World → Draws → Option (List ℕ) → Bool
 has_run_out w NoNumber text = false
@@ -95,6 +105,7 @@ has_run_out w EntityNumber text = is_spent last_entity w.counters.entity
 has_run_out w QueryNumber text = is_spent last_query w.asking.next
 has_run_out w ValueNumber text = is_spent last_value w.handing.next
 has_run_out w TokenNumber text = is_spent last_token w.cancelling.next
+has_run_out w (StatusOf kind id) text = false
 has_run_out w KeyNumber None = false
 has_run_out w KeyNumber (Some text) = not (is_some (number_at text w.keys.own)) && is_spent last_key w.counters.key
 
@@ -105,6 +116,7 @@ number_of w EntityNumber text = Some w.counters.entity
 number_of w QueryNumber text = Some w.asking.next
 number_of w ValueNumber text = Some w.handing.next
 number_of w TokenNumber text = Some w.cancelling.next
+number_of w (StatusOf kind id) text = Some (status_at w kind id)
 number_of w KeyNumber None = None
 number_of w KeyNumber (Some text) = Some (unwrap_or (number_at text w.keys.own) w.counters.key)
 
@@ -128,7 +140,7 @@ sight w e = record {
   lacks =
       lacks_values w.handing.next (met_by w.entities.queryables (to_gets_at w e) (row_of e).to_values (text_for w e))
       || has_run_out w (row_of e).draws (text_for w e);
-  idle = is_pointless (row_of e).to_liveliness || is_idle w.asking.gets (row_of e).to_gets (text_for w e);
+  idle = is_pointless (row_of e).to_liveliness || is_untold w.matching.told.subs w.matching.told.queryables (row_of e).to_matching || is_idle w.asking.gets (row_of e).to_gets (text_for w e);
   spared = is_spared w.liveliness.told (row_of e).to_liveliness;
 }
 
@@ -219,17 +231,25 @@ open_decision w e = decision_of (open_cause w e) (number_for w e) (effects_of w 
 abbrev pub decision : World → Event → Decision
 decision w e = if w.closed then decision_of (closed_cause e) None [] Nothing else open_decision w e
 
+-- what listeners make of a change, by the tables before it and behind it: those that live no longer are called no more, and each that lives
+-- hears whether anyone matches, unless it was so before; a new one counts from nobody
+abbrev pub listener_effects_at : World → World → List Effect
+listener_effects_at w v =
+    listener_ends (filter (λ row. not (is_listener row.id v.matching.listeners)) w.matching.listeners)
+    ++ turned (λ row. is_listener row.id w.matching.listeners && status (present_at w) row) (status (present_at v)) v.matching.listeners
+
+-- a decision with that behind all else
+abbrev pub with_listeners : World → Decision → Decision
+with_listeners w d = record d { turn = record d.turn { effects = d.turn.effects ++ listener_effects_at w (with_change d.change w) } }
+
 -- what a publication on a key brings about
 abbrev pub publication_effects : World → NamedKey → Option (List ℕ) → Content → List Effect
 publication_effects w key text c =
     publication_sends (own_keys_at w) key text (OwnContent c) ++ hands_for w.entities.subs (publication_on text (OwnContent c)) ++ []
 
--- what an open session makes of a publication on a key, and of a message that only names one
+-- what an open session makes of a publication on a key
 abbrev pub publication_decision : World → NamedKey → Content → Decision
 publication_decision w key c = decision_of (key_cause w key) None (publication_effects w key (text_of w key) c) Nothing
-
-abbrev pub heard_decision : World → WireExpr → Decision
-heard_decision w wire = decision_of (key_cause w (WireKey wire)) None [] Nothing
 
 -- what an open session makes of what a publisher is told to publish
 abbrev pub published_effects : World → ℕ → Option (List ℕ) → Publishes → List Effect

@@ -10,6 +10,8 @@ use Rattle.zs_tables.specs.Numbers.{NumberedKey}
 use Rattle.zs_tables.specs.Contents.{Contents}
 use Rattle.zs_query.specs.GetTable.{Asking}
 use Rattle.zs_core.specs.Liveliness.{Liveliness}
+use Rattle.zs_core.specs.MatchingTables.{Matching}
+use Rattle.zs_tables.specs.Matching.{Candidate, candidates}
 use Rattle.zs_query.specs.RequestTable.{Handing}
 use Rattle.zs_core.specs.declared.declared_key.KeyHolders.{KeyHolders}
 
@@ -46,9 +48,14 @@ pub record World : Type 0 where
   pub groups : AllGroups
   pub asking : Asking
   pub liveliness : Liveliness
+  pub matching : Matching
   pub handing : Handing
   pub cancelling : Cancelling
 
 -- the tables that find subscribers by number, as they are at this moment
 abbrev pub tables_of : World → Contents
 tables_of w = record { rows = w.entities.subs; own = w.keys.own; told = w.keys.told }
+
+-- all that a listener may listen for
+abbrev pub present_at : World → List Candidate
+present_at w = candidates w.entities.subs w.entities.queryables w.matching.told

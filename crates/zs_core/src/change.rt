@@ -9,7 +9,10 @@ use zs_events::{Answer, Effects, Refusal, Turn};
 use zs_keys::KeyExpr;
 use zs_query::{GetRow, RequestRow};
 use zs_sample::Reply;
-use zs_tables::{LivelinessGet, LivelinessSub, QueryableRow, SubRow, ToldToken};
+use zs_tables::{
+    ListenerRow, LivelinessGet, LivelinessSub, QueryableRow, SubRow, ToldQueryable, ToldSub,
+    ToldToken,
+};
 
 /// What an accepted event makes of the keys that the session declared.
 #[derive(Drop)]
@@ -123,6 +126,25 @@ pub enum TokenChange {
     Take { token: u32 },
 }
 
+/// What an accepted event makes of matching.
+#[derive(Drop)]
+pub enum MatchingChange {
+    /// A listener is declared: it draws a number.
+    AddListener { row: ListenerRow },
+    /// A listener ends.
+    EndListener { id: u32 },
+    /// A listener is left to itself.
+    LeaveListener { id: u32 },
+    /// The network tells a subscriber, in place of one of its number.
+    TellSub { row: ToldSub },
+    /// The network ends a subscriber.
+    ForgetSub { number: u32 },
+    /// The network tells a queryable, in place of one of its number.
+    TellQueryable { row: ToldQueryable },
+    /// The network ends a queryable.
+    ForgetQueryable { number: u32 },
+}
+
 /// What an accepted event changes, with the copies that it needs. It names one area, but for
 /// the close, and for what ends gets or asks one beside: query values, queriers and cancellation tokens.
 #[derive(Drop)]
@@ -135,6 +157,7 @@ pub enum Change {
     OfLiveliness(LivelinessChange),
     OfValues(ValueChange),
     OfTokens(TokenChange),
+    OfMatching(MatchingChange),
     /// The session is closed.
     Shut,
 }

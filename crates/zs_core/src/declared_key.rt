@@ -1,4 +1,4 @@
-/// How many declarations of a key were not given back yet.
+/// How many declarations of a key were not given back yet, as contracts see it.
 #[derive(Clone, Copy, Debug, PartialEq, Eq, Hash, Drop)]
 pub struct KeyHolders {
     /// The key's number.

@@ -1,6 +1,6 @@
 //! Laws over the definitions: each is the contract of a function that does nothing.
 
-ghost use Rattle.zs_core.specs.Laws.{TableIsLive, SubscribersAscend, PublishersAreLive, QueryablesAreLive, QueriersAreLive, GroupsAreLive, KeysAreHeld, HoldersAreCounted, KeysAreTold, CountersAreTold, ClosedIsTold, TextsAreNamed, NumbersAreDrawn, HeldTextsKeepNumbers, KeyNumbersAreNew, ListsAreTests, FirstCause, RefusalsHaveCauses, WireFormsAreRead, OneMessageAtMost, SubscribersAreCovered, GetsAreTold, MomentsAreTold, ValuesAreTold, TokensAreTold, CancellationsAreTold, TakenTokensEndNothing, FinalsAreDue, RequestsEndOnce, TokensAreLive, LsubsAreLive, AskingsAreTold, AskingsGoOn};
+ghost use Rattle.zs_core.specs.Laws.{TableIsLive, SubscribersAscend, PublishersAreLive, QueryablesAreLive, QueriersAreLive, GroupsAreLive, KeysAreHeld, HoldersAreCounted, KeysAreTold, CountersAreTold, ClosedIsTold, TextsAreNamed, NumbersAreDrawn, HeldTextsKeepNumbers, KeyNumbersAreNew, ListsAreTests, FirstCause, RefusalsHaveCauses, WireFormsAreRead, OneMessageAtMost, SubscribersAreCovered, GetsAreTold, MomentsAreTold, ValuesAreTold, TokensAreTold, CancellationsAreTold, TakenTokensEndNothing, FinalsAreDue, RequestsEndOnce, TokensAreLive, LsubsAreLive, AskingsAreTold, AskingsGoOn, ListenersAreLive, ToldAreLast, ListenersKnow, ListenersHearChanges, OthersHearNothing};
 
 /// After any history the table of subscribers holds those that were declared and not ended since, and no others.
 pub fn table_is_live()
@@ -180,4 +180,32 @@ pub fn one_message_at_most()
 /// A closed session has no live subscriber.
 pub fn subscribers_are_covered()
     ensures { SubscribersAreCovered }
+{}
+
+/// After any history the table of listeners holds those that were declared and that nothing ended since, and no others: a
+/// listener ends with its publisher or querier too.
+pub fn listeners_are_live()
+    ensures { ListenersAreLive }
+{}
+
+/// After any history the tables of told subscribers and queryables hold those that the network told last of their numbers and
+/// did not end since, and no others, whatever is asked of any of them.
+pub fn told_are_last()
+    ensures { ToldAreLast }
+{}
+
+/// After any history each live listener was told last what is so, whether anyone matches, or was told nothing and nobody does.
+pub fn listeners_know()
+    ensures { ListenersKnow }
+{}
+
+/// An event tells each listener that lives behind it whether anyone matches, once, where that is not what it was told last, and
+/// else nothing.
+pub fn listeners_hear_changes()
+    ensures { ListenersHearChanges }
+{}
+
+/// No event tells anything to a listener that doesn't live behind it.
+pub fn others_hear_nothing()
+    ensures { OthersHearNothing }
 {}

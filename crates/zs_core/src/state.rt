@@ -1,5 +1,5 @@
 ghost use Rattle.std.specs.Prelude.{◌≡◌, None, [], IfOk, OnOk, OnErr};
-ghost use Rattle.zs_core.specs.Turns.{decision_of, decision, closed_cause};
+ghost use Rattle.zs_core.specs.Turns.{decision_of, decision, with_listeners, closed_cause};
 ghost use Rattle.zs_core.specs.Changes.{Fits, with_change};
 
 use self::answers::ReplyQuality;
@@ -8,16 +8,17 @@ use self::content::{
 };
 use self::questions::{QuerierQuestion, Question};
 use crate::change::{Change, Decision};
-use crate::declared_key::KeyHolders;
 use crate::id_set::IdSet;
+use crate::key_holders::KeyHolderCounts;
 use crate::liveliness::Liveliness;
+use crate::matching::Matching;
 use crate::pub_table::PubTable;
 use crate::querier::QuerierSettings;
 use crate::querier_table::QuerierTable;
 use crate::settings::Settings;
 use std::alloc::{AllocError, Global};
 use std::marker::Model;
-use zs_events::{BackgroundKind, EntityKind, Event, Refusal};
+use zs_events::{BackgroundKind, EntityKind, Event, Refusal, Turn};
 use zs_query::{GetTable, RequestTable};
 use zs_tables::{Groups, QueryableTable, Tables};
 
@@ -30,8 +31,10 @@ mod ended_gets;
 mod get_effects;
 mod gets;
 mod groups;
+mod hearing;
 mod keys;
 mod liveliness;
+mod matching;
 mod messages;
 mod publications;
 mod publishers;
@@ -56,7 +59,7 @@ pub struct SessionState {
     next_entity: u32,
     next_key: u16,
     tables: Tables,
-    holders: Vec<KeyHolders>,
+    holders: KeyHolderCounts,
     publishers: PubTable,
     queryables: QueryableTable,
     queriers: QuerierTable,
@@ -65,6 +68,7 @@ pub struct SessionState {
     groups: Groups,
     asking: GetTable,
     liveliness: Liveliness,
+    matching: Matching,
     handing: RequestTable,
     next_token: u32,
     taken_tokens: IdSet,
@@ -72,6 +76,7 @@ pub struct SessionState {
 
 impl Model for SessionState {
     ghost use Rattle.zs_core.specs.World.{World};
+    ghost use Rattle.zs_core.specs.MatchingTables.{shown};
 
     ghost Value = { World };
 
@@ -87,22 +92,39 @@ impl Model for SessionState {
         left_subs = s.left_subs;
         left_queryables = s.left_queryables;
       };
-      keys = record { own = s.tables.own; holders = s.holders.items; told = s.tables.told };
+      keys = record { own = s.tables.own; holders = s.holders.rows; told = s.tables.told };
       groups = s.groups;
       asking = s.asking;
       liveliness = s.liveliness;
+      matching = shown s.matching;
       handing = s.handing;
       cancelling = record { next = s.next_token; taken = s.taken_tokens };
     } };
 
     ghost use Rattle.zs_core.specs.Bounds.{AreBelow};
 
-    ghost invariant = { λ s. AreBelow s.next_entity s.tables.rows s.publishers s.queryables s.queriers s.groups };
+    ghost invariant = { λ s. AreBelow s.next_entity s.tables.rows s.publishers s.queryables s.queriers s.groups s.matching.told s.matching.listeners };
 }
 
 impl SessionState {
     /// The turn that the event would have, and what it would change.
     fn decide(&self, event: &Event) -> Result<Decision, AllocError>
+        ensures { IfOk result (λ made. made ≡ with_listeners self.now (decision self.now event.now)) }
+    {
+        let Decision { turn, change } = self.decide_alone(event)?;
+        let Turn {
+            answer,
+            mut effects,
+        } = turn;
+        self.hear(&change, &mut effects)?;
+        Ok(Decision {
+            turn: Turn { answer, effects },
+            change,
+        })
+    }
+
+    /// The same without what it means to listeners.
+    fn decide_alone(&self, event: &Event) -> Result<Decision, AllocError>
         ensures { IfOk result (λ made. made ≡ decision self.now event.now) }
     {
         if self.closed {
@@ -333,6 +355,16 @@ impl SessionState {
                 let error = error_value(self.alloc, payload, encoding)?;
                 self.decide_error_answer(*value, error)
             }
+            Event::Listen { parent, id } => self.decide_listen(*parent, *id),
+            Event::Status { parent, id } => self.decide_status(*parent, *id),
+            Event::Undeclare {
+                kind: EntityKind::Listener,
+                id,
+            } => self.decide_undeclare_listener(*id),
+            Event::Background {
+                kind: BackgroundKind::Listener,
+                id,
+            } => self.decide_background_listener(*id),
             Event::Share { value } => self.decide_share(*value),
             Event::Finish { value } => self.decide_finish(*value),
             Event::Tick { now } => self.decide_tick(*now),
@@ -356,6 +388,7 @@ impl SessionState {
             Change::OfLiveliness(change) => self.change_liveliness(change),
             Change::OfValues(change) => self.change_values(change),
             Change::OfTokens(change) => self.change_tokens(change),
+            Change::OfMatching(change) => self.change_matching(change),
             Change::Shut => {
                 self.shut();
                 Ok(())
@@ -389,6 +422,8 @@ fn closed_decision(alloc: Global, event: &Event) -> Decision
         | Event::Queryable { .. }
         | Event::Querier { .. }
         | Event::QuerierGet { .. }
+        | Event::Listen { .. }
+        | Event::Status { .. }
         | Event::CancelToken
         | Event::Share { .. }
         | Event::Put { .. }

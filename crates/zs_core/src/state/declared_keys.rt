@@ -1,14 +1,12 @@
-ghost use Rattle.std.specs.Prelude.{◌≡◌, ◌<◌, ◌==◌, not, true, None, filter, map, IfOk, OnOk, OnErr, vec_len, vec_capacity, nat_lt};
+ghost use Rattle.std.specs.Prelude.{◌≡◌, None, IfOk, OnOk, OnErr};
 ghost use Rattle.zs_core.specs.Turns.{decision_of, open_decision, own_keys_at};
 ghost use Rattle.zs_core.specs.Sends.{return_sends};
 ghost use Rattle.zs_core.specs.Changes.{KeysFit, with_change};
-ghost use Rattle.zs_core.specs.DeclaredKeys.{last_count, holders_of, has_holder, raised, can_rise, one_more, one_less};
 
 use super::SessionState;
 use super::keys::{into_owned, is_whole};
 use super::wires::full_wire;
 use crate::change::{Change, Decision, KeyChange, NetworkChange};
-use crate::declared_key::KeyHolders;
 use std::alloc::AllocError;
 use zs_events::{Effect, Effects, Event, KeyArg, Refusal};
 use zs_keys::KeyExpr;
@@ -60,7 +58,7 @@ impl SessionState {
         ensures { IfOk result (λ made. made ≡ decision_of None None (return_sends (own_keys_at self.now) number) (Change.OfKeys (KeyChange.Release number))) }
     {
         let mut effects = Effects::new(self.alloc);
-        if holders_of(number, &self.holders) <= 1 {
+        if self.holders.of(number) <= 1 {
             effects.push(Effect::Send(Message::UndeclareKeyExpr { number }))?;
         }
         Ok(Decision::of(effects, Change::OfKeys(KeyChange::Release { number })))
@@ -74,8 +72,8 @@ impl SessionState {
         match change {
             KeyChange::Declare { number, key } => self.declare_key(number, key),
             KeyChange::Hold { number } => {
-                prepare(&mut self.holders)?;
-                raise(number, &mut self.holders);
+                self.holders.prepare(number)?;
+                self.holders.raise(number);
                 Ok(())
             }
             KeyChange::Release { number } => {
@@ -91,9 +89,9 @@ impl SessionState {
         ensures ok { OnOk result (self.new ≡ with_change (Change.OfKeys (KeyChange.Declare number key.entry)) self.old) }
         ensures err { OnErr result (self.new ≡ self.old) }
     {
-        prepare(&mut self.holders)?;
+        self.holders.prepare(number)?;
         self.tables.set(Mapping::Receiver, number, key)?;
-        raise(number, &mut self.holders);
+        self.holders.raise(number);
         self.next_key += 1;
         Ok(())
     }
@@ -102,11 +100,10 @@ impl SessionState {
     fn release_key(&mut self, number: u16)
         ensures { self.new ≡ with_change (Change.OfKeys (KeyChange.Release number)) self.old }
     {
-        if holders_of(number, &self.holders) <= 1 {
+        let is_last = self.holders.of(number) <= 1;
+        self.holders.lower(number);
+        if is_last {
             self.tables.unset(Mapping::Receiver, number);
-            forget(number, &mut self.holders);
-        } else {
-            count_less(number, &mut self.holders);
         }
     }
 
@@ -119,107 +116,5 @@ impl SessionState {
                 self.tables.set(Mapping::Sender, number, key)
             }
         }
-    }
-}
-
-/// Takes the holders of a number out.
-fn forget(number: u16, rows: &mut Vec<KeyHolders>)
-    ensures { rows.new.items ≡ filter (λ row. not (row.number == number)) rows.old.items }
-{
-    rows.retain(|row| row.number != number);
-}
-
-/// How many hold a number.
-fn holders_of(number: u16, rows: &[KeyHolders]) -> u64
-    ensures { result ≡ holders_of number rows.now }
-{
-    for row in rows {
-        if row.number == number {
-            return row.count;
-        }
-    }
-    0
-}
-
-/// Makes room for one holder more, of any number. Want of memory stands for a count that can't rise any more, too.
-fn prepare(rows: &mut Vec<KeyHolders>) -> Result<(), AllocError>
-    ensures same { rows.new.items ≡ rows.old.items }
-    ensures room { OnOk result (vec_len rows.new < vec_capacity rows.new) }
-    ensures counts { OnOk result (can_rise rows.new.items ≡ true) }
-{
-    rows.reserve(1)?;
-    if !can_rise(rows) {
-        return Err(AllocError);
-    }
-    Ok(())
-}
-
-/// Counts one holder more of a number, where there is room for it.
-fn raise(number: u16, rows: &mut Vec<KeyHolders>)
-    requires room { vec_len rows.old < vec_capacity rows.old }
-    requires counts { can_rise rows.old.items ≡ true }
-    ensures { rows.new.items ≡ raised number rows.old.items }
-{
-    if has_holder(number, rows) {
-        count_more(number, rows);
-        return;
-    }
-    let _ = rows.push(KeyHolders { number, count: 1 });
-}
-
-pub(super) fn has_holder(number: u16, rows: &[KeyHolders]) -> bool
-    ensures { result ≡ has_holder number rows.now }
-{
-    rows.iter().any(|row| row.number == number)
-}
-
-/// Whether each count can still rise.
-fn can_rise(rows: &[KeyHolders]) -> bool
-    ensures { result ≡ can_rise rows.now }
-{
-    rows.iter().all(|row| row.count < u64::MAX)
-}
-
-/// Counts one holder more of a number.
-fn count_more(number: u16, rows: &mut Vec<KeyHolders>)
-    requires { can_rise rows.old.items ≡ true }
-    ensures { rows.new.items ≡ map (one_more number) rows.old.items }
-{
-    for row in rows.iter_mut() {
-        *row = one_more(number, *row);
-    }
-}
-
-fn one_more(number: u16, row: KeyHolders) -> KeyHolders
-    requires { nat_lt row.count last_count ≡ true }
-    ensures { result ≡ one_more number row }
-{
-    if row.number != number {
-        return row;
-    }
-    KeyHolders {
-        number,
-        count: row.count + 1,
-    }
-}
-
-/// Counts one holder less of a number.
-fn count_less(number: u16, rows: &mut Vec<KeyHolders>)
-    ensures { rows.new.items ≡ map (one_less number) rows.old.items }
-{
-    for row in rows.iter_mut() {
-        *row = one_less(number, *row);
-    }
-}
-
-fn one_less(number: u16, row: KeyHolders) -> KeyHolders
-    ensures { result ≡ one_less number row }
-{
-    if row.number != number {
-        return row;
-    }
-    KeyHolders {
-        number,
-        count: row.count.saturating_sub(1),
     }
 }

@@ -46,7 +46,10 @@ pub(super) fn final_effects(
         Outcome::Unmatched => Ok(Effects::new(alloc)),
         Outcome::Kept => Ok(Effects::new(alloc)),
         Outcome::Dropped => Ok(Effects::new(alloc)),
-        Outcome::Handed(_) => Ok(Effects::new(alloc)),
+        Outcome::Handed(reply) => {
+            drop(reply);
+            Ok(Effects::new(alloc))
+        }
         Outcome::Repeated => Ok(Effects::new(alloc)),
     }
 }

@@ -1,5 +1,5 @@
 ghost use Rattle.std.specs.Prelude.{◌≡◌, IfOk};
-ghost use Rattle.zs_core.specs.Turns.{open_decision, heard_decision};
+ghost use Rattle.zs_core.specs.Turns.{open_decision};
 
 use super::SessionState;
 use super::content::incoming_content;
@@ -10,8 +10,7 @@ use zs_events::{Event, Refusal};
 use zs_wire::{Message, WireExpr};
 
 impl SessionState {
-    /// What a message from the network makes of an open session. Those of matching
-    /// change nothing, but their keys must be known ones.
+    /// What a message from the network makes of an open session.
     pub(super) fn decide_message(&self, message: &Message) -> Result<Decision, AllocError>
         ensures { IfOk result (λ made. made ≡ open_decision self.now (Event.Net message.now)) }
     {
@@ -21,8 +20,12 @@ impl SessionState {
                 let content = incoming_content(self.alloc, push)?;
                 self.decide_incoming(&push.wire, content)
             }
-            Message::DeclareSubscriber { wire, .. } | Message::DeclareQueryable { wire, .. } =>
-                self.decide_heard(wire),
+            Message::DeclareSubscriber { id, wire } => self.decide_told_sub(*id, wire),
+            Message::DeclareQueryable { id, complete, wire } => {
+                self.decide_told_queryable(*id, *complete, wire)
+            }
+            Message::UndeclareSubscriber { id } => self.decide_ended_sub(*id),
+            Message::UndeclareQueryable { id } => self.decide_ended_queryable(*id),
             Message::DeclareToken { id, wire, interest } => {
                 self.decide_told_token(*id, wire, *interest)
             }
@@ -33,11 +36,9 @@ impl SessionState {
             Message::Request(request) => self.decide_request(request),
             Message::Response(response) => self.decide_response(response),
             Message::ResponseFinal { rid } => self.decide_response_final(*rid),
-            Message::UndeclareKeyExpr { .. }
-            | Message::UndeclareSubscriber { .. }
-            | Message::UndeclareQueryable { .. }
-            | Message::Interest { .. }
-            | Message::Close => Ok(Decision::quiet(self.alloc, None, Change::Nothing)),
+            Message::UndeclareKeyExpr { .. } | Message::Interest { .. } | Message::Close => Ok(
+                Decision::quiet(self.alloc, None, Change::Nothing),
+            ),
         }
     }
 
@@ -54,15 +55,5 @@ impl SessionState {
         let key = into_owned(self.alloc, key)?;
         let change = Change::OfNetwork(NetworkChange::TellKey { number, key });
         Ok(Decision::quiet(self.alloc, None, change))
-    }
-
-    /// A message that names a key and changes nothing.
-    fn decide_heard(&self, wire: &WireExpr) -> Result<Decision, AllocError>
-        ensures { IfOk result (λ made. made ≡ heard_decision self.now wire.now) }
-    {
-        match self.resolve_wire(wire)? {
-            Ok(_) => Ok(Decision::quiet(self.alloc, None, Change::Nothing)),
-            Err(refusal) => Ok(Decision::refused(self.alloc, refusal)),
-        }
     }
 }

@@ -185,6 +185,7 @@ impl SessionState {
             id,
         );
         self.publishers.remove(id);
+        self.matching.end_of(id);
     }
 }
 

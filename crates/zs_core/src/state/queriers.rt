@@ -158,13 +158,14 @@ impl SessionState {
         Ok(())
     }
 
-    /// A querier ends, and its gets with it.
+    /// A querier ends, and its gets and listeners with it.
     pub(super) fn end_querier(&mut self, id: u32)
         ensures { self.new ≡ with_change (Change.OfEntities (EntityChange.EndQuerier id)) self.old }
     {
         leave_querier_group(&mut self.groups, &self.queriers, id);
         self.queriers.remove(id);
         self.asking.end_querier(id);
+        self.matching.end_of(id);
     }
 }
 

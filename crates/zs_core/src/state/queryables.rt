@@ -6,6 +6,7 @@ ghost use Rattle.zs_core.specs.Changes.{EntitiesFit, with_change};
 ghost use Rattle.zs_core.specs.Queryables.{queryable_ends};
 
 use super::SessionState;
+use super::hearing::{own_queryable_of, recounts_of};
 use super::keys::into_owned;
 use super::recipients::has_network;
 use crate::change::{Change, Decision, EntityChange};
@@ -13,7 +14,7 @@ use std::alloc::AllocError;
 use zs_events::{Effect, Effects, EntityKind, Event, KeyArg, Kind, Refusal};
 use zs_keys::KeyExpr;
 use zs_sample::Locality;
-use zs_tables::QueryableRow;
+use zs_tables::{Candidate, QueryableRow};
 use zs_wire::Message;
 
 impl SessionState {
@@ -113,15 +114,24 @@ impl SessionState {
         ensures ok { OnOk result (self.new ≡ with_change (Change.OfEntities (EntityChange.AddQueryable row)) self.old) }
         ensures err { OnErr result (self.new ≡ self.old) }
     {
+        let comes = Some(Candidate::own_queryable(&row));
+        let recounts = recounts_of(self.matching.listeners(), None, comes)?;
         self.queryables.add(row)?;
+        self.matching.recount(&recounts);
         self.next_entity += 1;
         Ok(())
     }
 
-    pub(super) fn end_queryable(&mut self, id: u32)
-        ensures { self.new ≡ with_change (Change.OfEntities (EntityChange.EndQueryable id)) self.old }
+    pub(super) fn end_queryable(&mut self, id: u32) -> Result<(), AllocError>
+        ensures ok { OnOk result (self.new ≡ with_change (Change.OfEntities (EntityChange.EndQueryable id)) self.old) }
+        ensures err { OnErr result (self.new ≡ self.old) }
     {
+        let _ascending = self.queryables.rows();
+        let goes = own_queryable_of(&self.queryables, id);
+        let recounts = recounts_of(self.matching.listeners(), goes, None)?;
         self.queryables.remove(id);
+        self.matching.recount(&recounts);
+        Ok(())
     }
 }
 

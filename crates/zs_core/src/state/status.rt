@@ -2,7 +2,6 @@ ghost use Rattle.std.specs.Prelude.{◌≡◌};
 ghost use Rattle.zs_core.specs.Stands.{ClosedIs, NowIs, IsHeld, IsLive, IsTaken};
 
 use super::SessionState;
-use super::declared_keys::has_holder;
 use zs_events::Kind;
 use zs_wire::EntityGlobalId;
 
@@ -44,7 +43,7 @@ impl SessionState {
     pub fn held(&self, number: u16) -> bool
         ensures { IsHeld self.now number result }
     {
-        has_holder(number, &self.holders)
+        self.holders.has(number)
     }
 
     /// Whether that cancellation token was taken: a cancel named it, while the session was open.
@@ -68,7 +67,7 @@ impl SessionState {
             Kind::Token => self.liveliness.has_token(id),
             Kind::LivelinessSubscriber => self.liveliness.subs().has(id),
             Kind::LivelinessGet => self.liveliness.gets().is_open(id),
-            Kind::Listener => false,
+            Kind::Listener => self.matching.listeners().has(id),
         }
     }
 }

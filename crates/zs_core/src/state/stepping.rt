@@ -6,7 +6,9 @@ ghost use Rattle.zs_core.specs.Stands.{world_after, Steps, Previews};
 use super::SessionState;
 use crate::change::Decision;
 use crate::id_set::IdSet;
+use crate::key_holders::KeyHolderCounts;
 use crate::liveliness::Liveliness;
+use crate::matching::Matching;
 use crate::pub_table::PubTable;
 use crate::querier_table::QuerierTable;
 use crate::settings::Settings;
@@ -28,7 +30,7 @@ impl SessionState {
             next_entity: settings.entity_start + 1,
             next_key: settings.key_start,
             tables: Tables::new(alloc),
-            holders: Vec::new(alloc),
+            holders: KeyHolderCounts::new(alloc),
             publishers: PubTable::new(alloc),
             queryables: QueryableTable::new(alloc),
             queriers: QuerierTable::new(alloc),
@@ -37,6 +39,7 @@ impl SessionState {
             groups: Groups::new(alloc),
             asking: GetTable::new(alloc, settings.query_start),
             liveliness: Liveliness::new(alloc),
+            matching: Matching::new(alloc),
             handing: RequestTable::new(alloc),
             next_token: 0,
             taken_tokens: IdSet::new(alloc),

@@ -12,6 +12,7 @@ ghost use Rattle.zs_core.specs.Subscribers.{is_sub, sub_at, sub_ends};
 use super::SessionState;
 use super::get_effects::push_get_ends;
 use super::groups::{join_group, joins_first, last_number, leave_group};
+use super::hearing::{own_sub_of, recounts_of};
 use super::keys::into_owned;
 use super::queryables::push_queryable_ends;
 use super::recipients::has_network;
@@ -22,7 +23,7 @@ use std::alloc::{AllocError, Global};
 use zs_events::{Effect, Effects, EntityKind, Event, KeyArg, Kind, Refusal};
 use zs_keys::KeyExpr;
 use zs_sample::Locality;
-use zs_tables::{GroupKind, Groups, SubRow, Tables};
+use zs_tables::{Candidate, GroupKind, Groups, SubRow, Tables};
 use zs_wire::Message;
 
 impl SessionState {
@@ -144,20 +145,14 @@ impl SessionState {
     {
         match change {
             EntityChange::AddSub { row } => self.add_sub(row),
-            EntityChange::EndSub { id } => {
-                self.end_sub(id);
-                Ok(())
-            }
+            EntityChange::EndSub { id } => self.end_sub(id),
             EntityChange::AddPub { row } => self.add_pub(row),
             EntityChange::EndPub { id } => {
                 self.end_pub(id);
                 Ok(())
             }
             EntityChange::AddQueryable { row } => self.add_queryable(row),
-            EntityChange::EndQueryable { id } => {
-                self.end_queryable(id);
-                Ok(())
-            }
+            EntityChange::EndQueryable { id } => self.end_queryable(id),
             EntityChange::AddQuerier { row } => self.add_querier(row),
             EntityChange::EndQuerier { id } => {
                 self.end_querier(id);
@@ -174,6 +169,8 @@ impl SessionState {
         ensures ok { OnOk result (self.new ≡ with_change (Change.OfEntities (EntityChange.AddSub row)) self.old) }
         ensures err { OnErr result (self.new ≡ self.old) }
     {
+        let comes = Some(Candidate::own_sub(&row));
+        let recounts = recounts_of(self.matching.listeners(), None, comes)?;
         let aggregates = &self.settings.aggregated_subscribers;
         add_to_group(
             self.alloc,
@@ -182,13 +179,18 @@ impl SessionState {
             aggregates,
             row,
         )?;
+        self.matching.recount(&recounts);
         self.next_entity += 1;
         Ok(())
     }
 
-    fn end_sub(&mut self, id: u32)
-        ensures { self.new ≡ with_change (Change.OfEntities (EntityChange.EndSub id)) self.old }
+    fn end_sub(&mut self, id: u32) -> Result<(), AllocError>
+        ensures ok { OnOk result (self.new ≡ with_change (Change.OfEntities (EntityChange.EndSub id)) self.old) }
+        ensures err { OnErr result (self.new ≡ self.old) }
     {
+        let _ascending = self.tables.rows();
+        let goes = own_sub_of(&self.tables, id);
+        let recounts = recounts_of(self.matching.listeners(), goes, None)?;
         leave_sub_group(
             &mut self.groups,
             &self.tables,
@@ -196,6 +198,8 @@ impl SessionState {
             id,
         );
         self.tables.remove(id);
+        self.matching.recount(&recounts);
+        Ok(())
     }
 
     /// Nothing that the application declared lives any more.
@@ -211,6 +215,7 @@ impl SessionState {
         self.groups = Groups::new(self.alloc);
         self.asking.close();
         self.liveliness.shut();
+        self.matching.shut();
     }
 }
 

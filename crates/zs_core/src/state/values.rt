@@ -212,9 +212,20 @@ fn note_end(asking: &mut GetTable, finished: Finished)
     ensures { asking.new ≡ with_ended finished asking.old }
 {
     match finished {
-        Finished::Last(row) if row.local => asking.note_local_final(row.rid),
-        Finished::Last(_) | Finished::MoreLeft | Finished::Unknown => {}
+        Finished::Last(row) => note_answered(asking, row),
+        Finished::MoreLeft => {}
+        Finished::Unknown => {}
     }
+}
+
+/// A request that was answered whole gives its get this session's final, where the get is this session's own.
+fn note_answered(asking: &mut GetTable, row: RequestRow)
+    ensures { asking.new ≡ with_ended (Finished.Last row) asking.old }
+{
+    if row.local {
+        asking.note_local_final(row.rid);
+    }
+    drop(row);
 }
 
 /// Whether a request is for complete queryables alone.

@@ -7,6 +7,7 @@ use Rattle.zs_core.specs.declared.querier.QuerierRow.{QuerierRow}
 use Rattle.zs_core.specs.World.{World}
 use Rattle.zs_core.specs.Groups.{pub_shared, share_text}
 use Rattle.zs_core.proofs.Bounds.{no_member, groups_weaker, more_below, rows_push, rows_weaker}
+use Rattle.zs_tables.specs.Matching.{Listener}
 use Rattle.zs_core.proofs.state.SessionState.add_pub.Goals as goal
 
 pub add_to_group-requires-clause-new : goal.add_to_group-requires-clause-new
@@ -31,4 +32,6 @@ invariant_of-self-2 c =
       queriers = rows_weaker (λ (row : QuerierRow). row.id) c.self.inside.next_entity c.self.inside.queriers c.self.invariant.queriers;
       querier_groups = rw (ap (λ (gs : AllGroups). gs.queriers) c.in_ok-add_to_group.ensures.groups)
           (groups_weaker c.self.inside.next_entity (c.self.inside.next_entity + 1) c.self.inside.groups.queriers up c.self.invariant.querier_groups);
+      listening = rows_weaker (λ (l : Listener). l.row.id) c.self.inside.next_entity c.self.inside.matching.listeners c.self.invariant.listening;
+      counted = c.self.invariant.counted;
     }

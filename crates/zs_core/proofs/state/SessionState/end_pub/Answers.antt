@@ -1,5 +1,6 @@
 use Rattle.zs_core.specs.declared.publisher.PubRow.{PubRow}
 use Rattle.zs_core.proofs.Bounds.{less_below, rows_less}
+use Rattle.zs_core.proofs.Counted.{below_fewer, counted_fewer}
 use Rattle.zs_core.proofs.state.SessionState.end_pub.Goals as goal
 
 pub invariant_of-self : goal.invariant_of-self
@@ -11,4 +12,6 @@ invariant_of-self c = record {
   pub_groups = rw c.leave_pub_group.ensures (less_below c.self.inside.next_entity _ _ _ c.self.invariant.pub_groups);
   queriers = c.self.invariant.queriers;
   querier_groups = rw c.leave_pub_group.ensures c.self.invariant.querier_groups;
+  listening = below_fewer c.self.inside.next_entity _ c.self.inside.matching _ c.end_of.ensures.kept c.self.invariant.listening;
+  counted = counted_fewer c.self.inside.tables.rows c.self.inside.queryables _ c.self.inside.matching _ c.end_of.ensures.kept c.self.invariant.counted;
 }

@@ -1,6 +1,7 @@
 use Rattle.std.proofs.Common.{[]}
 use Rattle.zs_core.specs.declared.querier.QuerierRow.{QuerierRow}
 use Rattle.zs_core.proofs.Bounds.{less_below, rows_less}
+use Rattle.zs_core.proofs.Counted.{below_fewer, counted_fewer}
 use Rattle.zs_core.proofs.state.SessionState.end_querier.Goals as goal
 
 pub invariant_of-self : goal.invariant_of-self
@@ -12,4 +13,6 @@ invariant_of-self c = record {
   sub_groups = rw c.leave_querier_group.ensures c.self.invariant.sub_groups;
   pub_groups = rw c.leave_querier_group.ensures c.self.invariant.pub_groups;
   querier_groups = rw c.leave_querier_group.ensures (less_below c.self.inside.next_entity [] _ _ c.self.invariant.querier_groups);
+  listening = below_fewer c.self.inside.next_entity _ c.self.inside.matching _ c.end_of.ensures.kept c.self.invariant.listening;
+  counted = counted_fewer c.self.inside.tables.rows c.self.inside.queryables _ c.self.inside.matching _ c.end_of.ensures.kept c.self.invariant.counted;
 }

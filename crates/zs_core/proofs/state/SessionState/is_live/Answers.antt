@@ -12,6 +12,10 @@ use Rattle.std.specs.Prelude.{◌==◌}
 use Rattle.std.specs.List.{list_any}
 use Rattle.zs_tables.specs.declared.liveliness_sub.LivelinessSub.{LivelinessSub}
 use Rattle.zs_tables.specs.LivelinessGets.{is_asking}
+use Rattle.std.specs.Prelude.{map}
+use Rattle.zs_tables.specs.Matching.{Listener as a_listener}
+use Rattle.zs_core.specs.Listeners.{is_listener}
+use Rattle.zs_core.proofs.Counted.{any_row}
 use Rattle.zs_core.proofs.state.SessionState.is_live.Goals as goal
 
 pub returns-in-Subscriber : goal.returns-in-Subscriber
@@ -64,4 +68,8 @@ returns-in-LivelinessGet c =
 
 pub returns-in-Listener : goal.returns-in-Listener
 returns-in-Listener c =
-    live_told c.args.self.now c.args.kind c.args.id false (sym (ap (λ (kind : Kind). is_here kind c.args.id c.args.self.now) c.in-Listener.is))
+    let listeners : map (λ (l : a_listener). l.row) c.self.inside.matching.listeners ≡ c.args.self.now.matching.listeners = ap (λ (w : World). w.matching.listeners) c.self.view_is in
+    live_told c.args.self.now c.args.kind c.args.id c.has-in-Listener.result
+    (c.has-in-Listener.ensures ∙ ap (λ (ls : List a_listener). list_any (λ l. l.row.id == c.args.id) ls) c.listeners.ensures
+    ∙ sym (any_row c.args.id c.self.inside.matching.listeners) ∙ ap (is_listener c.args.id) listeners
+    ∙ sym (ap (λ (kind : Kind). is_here kind c.args.id c.args.self.now) c.in-Listener.is))
