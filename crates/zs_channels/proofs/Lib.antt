@@ -1,0 +1,4 @@
+pub mod Telling
+pub mod Giving
+pub mod Rows
+pub mod Following

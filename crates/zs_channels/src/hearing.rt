@@ -1,0 +1,113 @@
+//! What the channels of a session hear of its turns.
+ghost use Rattle.std.specs.Prelude.{◌≡◌, OnOk};
+ghost use Rattle.zs_channels.specs.Channel.{with_item};
+ghost use Rattle.zs_channels.specs.Table.{with_change, behind_all};
+ghost use Rattle.zs_channels.specs.Heard.{declares, opening, opening_of, news_of_item, news_of_effect, news_of_effects, news_of_turn};
+
+use crate::channels::Channels;
+use std::alloc::{AllocError, Global};
+use zs_events::{Answer, Chan, Effect, Event, HandOver, Kind, Turn};
+
+impl Channels<HandOver> {
+    /// Hears what came of an event whose hand-overs go to a channel: that is opened under the number that the event was
+    /// answered, what is handed over goes into channels, and they end where those end whose they are. What goes into a
+    /// channel is a copy that shares its texts and payloads.
+    ///
+    /// # Errors
+    ///
+    /// Want of memory alone. Then a part of the turn was heard.
+    pub fn hear_turn(
+        &mut self,
+        alloc: Global,
+        event: &Event,
+        to: Chan,
+        turn: &Turn,
+    ) -> Result<(), AllocError>
+        ensures { OnOk result (self.new ≡ behind_all (news_of_turn event.now to turn.now) self.old) }
+    {
+        self.hear_declared(event, to, turn.answer)?;
+        self.hear_effects(alloc, turn.effects.as_slice())
+    }
+
+    fn hear_declared(&mut self, event: &Event, to: Chan, answer: Answer) -> Result<(), AllocError>
+        ensures { OnOk result (self.new ≡ behind_all (opening (declares event.now) to answer) self.old) }
+    {
+        match declares(event) {
+            Some(kind) => self.hear_opening(kind, to, answer),
+            None => Ok(()),
+        }
+    }
+
+    fn hear_opening(&mut self, kind: Kind, to: Chan, answer: Answer) -> Result<(), AllocError>
+        ensures { OnOk result (self.new ≡ behind_all (opening_of kind to answer) self.old) }
+    {
+        match answer {
+            Answer::Ok(Some(number)) => self.open(kind, number, to),
+            Answer::Ok(None) => Ok(()),
+            Answer::Refused(_) => Ok(()),
+        }
+    }
+
+    fn hear_effects(&mut self, alloc: Global, effects: &[Effect]) -> Result<(), AllocError>
+        ensures { OnOk result (self.new ≡ behind_all (news_of_effects effects.now) self.old) }
+    {
+        for effect in effects {
+            self.hear_effect(alloc, effect)?;
+        }
+        Ok(())
+    }
+
+    fn hear_effect(&mut self, alloc: Global, effect: &Effect) -> Result<(), AllocError>
+        ensures { OnOk result (self.new ≡ behind_all (news_of_effect effect.now) self.old) }
+    {
+        match effect {
+            Effect::Send(_) => Ok(()),
+            Effect::Hand(item) => self.hear_item(alloc, item),
+            Effect::End { kind, id } => {
+                self.end(*kind, *id);
+                Ok(())
+            }
+            Effect::Matching { .. } => Ok(()),
+        }
+    }
+
+    fn hear_item(&mut self, alloc: Global, item: &HandOver) -> Result<(), AllocError>
+        ensures { OnOk result (self.new ≡ behind_all (news_of_item item.now) self.old) }
+    {
+        match item {
+            HandOver::Sample { kind, id, .. } => self.keep(alloc, *kind, *id, item),
+            HandOver::Reply { kind, id, .. } => self.keep(alloc, *kind, *id, item),
+            HandOver::Query { .. } => Ok(()),
+        }
+    }
+
+    /// Puts a copy of an item into a channel, if there is one.
+    fn keep(
+        &mut self,
+        alloc: Global,
+        kind: Kind,
+        id: u32,
+        item: &HandOver,
+    ) -> Result<(), AllocError>
+        ensures { OnOk result (self.new ≡ with_change kind id (with_item item.now) self.old) }
+    {
+        if !self.has(kind, id) {
+            return Ok(());
+        }
+        let copy = item.try_clone(alloc)?;
+        self.hand(kind, id, copy)
+    }
+}
+
+/// What an event declares or asks for, if that can have a channel.
+fn declares(event: &Event) -> Option<Kind>
+    ensures { result ≡ declares event.now }
+{
+    match event {
+        Event::Sub { .. } => Some(Kind::Subscriber),
+        Event::Get { .. } => Some(Kind::Get),
+        Event::QuerierGet { .. } => Some(Kind::Get),
+        Event::LivelinessGet { .. } => Some(Kind::LivelinessGet),
+        _ => None,
+    }
+}
