@@ -25,7 +25,7 @@ use Rattle.zs_events.specs.declared.turn.Kind.TheVariants.{Subscriber, Get, Live
 use Rattle.zs_events.specs.declared.turn.Refusal.TheVariants.{NotFound}
 use Rattle.zs_script.specs.Lines.{lines, fields}
 use Rattle.zs_script.specs.Parts.{read, form}
-use Rattle.zs_script.specs.Grammar.{undeclare_of, push_of, response_on, response_of, net_of, event_of}
+use Rattle.zs_script.specs.Grammar.{undeclare_of, push_of, response_on, response_of, net_of, printed, event_of}
 use Rattle.zs_script.specs.Pieces.{written}
 use Rattle.zs_script.specs.Printing.{hand_pieces, replied_pieces, turn_text}
 use Rattle.zs_script.specs.Words.{hex_digits}
@@ -41,31 +41,31 @@ three_fields : fields (codes "sub" ++ 9 ∷ codes "any" ++ 9 ∷ []) ≡ codes "
 three_fields = refl
 
 -- lines and their events
-a_sub : event_of (codes "sub" ++ 9 ∷ codes "any" ++ 9 ∷ codes "test/k") ≡ Some (Sub Any (Text (codes "test/k")))
+a_sub : event_of (codes "sub" ++ 9 ∷ codes "any" ++ 9 ∷ codes "test/k") ≡ printed (Some (Sub Any (Text (codes "test/k"))))
 unfolding event_of undeclare_of net_of push_of form read chars is_utf8 hex_on_literals lib.Utf8.encode
 a_sub = refl
 
-a_local_sub : event_of (codes "sub" ++ 9 ∷ codes "local" ++ 9 ∷ codes "") ≡ Some (Sub SessionLocal (Text []))
+a_local_sub : event_of (codes "sub" ++ 9 ∷ codes "local" ++ 9 ∷ codes "") ≡ printed (Some (Sub SessionLocal (Text [])))
 unfolding event_of undeclare_of net_of push_of form read chars is_utf8 hex_on_literals lib.Utf8.encode
 a_local_sub = refl
 
-a_put : event_of (codes "put" ++ 9 ∷ codes "any" ++ 9 ∷ codes "test/k" ++ 9 ∷ codes "x7a656e6f68") ≡ Some (Put Any (Text (codes "test/k")) (codes "zenoh" ∷ []) (codes "zenoh/bytes") None (record { priority = 5; congestion = Drop; express = false }) true None None)
+a_put : event_of (codes "put" ++ 9 ∷ codes "any" ++ 9 ∷ codes "test/k" ++ 9 ∷ codes "x7a656e6f68") ≡ printed (Some (Put Any (Text (codes "test/k")) (codes "zenoh" ∷ []) (codes "zenoh/bytes") None (record { priority = 5; congestion = Drop; express = false }) true None None))
 unfolding event_of undeclare_of net_of push_of form read chars is_utf8 hex_on_literals lib.Utf8.encode
 a_put = refl
 
-an_empty_put : event_of (codes "put" ++ 9 ∷ codes "remote" ++ 9 ∷ codes "k" ++ 9 ∷ codes "x") ≡ Some (Put Remote (Text (codes "k")) [] (codes "zenoh/bytes") None (record { priority = 5; congestion = Drop; express = false }) true None None)
+an_empty_put : event_of (codes "put" ++ 9 ∷ codes "remote" ++ 9 ∷ codes "k" ++ 9 ∷ codes "x") ≡ printed (Some (Put Remote (Text (codes "k")) [] (codes "zenoh/bytes") None (record { priority = 5; congestion = Drop; express = false }) true None None))
 unfolding event_of undeclare_of net_of push_of form read chars is_utf8 hex_on_literals lib.Utf8.encode
 an_empty_put = refl
 
-upper_digits : event_of (codes "put" ++ 9 ∷ codes "any" ++ 9 ∷ codes "k" ++ 9 ∷ codes "xA0Ff") ≡ Some (Put Any (Text (codes "k")) ((160 ∷ 255 ∷ []) ∷ []) (codes "zenoh/bytes") None (record { priority = 5; congestion = Drop; express = false }) true None None)
+upper_digits : event_of (codes "put" ++ 9 ∷ codes "any" ++ 9 ∷ codes "k" ++ 9 ∷ codes "xA0Ff") ≡ printed (Some (Put Any (Text (codes "k")) ((160 ∷ 255 ∷ []) ∷ []) (codes "zenoh/bytes") None (record { priority = 5; congestion = Drop; express = false }) true None None))
 unfolding event_of undeclare_of net_of push_of form read chars is_utf8 hex_on_literals lib.Utf8.encode
 upper_digits = refl
 
-all_options : event_of (codes "put" ++ 9 ∷ codes "any" ++ 9 ∷ codes "k" ++ 9 ∷ codes "x01" ++ 9 ∷ codes "enc=text/plain" ++ 9 ∷ codes "ts=5:a" ++ 9 ∷ codes "prio=1" ++ 9 ∷ codes "cc=block" ++ 9 ∷ codes "express=1" ++ 9 ∷ codes "rel=0" ++ 9 ∷ codes "src=7:3:9" ++ 9 ∷ codes "att=xff") ≡ Some (Put Any (Text (codes "k")) ((1 ∷ []) ∷ []) (codes "text/plain") (Some (record { time = 5; id = 10 })) (record { priority = 1; congestion = Block; express = true }) false (Some (record { source_id = record { zid = 7; eid = 3 }; source_sn = 9 })) (Some ((255 ∷ []) ∷ [])))
+all_options : event_of (codes "put" ++ 9 ∷ codes "any" ++ 9 ∷ codes "k" ++ 9 ∷ codes "x01" ++ 9 ∷ codes "enc=text/plain" ++ 9 ∷ codes "ts=5:a" ++ 9 ∷ codes "prio=1" ++ 9 ∷ codes "cc=block" ++ 9 ∷ codes "express=1" ++ 9 ∷ codes "rel=0" ++ 9 ∷ codes "src=7:3:9" ++ 9 ∷ codes "att=xff") ≡ printed (Some (Put Any (Text (codes "k")) ((1 ∷ []) ∷ []) (codes "text/plain") (Some (record { time = 5; id = 10 })) (record { priority = 1; congestion = Block; express = true }) false (Some (record { source_id = record { zid = 7; eid = 3 }; source_sn = 9 })) (Some ((255 ∷ []) ∷ []))))
 unfolding event_of undeclare_of net_of push_of form read chars is_utf8 hex_on_literals lib.Utf8.encode
 all_options = refl
 
-empty_encoding : event_of (codes "put" ++ 9 ∷ codes "any" ++ 9 ∷ codes "k" ++ 9 ∷ codes "x" ++ 9 ∷ codes "enc=") ≡ Some (Put Any (Text (codes "k")) [] (codes "zenoh/bytes") None (record { priority = 5; congestion = Drop; express = false }) true None None)
+empty_encoding : event_of (codes "put" ++ 9 ∷ codes "any" ++ 9 ∷ codes "k" ++ 9 ∷ codes "x" ++ 9 ∷ codes "enc=") ≡ printed (Some (Put Any (Text (codes "k")) [] (codes "zenoh/bytes") None (record { priority = 5; congestion = Drop; express = false }) true None None))
 unfolding event_of undeclare_of net_of push_of form read chars is_utf8 hex_on_literals lib.Utf8.encode
 empty_encoding = refl
 
@@ -89,7 +89,7 @@ bad_source : event_of (codes "put" ++ 9 ∷ codes "any" ++ 9 ∷ codes "k" ++ 9 
 unfolding event_of undeclare_of net_of push_of form read chars is_utf8 hex_on_literals lib.Utf8.encode
 bad_source = refl
 
-a_delete : event_of (codes "delete" ++ 9 ∷ codes "local" ++ 9 ∷ codes "#1" ++ 9 ∷ codes "ts=0:0") ≡ Some (Delete SessionLocal (Number 1 []) (Some (record { time = 0; id = 0 })) (record { priority = 5; congestion = Drop; express = false }) true None None)
+a_delete : event_of (codes "delete" ++ 9 ∷ codes "local" ++ 9 ∷ codes "#1" ++ 9 ∷ codes "ts=0:0") ≡ printed (Some (Delete SessionLocal (Number 1 []) (Some (record { time = 0; id = 0 })) (record { priority = 5; congestion = Drop; express = false }) true None None))
 unfolding event_of undeclare_of net_of push_of form read chars is_utf8 hex_on_literals lib.Utf8.encode
 a_delete = refl
 
@@ -97,27 +97,27 @@ no_encoding_of_a_delete : event_of (codes "delete" ++ 9 ∷ codes "any" ++ 9 ∷
 unfolding event_of undeclare_of net_of push_of form read chars is_utf8 hex_on_literals lib.Utf8.encode
 no_encoding_of_a_delete = refl
 
-a_pub : event_of (codes "pub" ++ 9 ∷ codes "remote" ++ 9 ∷ codes "k" ++ 9 ∷ codes "enc=a" ++ 9 ∷ codes "prio=7" ++ 9 ∷ codes "rel=0") ≡ Some (Pub Remote (Text (codes "k")) (codes "a") (record { priority = 7; congestion = Drop; express = false }) false)
+a_pub : event_of (codes "pub" ++ 9 ∷ codes "remote" ++ 9 ∷ codes "k" ++ 9 ∷ codes "enc=a" ++ 9 ∷ codes "prio=7" ++ 9 ∷ codes "rel=0") ≡ printed (Some (Pub Remote (Text (codes "k")) (codes "a") (record { priority = 7; congestion = Drop; express = false }) false))
 unfolding event_of undeclare_of net_of push_of form read chars is_utf8 hex_on_literals lib.Utf8.encode
 a_pub = refl
 
-a_publisher_put : event_of (codes "pput" ++ 9 ∷ codes "2" ++ 9 ∷ codes "x01") ≡ Some (PublisherPut 2 ((1 ∷ []) ∷ []) None None None None)
+a_publisher_put : event_of (codes "pput" ++ 9 ∷ codes "2" ++ 9 ∷ codes "x01") ≡ printed (Some (PublisherPut 2 ((1 ∷ []) ∷ []) None None None None))
 unfolding event_of undeclare_of net_of push_of form read chars is_utf8 hex_on_literals lib.Utf8.encode
 a_publisher_put = refl
 
-a_default_named : event_of (codes "pput" ++ 9 ∷ codes "2" ++ 9 ∷ codes "x" ++ 9 ∷ codes "enc=") ≡ Some (PublisherPut 2 [] (Some (codes "zenoh/bytes")) None None None)
+a_default_named : event_of (codes "pput" ++ 9 ∷ codes "2" ++ 9 ∷ codes "x" ++ 9 ∷ codes "enc=") ≡ printed (Some (PublisherPut 2 [] (Some (codes "zenoh/bytes")) None None None))
 unfolding event_of undeclare_of net_of push_of form read chars is_utf8 hex_on_literals lib.Utf8.encode
 a_default_named = refl
 
-a_publisher_delete : event_of (codes "pdel" ++ 9 ∷ codes "2" ++ 9 ∷ codes "att=x") ≡ Some (PublisherDelete 2 None None (Some []))
+a_publisher_delete : event_of (codes "pdel" ++ 9 ∷ codes "2" ++ 9 ∷ codes "att=x") ≡ printed (Some (PublisherDelete 2 None None (Some [])))
 unfolding event_of undeclare_of net_of push_of form read chars is_utf8 hex_on_literals lib.Utf8.encode
 a_publisher_delete = refl
 
-an_undeclare : event_of (codes "undeclare" ++ 9 ∷ codes "sub" ++ 9 ∷ codes "2") ≡ Some (Undeclare sub_kind 2)
+an_undeclare : event_of (codes "undeclare" ++ 9 ∷ codes "sub" ++ 9 ∷ codes "2") ≡ printed (Some (Undeclare sub_kind 2))
 unfolding event_of undeclare_of net_of push_of form read chars is_utf8 hex_on_literals lib.Utf8.encode
 an_undeclare = refl
 
-a_pub_undeclared : event_of (codes "undeclare" ++ 9 ∷ codes "pub" ++ 9 ∷ codes "4294967295") ≡ Some (Undeclare pub_kind 4294967295)
+a_pub_undeclared : event_of (codes "undeclare" ++ 9 ∷ codes "pub" ++ 9 ∷ codes "4294967295") ≡ printed (Some (Undeclare pub_kind 4294967295))
 unfolding event_of undeclare_of net_of push_of form read chars is_utf8 hex_on_literals lib.Utf8.encode
 a_pub_undeclared = refl
 
@@ -129,7 +129,7 @@ leading_zero : event_of (codes "undeclare" ++ 9 ∷ codes "sub" ++ 9 ∷ codes "
 unfolding event_of undeclare_of net_of push_of form read chars is_utf8 hex_on_literals lib.Utf8.encode
 leading_zero = refl
 
-a_background : event_of (codes "background" ++ 9 ∷ codes "sub" ++ 9 ∷ codes "2") ≡ Some (Background background_sub 2)
+a_background : event_of (codes "background" ++ 9 ∷ codes "sub" ++ 9 ∷ codes "2") ≡ printed (Some (Background background_sub 2))
 unfolding event_of undeclare_of net_of push_of form read chars is_utf8 hex_on_literals lib.Utf8.encode
 a_background = refl
 
@@ -137,33 +137,33 @@ no_background : event_of (codes "background" ++ 9 ∷ codes "pub" ++ 9 ∷ codes
 unfolding event_of undeclare_of net_of push_of form read chars is_utf8 hex_on_literals lib.Utf8.encode
 no_background = refl
 
-a_push : event_of (codes "net" ++ 9 ∷ codes "push" ++ 9 ∷ codes "s0:k" ++ 9 ∷ codes "put" ++ 9 ∷ codes "x01" ++ 9 ∷ codes "prio=0") ≡ Some (Net (Push (record {
+a_push : event_of (codes "net" ++ 9 ∷ codes "push" ++ 9 ∷ codes "s0:k" ++ 9 ∷ codes "put" ++ 9 ∷ codes "x01" ++ 9 ∷ codes "prio=0") ≡ printed (Some (Net (Push (record {
   wire = record { scope = 0; suffix = codes "k"; mapping = Sender };
   body = record { kind = put_kind; payload = (1 ∷ []) ∷ []; encoding = codes "zenoh/bytes"; timestamp = None; source = None; attachment = None };
   qos = record { priority = 0; congestion = Drop; express = false };
   reliable = true;
-})))
+}))))
 unfolding event_of undeclare_of net_of push_of form read chars is_utf8 hex_on_literals lib.Utf8.encode
 a_push = refl
 
-a_push_of_nothing : event_of (codes "net" ++ 9 ∷ codes "push" ++ 9 ∷ codes "r1:" ++ 9 ∷ codes "del" ++ 9 ∷ codes "rel=0") ≡ Some (Net (Push (record {
+a_push_of_nothing : event_of (codes "net" ++ 9 ∷ codes "push" ++ 9 ∷ codes "r1:" ++ 9 ∷ codes "del" ++ 9 ∷ codes "rel=0") ≡ printed (Some (Net (Push (record {
   wire = record { scope = 1; suffix = []; mapping = Receiver };
   body = record { kind = delete_kind; payload = []; encoding = codes "zenoh/bytes"; timestamp = None; source = None; attachment = None };
   qos = record { priority = 5; congestion = Drop; express = false };
   reliable = false;
-})))
+}))))
 unfolding event_of undeclare_of net_of push_of form read chars is_utf8 hex_on_literals lib.Utf8.encode
 a_push_of_nothing = refl
 
-a_told_number : event_of (codes "net" ++ 9 ∷ codes "keyexpr" ++ 9 ∷ codes "7" ++ 9 ∷ codes "r1:/b") ≡ Some (Net (DeclareKeyExpr 7 (record { scope = 1; suffix = codes "/b"; mapping = Receiver })))
+a_told_number : event_of (codes "net" ++ 9 ∷ codes "keyexpr" ++ 9 ∷ codes "7" ++ 9 ∷ codes "r1:/b") ≡ printed (Some (Net (DeclareKeyExpr 7 (record { scope = 1; suffix = codes "/b"; mapping = Receiver }))))
 unfolding event_of undeclare_of net_of push_of form read chars is_utf8 hex_on_literals lib.Utf8.encode
 a_told_number = refl
 
-a_number_given_up : event_of (codes "net" ++ 9 ∷ codes "unkeyexpr" ++ 9 ∷ codes "7") ≡ Some (Net (UndeclareKeyExpr 7))
+a_number_given_up : event_of (codes "net" ++ 9 ∷ codes "unkeyexpr" ++ 9 ∷ codes "7") ≡ printed (Some (Net (UndeclareKeyExpr 7)))
 unfolding event_of undeclare_of net_of push_of form read chars is_utf8 hex_on_literals lib.Utf8.encode
 a_number_given_up = refl
 
-a_net_close : event_of (codes "net" ++ 9 ∷ codes "close") ≡ Some (Net close_message)
+a_net_close : event_of (codes "net" ++ 9 ∷ codes "close") ≡ printed (Some (Net close_message))
 unfolding event_of undeclare_of net_of push_of form read chars is_utf8 hex_on_literals lib.Utf8.encode
 a_net_close = refl
 
@@ -171,39 +171,39 @@ no_colon : event_of (codes "net" ++ 9 ∷ codes "keyexpr" ++ 9 ∷ codes "7" ++ 
 unfolding event_of undeclare_of net_of push_of form read chars is_utf8 hex_on_literals lib.Utf8.encode
 no_colon = refl
 
-numbered : event_of (codes "sub" ++ 9 ∷ codes "any" ++ 9 ∷ codes "#1") ≡ Some (Sub Any (Number 1 []))
+numbered : event_of (codes "sub" ++ 9 ∷ codes "any" ++ 9 ∷ codes "#1") ≡ printed (Some (Sub Any (Number 1 [])))
 unfolding event_of undeclare_of net_of push_of form read chars is_utf8 hex_on_literals lib.Utf8.encode
 numbered = refl
 
-numbered_suffix : event_of (codes "sub" ++ 9 ∷ codes "any" ++ 9 ∷ codes "#1:x") ≡ Some (Sub Any (Number 1 (codes "x")))
+numbered_suffix : event_of (codes "sub" ++ 9 ∷ codes "any" ++ 9 ∷ codes "#1:x") ≡ printed (Some (Sub Any (Number 1 (codes "x"))))
 unfolding event_of undeclare_of net_of push_of form read chars is_utf8 hex_on_literals lib.Utf8.encode
 numbered_suffix = refl
 
-numbered_colon : event_of (codes "sub" ++ 9 ∷ codes "any" ++ 9 ∷ codes "#1:") ≡ Some (Sub Any (Number 1 []))
+numbered_colon : event_of (codes "sub" ++ 9 ∷ codes "any" ++ 9 ∷ codes "#1:") ≡ printed (Some (Sub Any (Number 1 [])))
 unfolding event_of undeclare_of net_of push_of form read chars is_utf8 hex_on_literals lib.Utf8.encode
 numbered_colon = refl
 
-no_number : event_of (codes "sub" ++ 9 ∷ codes "any" ++ 9 ∷ codes "#x") ≡ Some (Sub Any (Text (codes "#x")))
+no_number : event_of (codes "sub" ++ 9 ∷ codes "any" ++ 9 ∷ codes "#x") ≡ printed (Some (Sub Any (Text (codes "#x"))))
 unfolding event_of undeclare_of net_of push_of form read chars is_utf8 hex_on_literals lib.Utf8.encode
 no_number = refl
 
-number_too_great : event_of (codes "sub" ++ 9 ∷ codes "any" ++ 9 ∷ codes "#65536") ≡ Some (Sub Any (Text (codes "#65536")))
+number_too_great : event_of (codes "sub" ++ 9 ∷ codes "any" ++ 9 ∷ codes "#65536") ≡ printed (Some (Sub Any (Text (codes "#65536"))))
 unfolding event_of undeclare_of net_of push_of form read chars is_utf8 hex_on_literals lib.Utf8.encode
 number_too_great = refl
 
-number_zero : event_of (codes "sub" ++ 9 ∷ codes "any" ++ 9 ∷ codes "#01") ≡ Some (Sub Any (Text (codes "#01")))
+number_zero : event_of (codes "sub" ++ 9 ∷ codes "any" ++ 9 ∷ codes "#01") ≡ printed (Some (Sub Any (Text (codes "#01"))))
 unfolding event_of undeclare_of net_of push_of form read chars is_utf8 hex_on_literals lib.Utf8.encode
 number_zero = refl
 
-a_key : event_of (codes "key" ++ 9 ∷ codes "#65535:/b:c") ≡ Some (Key (Number 65535 (codes "/b:c")))
+a_key : event_of (codes "key" ++ 9 ∷ codes "#65535:/b:c") ≡ printed (Some (Key (Number 65535 (codes "/b:c"))))
 unfolding event_of undeclare_of net_of push_of form read chars is_utf8 hex_on_literals lib.Utf8.encode
 a_key = refl
 
-a_key_given_back : event_of (codes "undeclare" ++ 9 ∷ codes "key" ++ 9 ∷ codes "k") ≡ Some (UndeclareKey (Text (codes "k")))
+a_key_given_back : event_of (codes "undeclare" ++ 9 ∷ codes "key" ++ 9 ∷ codes "k") ≡ printed (Some (UndeclareKey (Text (codes "k"))))
 unfolding event_of undeclare_of net_of push_of form read chars is_utf8 hex_on_literals lib.Utf8.encode
 a_key_given_back = refl
 
-a_close : event_of (codes "close") ≡ Some Close
+a_close : event_of (codes "close") ≡ printed (Some Close)
 unfolding event_of undeclare_of net_of push_of form read chars is_utf8 hex_on_literals lib.Utf8.encode
 a_close = refl
 
@@ -228,17 +228,17 @@ unfolding event_of undeclare_of net_of push_of form read chars is_utf8 hex_on_li
 empty_line = refl
 
 -- gets, moments and responses
-a_get : event_of (codes "get" ++ 9 ∷ codes "any" ++ 9 ∷ codes "k") ≡ Some (Ask Any (Text (codes "k")) [] BestMatching Auto None None (record { priority = 5; congestion = Block; express = false }) None None false None)
+a_get : event_of (codes "get" ++ 9 ∷ codes "any" ++ 9 ∷ codes "k") ≡ printed (Some (Ask Any (Text (codes "k")) [] BestMatching Auto None None (record { priority = 5; congestion = Block; express = false }) None None false None))
 unfolding event_of undeclare_of net_of push_of response_of response_on form read chars is_utf8 hex_on_literals lib.Utf8.encode
 a_get = refl
 
-first_question : event_of (codes "get" ++ 9 ∷ codes "local" ++ 9 ∷ codes "#1:b?x?y" ++ 9 ∷ codes "target=all" ++ 9 ∷ codes "cons=latest" ++ 9 ∷ codes "timeout=18446744073709551615" ++ 9 ∷ codes "payload=x01" ++ 9 ∷ codes "cc=drop" ++ 9 ∷ codes "accept=any") ≡ Some (Ask SessionLocal (Number 1 (codes "b")) (codes "x?y") All Latest (Some 18446744073709551615)
-    (Some (record { payload = (1 ∷ []) ∷ []; encoding = codes "zenoh/bytes" })) (record { priority = 5; congestion = Drop; express = false }) None None true None)
+first_question : event_of (codes "get" ++ 9 ∷ codes "local" ++ 9 ∷ codes "#1:b?x?y" ++ 9 ∷ codes "target=all" ++ 9 ∷ codes "cons=latest" ++ 9 ∷ codes "timeout=18446744073709551615" ++ 9 ∷ codes "payload=x01" ++ 9 ∷ codes "cc=drop" ++ 9 ∷ codes "accept=any") ≡ printed (Some (Ask SessionLocal (Number 1 (codes "b")) (codes "x?y") All Latest (Some 18446744073709551615)
+    (Some (record { payload = (1 ∷ []) ∷ []; encoding = codes "zenoh/bytes" })) (record { priority = 5; congestion = Drop; express = false }) None None true None))
 unfolding event_of undeclare_of net_of push_of response_of response_on form read chars is_utf8 hex_on_literals lib.Utf8.encode
 first_question = refl
 
-empty_value : event_of (codes "get" ++ 9 ∷ codes "remote" ++ 9 ∷ codes "k?" ++ 9 ∷ codes "enc=" ++ 9 ∷ codes "src=7:3:9" ++ 9 ∷ codes "att=x") ≡ Some (Ask Remote (Text (codes "k")) [] BestMatching Auto None (Some (record { payload = []; encoding = codes "zenoh/bytes" }))
-    (record { priority = 5; congestion = Block; express = false }) (Some (record { source_id = record { zid = 7; eid = 3 }; source_sn = 9 })) (Some []) false None)
+empty_value : event_of (codes "get" ++ 9 ∷ codes "remote" ++ 9 ∷ codes "k?" ++ 9 ∷ codes "enc=" ++ 9 ∷ codes "src=7:3:9" ++ 9 ∷ codes "att=x") ≡ printed (Some (Ask Remote (Text (codes "k")) [] BestMatching Auto None (Some (record { payload = []; encoding = codes "zenoh/bytes" }))
+    (record { priority = 5; congestion = Block; express = false }) (Some (record { source_id = record { zid = 7; eid = 3 }; source_sn = 9 })) (Some []) false None))
 unfolding event_of undeclare_of net_of push_of response_of response_on form read chars is_utf8 hex_on_literals lib.Utf8.encode
 empty_value = refl
 
@@ -246,11 +246,11 @@ no_match_named : event_of (codes "get" ++ 9 ∷ codes "any" ++ 9 ∷ codes "k" +
 unfolding event_of undeclare_of net_of push_of response_of response_on form read chars is_utf8 hex_on_literals lib.Utf8.encode
 no_match_named = refl
 
-question_of_a_put : event_of (codes "put" ++ 9 ∷ codes "any" ++ 9 ∷ codes "k?x" ++ 9 ∷ codes "x") ≡ Some (Put Any (Text (codes "k?x")) [] (codes "zenoh/bytes") None (record { priority = 5; congestion = Drop; express = false }) true None None)
+question_of_a_put : event_of (codes "put" ++ 9 ∷ codes "any" ++ 9 ∷ codes "k?x" ++ 9 ∷ codes "x") ≡ printed (Some (Put Any (Text (codes "k?x")) [] (codes "zenoh/bytes") None (record { priority = 5; congestion = Drop; express = false }) true None None))
 unfolding event_of undeclare_of net_of push_of response_of response_on form read chars is_utf8 hex_on_literals lib.Utf8.encode
 question_of_a_put = refl
 
-a_tick : event_of (codes "tick" ++ 9 ∷ codes "18446744073709551615") ≡ Some (Tick 18446744073709551615)
+a_tick : event_of (codes "tick" ++ 9 ∷ codes "18446744073709551615") ≡ printed (Some (Tick 18446744073709551615))
 unfolding event_of undeclare_of net_of push_of response_of response_on form read chars is_utf8 hex_on_literals lib.Utf8.encode
 a_tick = refl
 
@@ -258,33 +258,33 @@ no_moment : event_of (codes "tick" ++ 9 ∷ codes "18446744073709551616") ≡ No
 unfolding event_of undeclare_of net_of push_of response_of response_on form read chars is_utf8 hex_on_literals lib.Utf8.encode
 no_moment = refl
 
-a_response : event_of (codes "net" ++ 9 ∷ codes "response" ++ 9 ∷ codes "1" ++ 9 ∷ codes "s0:k" ++ 9 ∷ codes "put" ++ 9 ∷ codes "x01" ++ 9 ∷ codes "enc=a" ++ 9 ∷ codes "ts=5:a" ++ 9 ∷ codes "prio=0" ++ 9 ∷ codes "by=f:2") ≡ Some (Net (Response (record {
+a_response : event_of (codes "net" ++ 9 ∷ codes "response" ++ 9 ∷ codes "1" ++ 9 ∷ codes "s0:k" ++ 9 ∷ codes "put" ++ 9 ∷ codes "x01" ++ 9 ∷ codes "enc=a" ++ 9 ∷ codes "ts=5:a" ++ 9 ∷ codes "prio=0" ++ 9 ∷ codes "by=f:2") ≡ printed (Some (Net (Response (record {
   rid = 1;
   wire = record { scope = 0; suffix = codes "k"; mapping = Sender };
   answered = Reply (record { kind = put_kind; payload = (1 ∷ []) ∷ []; encoding = codes "a"; timestamp = Some (record { time = 5; id = 10 }); source = None; attachment = None });
   qos = record { priority = 0; congestion = Block; express = false };
   responder = Some (record { zid = 15; eid = 2 });
-})))
+}))))
 unfolding event_of undeclare_of net_of push_of response_of response_on form read chars is_utf8 hex_on_literals lib.Utf8.encode
 a_response = refl
 
-a_response_of_nothing : event_of (codes "net" ++ 9 ∷ codes "response" ++ 9 ∷ codes "1" ++ 9 ∷ codes "s0:k" ++ 9 ∷ codes "del" ++ 9 ∷ codes "express=1") ≡ Some (Net (Response (record {
+a_response_of_nothing : event_of (codes "net" ++ 9 ∷ codes "response" ++ 9 ∷ codes "1" ++ 9 ∷ codes "s0:k" ++ 9 ∷ codes "del" ++ 9 ∷ codes "express=1") ≡ printed (Some (Net (Response (record {
   rid = 1;
   wire = record { scope = 0; suffix = codes "k"; mapping = Sender };
   answered = Reply (record { kind = delete_kind; payload = []; encoding = codes "zenoh/bytes"; timestamp = None; source = None; attachment = None });
   qos = record { priority = 5; congestion = Block; express = true };
   responder = None;
-})))
+}))))
 unfolding event_of undeclare_of net_of push_of response_of response_on form read chars is_utf8 hex_on_literals lib.Utf8.encode
 a_response_of_nothing = refl
 
-a_response_of_an_error : event_of (codes "net" ++ 9 ∷ codes "response" ++ 9 ∷ codes "1" ++ 9 ∷ codes "s0:k" ++ 9 ∷ codes "err" ++ 9 ∷ codes "x01" ++ 9 ∷ codes "cc=drop") ≡ Some (Net (Response (record {
+a_response_of_an_error : event_of (codes "net" ++ 9 ∷ codes "response" ++ 9 ∷ codes "1" ++ 9 ∷ codes "s0:k" ++ 9 ∷ codes "err" ++ 9 ∷ codes "x01" ++ 9 ∷ codes "cc=drop") ≡ printed (Some (Net (Response (record {
   rid = 1;
   wire = record { scope = 0; suffix = codes "k"; mapping = Sender };
   answered = error_reply (record { payload = (1 ∷ []) ∷ []; encoding = codes "zenoh/bytes" });
   qos = record { priority = 5; congestion = Drop; express = false };
   responder = None;
-})))
+}))))
 unfolding event_of undeclare_of net_of push_of response_of response_on form read chars is_utf8 hex_on_literals lib.Utf8.encode
 a_response_of_an_error = refl
 
@@ -292,7 +292,7 @@ no_source_of_an_error : event_of (codes "net" ++ 9 ∷ codes "response" ++ 9 ∷
 unfolding event_of undeclare_of net_of push_of response_of response_on form read chars is_utf8 hex_on_literals lib.Utf8.encode
 no_source_of_an_error = refl
 
-a_final : event_of (codes "net" ++ 9 ∷ codes "responsefinal" ++ 9 ∷ codes "1") ≡ Some (Net (ResponseFinal 1))
+a_final : event_of (codes "net" ++ 9 ∷ codes "responsefinal" ++ 9 ∷ codes "1") ≡ printed (Some (Net (ResponseFinal 1)))
 unfolding event_of undeclare_of net_of push_of response_of response_on form read chars is_utf8 hex_on_literals lib.Utf8.encode
 a_final = refl
 

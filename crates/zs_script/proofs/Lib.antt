@@ -12,6 +12,7 @@ pub mod Joining
 pub mod Examples
 pub mod QueryExamples
 pub mod LivelinessExamples
+pub mod ChannelExamples
 pub mod FirstLine
 pub mod Answering
 pub mod ReadingFields

@@ -1,10 +1,13 @@
 -- The printed fields of plain effects and of answers are plain.
-use Rattle.std.proofs.Common.{◌≡◌, true, Some, None, Result, Ok, Err, refl, ℕ, ap, ◌∙◌, append_assoc, map, flat_map, List, [], ◌∷◌, ◌++◌, decimal}
+use Rattle.std.proofs.Common.{◌≡◌, Bool, true, false, Some, None, Result, Ok, Err, refl, ℕ, ap, ◌∙◌, append_assoc, map, flat_map, List, [], ◌∷◌, ◌++◌, decimal}
 use Rattle.std.proofs.lemmas.Bool.{and_parts, and_from}
 use Rattle.std.specs.List.{list_all}
+use Rattle.zs_events.specs.declared.received.Received.{Received}
+use Rattle.zs_events.specs.declared.received.Received.TheVariants.{Item, Empty, Disconnected, Deleted}
 use Rattle.zs_events.specs.declared.turn.Answer.TheVariants.{Ok as accepted, Refused}
 use Rattle.zs_events.specs.declared.turn.Effect.{Effect}
-use Rattle.zs_events.specs.declared.turn.Effect.TheVariants.{Send, Hand, End}
+use Rattle.zs_events.specs.declared.turn.Effect.TheVariants.{Send, Hand, End, Matching}
+use Rattle.zs_events.specs.declared.turn.HandOver.{HandOver}
 use Rattle.zs_events.specs.declared.turn.HandOver.TheVariants.{Sample, Reply, Query}
 use Rattle.zs_events.specs.declared.turn.Kind.{Kind}
 use Rattle.zs_events.specs.declared.turn.Kind.TheVariants.{Subscriber, LivelinessSubscriber, Publisher, Queryable, Querier, Token, Listener, Get, LivelinessGet}
@@ -13,10 +16,10 @@ use Rattle.zs_events.specs.declared.turn.Refusal.TheVariants.{SessionClosedError
 use Rattle.zs_sample.specs.ErrorFields.{ErrorFields}
 use Rattle.zs_sample.specs.declared.sample_fields.SampleFields.{SampleFields}
 use Rattle.zs_script.specs.Lines.{lines}
-use Rattle.zs_script.specs.Words.{refusal_name, kind_word}
-use Rattle.zs_script.specs.Printing.{line, hand_pieces, outcome_pieces, replied_pieces, queried_pieces, effect_pieces, effect_fields, answer_fields}
-use Rattle.zs_script.specs.Plain.{is_plain, is_plain_text, is_plain_outcome, is_plain_effect}
-use Rattle.zs_script.specs.Laws.{row, AnswersArePlain, EffectsArePlain, TurnsAreFound}
+use Rattle.zs_script.specs.Words.{refusal_name, kind_word, truth_word}
+use Rattle.zs_script.specs.Printing.{line, hand_pieces, outcome_pieces, replied_pieces, queried_pieces, effect_pieces, effect_fields, item_pieces, received_pieces, answer_fields}
+use Rattle.zs_script.specs.Plain.{is_plain, is_plain_text, is_plain_outcome, is_plain_effect, is_plain_received}
+use Rattle.zs_script.specs.Laws.{row, AnswersArePlain, EffectsArePlain, ReceivedArePlain, TurnsAreFound}
 use Rattle.zs_script.proofs.PlainTexts.{decimal-plain, lines-found}
 use Rattle.zs_script.proofs.PlainPieces.{ArePlain, pieces-plain, both-plain, sample-plain, asked-plain, message-plain}
 
@@ -42,6 +45,10 @@ kind-plain Listener = refl
 kind-plain Get = refl
 kind-plain LivelinessGet = refl
 
+truth-plain : (truth : Bool) → is_plain (truth_word truth) ≡ true
+truth-plain true = refl
+truth-plain false = refl
+
 pub answers-plain : AnswersArePlain
 answers-plain (accepted None) = refl
 answers-plain (accepted (Some number)) = and_from _ _ (decimal-plain number) refl
@@ -62,6 +69,23 @@ effect-plain (Hand (Reply kind id reply)) h =
     (refl, (kind-plain kind, (tt, both-plain (outcome_pieces reply.result) _ (outcome-plain reply.result h) (tt, tt))))
 effect-plain (Hand (Query id count query)) h = (refl, (refl, (tt, (tt, asked-plain query h))))
 effect-plain (End kind id) h = (refl, (kind-plain kind, (tt, tt)))
+effect-plain (Matching id matching) h = (refl, (tt, (truth-plain matching, tt)))
+
+-- what a read of a channel is answered
+item-plain : (item : HandOver) → is_plain_effect (Hand item) ≡ true → ArePlain (item_pieces item)
+item-plain (Sample kind id sample) h =
+    let both = and_parts (is_plain sample.key_expr.text) (is_plain_text sample.encoding) h in sample-plain sample both.0 both.1
+item-plain (Reply kind id reply) h = both-plain (outcome_pieces reply.result) _ (outcome-plain reply.result h) (tt, tt)
+item-plain (Query id count query) h = asked-plain query h
+
+answered-plain : (received : Received HandOver) → is_plain_received received ≡ true → ArePlain (received_pieces received)
+answered-plain (Item item) h = (refl, item-plain item h)
+answered-plain Empty h = (refl, tt)
+answered-plain Disconnected h = (refl, tt)
+answered-plain Deleted h = (refl, tt)
+
+pub received-plain : ReceivedArePlain
+received-plain received h = pieces-plain (received_pieces received) (answered-plain received h)
 
 pub effects-plain : EffectsArePlain
 effects-plain effect h = pieces-plain (effect_pieces effect) (effect-plain effect h)

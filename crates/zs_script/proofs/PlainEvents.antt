@@ -1,4 +1,4 @@
--- The events of lines without line feeds are plain.
+-- What lines without line feeds say is plain.
 use Rattle.std.proofs.Common.{ℕ, ◌≡◌, true, false, List, [], ◌∷◌, length, Option, Some, None, IfSome, refl, subst, arith, cond, codes}
 use Rattle.std.specs.Str.{is_utf8, bytes_eq}
 use Rattle.std.proofs.lemmas.Bool.{and_parts, and_from}
@@ -8,31 +8,35 @@ use Rattle.zs_wire.specs.declared.wire_expr.WireExpr.{WireExpr}
 use Rattle.zs_events.specs.declared.event.EntityKind.{EntityKind}
 use Rattle.zs_events.specs.declared.event.Event.{Event}
 use Rattle.zs_events.specs.declared.event.Event.TheVariants.{Undeclare, Net}
+use Rattle.zs_events.specs.declared.script_event.ScriptEvent.{ScriptEvent}
 use Rattle.zs_script.specs.Lines.{fields}
 use Rattle.zs_script.specs.Symbols.{u32_max, entity_kind_of}
 use Rattle.zs_script.specs.Parts.{number, form}
-use Rattle.zs_script.specs.Grammar.{by_word, declare_of, sub_of, pub_of, queryable_of, querier_of, token_of, lsub_of, undeclare_entity_of, undeclared_by, undeclare_of, background_of, put_of, delete_of, publisher_put_of, publisher_delete_of, cancel_token_of, cancel_of, get_of, querier_get_of, liveliness_get_of, reply_of, reply_delete_of, reply_error_of, share_of, finish_of, tick_of, close_of, key_expr_of, unkey_expr_of, net_token_of, net_untoken_of, declare_final_of, push_put_of, push_delete_of, push_by, push_of, request_of, response_put_of, response_delete_of, response_error_of, response_by, response_on, response_of, response_final_of, net_close_of, net_by, net_of, event_by, event_of_fields, event_of}
+use Rattle.zs_script.specs.Grammar.{by_word, declare_of, sub_of, pub_of, queryable_of, querier_of, token_of, lsub_of, listen_of, status_of, undeclare_entity_of, undeclared_by, undeclare_of, background_of, put_of, delete_of, publisher_put_of, publisher_delete_of, cancel_token_of, cancel_of, get_of, querier_get_of, liveliness_get_of, recv_of, reply_of, reply_delete_of, reply_error_of, share_of, finish_of, tick_of, close_of, key_expr_of, unkey_expr_of, net_sub_of, net_unsub_of, net_queryable_of, net_unqueryable_of, net_token_of, net_untoken_of, declare_final_of, push_put_of, push_delete_of, push_by, push_of, request_of, response_put_of, response_delete_of, response_error_of, response_by, response_on, response_of, response_final_of, net_close_of, net_by, net_of, plain_by, printed, event_by, event_of_fields, event_of}
 use Rattle.zs_script.specs.Plain.{has_no_line_feed}
 use Rattle.zs_script.specs.Laws.{EventsArePlain}
 use Rattle.zs_script.proofs.PlainTexts.{fields-plain}
 use Rattle.zs_script.proofs.PlainSymbols.{PlainWire, on-then, on-any, on-choice, fields-utf8, both-texts}
-use Rattle.zs_script.proofs.PlainParts.{AreTexts, PlainWireIf, PlainEvent, default-plain, wire-read, number-read, form-plain}
+use Rattle.zs_script.proofs.PlainParts.{AreTexts, PlainWireIf, PlainEvent, PlainLine, default-plain, wire-read, number-read, form-plain, line-plain}
 
 abbrev IsPlainIf : Option Event → Type 0
 IsPlainIf found = IfSome found PlainEvent
 
-by-word : (choose : List ℕ → List (List ℕ) → Option Event)
-    → ((word : List ℕ) (rest : List (List ℕ)) → AreTexts rest → IsPlainIf (choose word rest))
-    → (parts : List (List ℕ)) → AreTexts parts → IsPlainIf (by_word choose parts)
-by-word choose each [] h = tt
-by-word choose each (word ∷ rest) h = each word rest h.1
+abbrev IsLineIf : Option ScriptEvent → Type 0
+IsLineIf found = IfSome found PlainLine
+
+by-word : {A : Type 0} (P : A → Type 0) (choose : List ℕ → List (List ℕ) → Option A)
+    → ((word : List ℕ) (rest : List (List ℕ)) → AreTexts rest → IfSome (choose word rest) P)
+    → (parts : List (List ℕ)) → AreTexts parts → IfSome (by_word choose parts) P
+by-word P choose each [] h = tt
+by-word P choose each (word ∷ rest) h = each word rest h.1
 
 -- the forms of lines
 declare-plain : (rest : List (List ℕ)) → AreTexts rest → IsPlainIf (declare_of rest)
 declare-plain = form-plain _ _ (λ _ k. and_from _ _ k refl)
 
-sub-plain : (rest : List (List ℕ)) → AreTexts rest → IsPlainIf (sub_of rest)
-sub-plain = form-plain _ _ (λ _ _ _ k. and_from _ _ k refl)
+sub-plain : (rest : List (List ℕ)) → AreTexts rest → IsLineIf (sub_of rest)
+sub-plain = line-plain _ _ (λ _ _ _ k _ _. and_from _ _ k refl)
 
 pub-plain : (rest : List (List ℕ)) → AreTexts rest → IsPlainIf (pub_of rest)
 pub-plain = form-plain _ _ (λ _ _ _ k _ e _ _ _ _. and_from _ _ k (and_from _ _ e refl))
@@ -48,6 +52,12 @@ token-plain = form-plain _ _ (λ _ k. and_from _ _ k refl)
 
 lsub-plain : (rest : List (List ℕ)) → AreTexts rest → IsPlainIf (lsub_of rest)
 lsub-plain = form-plain _ _ (λ _ _ _ k. and_from _ _ k refl)
+
+listen-plain : (rest : List (List ℕ)) → AreTexts rest → IsPlainIf (listen_of rest)
+listen-plain = form-plain _ _ (λ _ _ _ _. refl)
+
+status-plain : (rest : List (List ℕ)) → AreTexts rest → IsPlainIf (status_of rest)
+status-plain = form-plain _ _ (λ _ _ _ _. refl)
 
 undeclare-entity-plain : (word : List ℕ) (rest : List (List ℕ)) → AreTexts rest → IsPlainIf (undeclare_entity_of word rest)
 undeclare-entity-plain word rest h =
@@ -80,14 +90,17 @@ cancel-token-plain = form-plain _ _ refl
 cancel-plain : (rest : List (List ℕ)) → AreTexts rest → IsPlainIf (cancel_of rest)
 cancel-plain = form-plain _ _ (λ _ _. refl)
 
-get-plain : (rest : List (List ℕ)) → AreTexts rest → IsPlainIf (get_of rest)
-get-plain = form-plain _ _ (λ _ _ _ s _ _ _ _ _ _ _ v _ _ _ _ _ _ _ _ _ _. and_from _ _ s.0 (and_from _ _ s.1 v))
+get-plain : (rest : List (List ℕ)) → AreTexts rest → IsLineIf (get_of rest)
+get-plain = line-plain _ _ (λ _ _ _ s _ _ _ _ _ _ _ v _ _ _ _ _ _ _ _ _ _ _ _. and_from _ _ s.0 (and_from _ _ s.1 v))
 
-querier-get-plain : (rest : List (List ℕ)) → AreTexts rest → IsPlainIf (querier_get_of rest)
-querier-get-plain = form-plain _ _ (λ _ _ _ t _ v _ _ _ _ _ _. and_from _ _ t v)
+querier-get-plain : (rest : List (List ℕ)) → AreTexts rest → IsLineIf (querier_get_of rest)
+querier-get-plain = line-plain _ _ (λ _ _ _ t _ v _ _ _ _ _ _ _ _. and_from _ _ t v)
 
-liveliness-get-plain : (rest : List (List ℕ)) → AreTexts rest → IsPlainIf (liveliness_get_of rest)
-liveliness-get-plain = form-plain _ _ (λ _ k _ _ _ _. and_from _ _ k refl)
+liveliness-get-plain : (rest : List (List ℕ)) → AreTexts rest → IsLineIf (liveliness_get_of rest)
+liveliness-get-plain = line-plain _ _ (λ _ k _ _ _ _ _ _. and_from _ _ k refl)
+
+recv-plain : (rest : List (List ℕ)) → AreTexts rest → IsLineIf (recv_of rest)
+recv-plain = line-plain _ _ (λ _ _ _ _. refl)
 
 reply-plain : (rest : List (List ℕ)) → AreTexts rest → IsPlainIf (reply_of rest)
 reply-plain = form-plain _ _ (λ _ _ _ k _ _ _ e _ _ _ _ _ _ _ _ _ _ _ _. and_from _ _ k (and_from _ _ e refl))
@@ -112,7 +125,7 @@ close-plain = form-plain _ _ refl
 
 undeclare-event : (rest : List (List ℕ)) → AreTexts rest → IsPlainIf (undeclare_of rest)
 unfolding undeclare_of
-undeclare-event rest h = by-word undeclared_by undeclare-plain rest h
+undeclare-event rest h = by-word PlainEvent undeclared_by undeclare-plain rest h
 
 -- messages
 key-expr-plain : (rest : List (List ℕ)) → AreTexts rest → IsPlainIf (key_expr_of rest)
@@ -120,6 +133,18 @@ key-expr-plain = form-plain _ _ (λ _ _ _ w. and_from _ _ w refl)
 
 unkey-expr-plain : (rest : List (List ℕ)) → AreTexts rest → IsPlainIf (unkey_expr_of rest)
 unkey-expr-plain = form-plain _ _ (λ _ _. refl)
+
+net-sub-plain : (rest : List (List ℕ)) → AreTexts rest → IsPlainIf (net_sub_of rest)
+net-sub-plain = form-plain _ _ (λ _ _ _ w. and_from _ _ w refl)
+
+net-unsub-plain : (rest : List (List ℕ)) → AreTexts rest → IsPlainIf (net_unsub_of rest)
+net-unsub-plain = form-plain _ _ (λ _ _. refl)
+
+net-queryable-plain : (rest : List (List ℕ)) → AreTexts rest → IsPlainIf (net_queryable_of rest)
+net-queryable-plain = form-plain _ _ (λ _ _ _ _ _ w. and_from _ _ w refl)
+
+net-unqueryable-plain : (rest : List (List ℕ)) → AreTexts rest → IsPlainIf (net_unqueryable_of rest)
+net-unqueryable-plain = form-plain _ _ (λ _ _. refl)
 
 net-token-plain : (rest : List (List ℕ)) → AreTexts rest → IsPlainIf (net_token_of rest)
 net-token-plain = form-plain _ _ (λ _ _ _ w _ _. and_from _ _ w refl)
@@ -150,7 +175,7 @@ unfolding push_of
 push-plain rest h =
     on-then {A = WireExpr × List (List ℕ)} {B = Event} (λ found. by_word (push_by found.0) found.1)
     (λ found. PlainWire found.0 × AreTexts found.1) PlainEvent
-    (λ found k. by-word (push_by found.0) (push-by-plain found.0 k.0) found.1 k.1) _ (wire-read rest h)
+    (λ found k. by-word PlainEvent (push_by found.0) (push-by-plain found.0 k.0) found.1 k.1) _ (wire-read rest h)
 
 request-plain : (rest : List (List ℕ)) → AreTexts rest → IsPlainIf (request_of rest)
 request-plain = form-plain _ _ (λ _ _ _ w _ t _ _ _ _ _ _ _ v _ _ _ _ _ _. and_from _ _ w (and_from _ _ t v))
@@ -175,7 +200,7 @@ unfolding response_on
 response-on-plain n rest h =
     on-then {A = WireExpr × List (List ℕ)} {B = Event} (λ found. by_word (response_by n found.0) found.1)
     (λ found. PlainWire found.0 × AreTexts found.1) PlainEvent
-    (λ found k. by-word (response_by n found.0) (response-by-plain n found.0 k.0) found.1 k.1) _ (wire-read rest h)
+    (λ found k. by-word PlainEvent (response_by n found.0) (response-by-plain n found.0 k.0) found.1 k.1) _ (wire-read rest h)
 
 response-plain : (rest : List (List ℕ)) → AreTexts rest → IsPlainIf (response_of rest)
 unfolding response_of
@@ -193,6 +218,10 @@ net-plain : (word : List ℕ) (rest : List (List ℕ)) → AreTexts rest → IsP
 net-plain word rest h =
     on-choice (bytes_eq word (codes "keyexpr")) PlainEvent (key_expr_of rest) _ (key-expr-plain rest h)
     (on-choice (bytes_eq word (codes "unkeyexpr")) PlainEvent (unkey_expr_of rest) _ (unkey-expr-plain rest h)
+    (on-choice (bytes_eq word (codes "sub")) PlainEvent (net_sub_of rest) _ (net-sub-plain rest h)
+    (on-choice (bytes_eq word (codes "unsub")) PlainEvent (net_unsub_of rest) _ (net-unsub-plain rest h)
+    (on-choice (bytes_eq word (codes "queryable")) PlainEvent (net_queryable_of rest) _ (net-queryable-plain rest h)
+    (on-choice (bytes_eq word (codes "unqueryable")) PlainEvent (net_unqueryable_of rest) _ (net-unqueryable-plain rest h)
     (on-choice (bytes_eq word (codes "token")) PlainEvent (net_token_of rest) _ (net-token-plain rest h)
     (on-choice (bytes_eq word (codes "untoken")) PlainEvent (net_untoken_of rest) _ (net-untoken-plain rest h)
     (on-choice (bytes_eq word (codes "declarefinal")) PlainEvent (declare_final_of rest) _ (declare-final-plain rest h)
@@ -200,21 +229,22 @@ net-plain word rest h =
     (on-choice (bytes_eq word (codes "request")) PlainEvent (request_of rest) _ (request-plain rest h)
     (on-choice (bytes_eq word (codes "response")) PlainEvent (response_of rest) _ (response-plain rest h)
     (on-choice (bytes_eq word (codes "responsefinal")) PlainEvent (response_final_of rest) _ (response-final-plain rest h)
-    (on-choice (bytes_eq word (codes "close")) PlainEvent (net_close_of rest) None (net-close-plain rest h) tt)))))))))
+    (on-choice (bytes_eq word (codes "close")) PlainEvent (net_close_of rest) None (net-close-plain rest h) tt)))))))))))))
 
 net-event : (rest : List (List ℕ)) → AreTexts rest → IsPlainIf (net_of rest)
 unfolding net_of
-net-event rest h = by-word net_by net-plain rest h
+net-event rest h = by-word PlainEvent net_by net-plain rest h
 
-event-plain : (word : List ℕ) (rest : List (List ℕ)) → AreTexts rest → IsPlainIf (event_by word rest)
-event-plain word rest h =
+plain-by-plain : (word : List ℕ) (rest : List (List ℕ)) → AreTexts rest → IsPlainIf (plain_by word rest)
+plain-by-plain word rest h =
     on-choice (bytes_eq word (codes "key")) PlainEvent (declare_of rest) _ (declare-plain rest h)
-    (on-choice (bytes_eq word (codes "sub")) PlainEvent (sub_of rest) _ (sub-plain rest h)
     (on-choice (bytes_eq word (codes "pub")) PlainEvent (pub_of rest) _ (pub-plain rest h)
     (on-choice (bytes_eq word (codes "queryable")) PlainEvent (queryable_of rest) _ (queryable-plain rest h)
     (on-choice (bytes_eq word (codes "querier")) PlainEvent (querier_of rest) _ (querier-plain rest h)
     (on-choice (bytes_eq word (codes "token")) PlainEvent (token_of rest) _ (token-plain rest h)
     (on-choice (bytes_eq word (codes "lsub")) PlainEvent (lsub_of rest) _ (lsub-plain rest h)
+    (on-choice (bytes_eq word (codes "listen")) PlainEvent (listen_of rest) _ (listen-plain rest h)
+    (on-choice (bytes_eq word (codes "status")) PlainEvent (status_of rest) _ (status-plain rest h)
     (on-choice (bytes_eq word (codes "undeclare")) PlainEvent (undeclare_of rest) _ (undeclare-event rest h)
     (on-choice (bytes_eq word (codes "background")) PlainEvent (background_of rest) _ (background-plain rest h)
     (on-choice (bytes_eq word (codes "put")) PlainEvent (put_of rest) _ (put-plain rest h)
@@ -223,9 +253,6 @@ event-plain word rest h =
     (on-choice (bytes_eq word (codes "pdel")) PlainEvent (publisher_delete_of rest) _ (publisher-delete-plain rest h)
     (on-choice (bytes_eq word (codes "ctoken")) PlainEvent (cancel_token_of rest) _ (cancel-token-plain rest h)
     (on-choice (bytes_eq word (codes "cancel")) PlainEvent (cancel_of rest) _ (cancel-plain rest h)
-    (on-choice (bytes_eq word (codes "get")) PlainEvent (get_of rest) _ (get-plain rest h)
-    (on-choice (bytes_eq word (codes "qget")) PlainEvent (querier_get_of rest) _ (querier-get-plain rest h)
-    (on-choice (bytes_eq word (codes "lget")) PlainEvent (liveliness_get_of rest) _ (liveliness-get-plain rest h)
     (on-choice (bytes_eq word (codes "reply")) PlainEvent (reply_of rest) _ (reply-plain rest h)
     (on-choice (bytes_eq word (codes "replydel")) PlainEvent (reply_delete_of rest) _ (reply-delete-plain rest h)
     (on-choice (bytes_eq word (codes "replyerr")) PlainEvent (reply_error_of rest) _ (reply-error-plain rest h)
@@ -233,15 +260,28 @@ event-plain word rest h =
     (on-choice (bytes_eq word (codes "finish")) PlainEvent (finish_of rest) _ (finish-plain rest h)
     (on-choice (bytes_eq word (codes "tick")) PlainEvent (tick_of rest) _ (tick-plain rest h)
     (on-choice (bytes_eq word (codes "close")) PlainEvent (close_of rest) _ (close-plain rest h)
-    (on-choice (bytes_eq word (codes "net")) PlainEvent (net_of rest) None (net-event rest h) tt)))))))))))))))))))))))))
+    (on-choice (bytes_eq word (codes "net")) PlainEvent (net_of rest) None (net-event rest h) tt)))))))))))))))))))))))
 
-fields-event : (parts : List (List ℕ)) → AreTexts parts → IsPlainIf (event_of_fields parts)
-fields-event parts h = by-word event_by event-plain parts h
+printed-plain : (event : Option Event) → IsPlainIf event → IsLineIf (printed event)
+printed-plain None h = tt
+printed-plain (Some event) h = h
 
-line-event : (bytes : List ℕ) → has_no_line_feed bytes ≡ true → IfSome (event_of bytes) PlainEvent
+event-plain : (word : List ℕ) (rest : List (List ℕ)) → AreTexts rest → IsLineIf (event_by word rest)
+event-plain word rest h =
+    on-choice (bytes_eq word (codes "sub")) PlainLine (sub_of rest) _ (sub-plain rest h)
+    (on-choice (bytes_eq word (codes "get")) PlainLine (get_of rest) _ (get-plain rest h)
+    (on-choice (bytes_eq word (codes "qget")) PlainLine (querier_get_of rest) _ (querier-get-plain rest h)
+    (on-choice (bytes_eq word (codes "lget")) PlainLine (liveliness_get_of rest) _ (liveliness-get-plain rest h)
+    (on-choice (bytes_eq word (codes "recv")) PlainLine (recv_of rest) _ (recv-plain rest h)
+    (printed-plain (plain_by word rest) (plain-by-plain word rest h))))))
+
+fields-event : (parts : List (List ℕ)) → AreTexts parts → IsLineIf (event_of_fields parts)
+fields-event parts h = by-word PlainLine event_by event-plain parts h
+
+line-event : (bytes : List ℕ) → has_no_line_feed bytes ≡ true → IfSome (event_of bytes) PlainLine
 unfolding event_of
 line-event bytes h =
-    elim (is_utf8 bytes) as (λ t. is_utf8 bytes ≡ t → IfSome (cond t (event_of_fields (fields bytes)) None) PlainEvent) [
+    elim (is_utf8 bytes) as (λ t. is_utf8 bytes ≡ t → IfSome (cond t (event_of_fields (fields bytes)) None) PlainLine) [
       | true ↦ λ e. fields-event (fields bytes) (both-texts (fields bytes) (fields-plain bytes h)
           (fields-utf8 (length bytes) bytes (omega arith) (IsUtf8-from_is_utf8 bytes e)))
       | false ↦ λ e. tt
@@ -249,5 +289,5 @@ line-event bytes h =
 
 pub events-plain : EventsArePlain
 events-plain bytes event h e =
-    let P : Option Event → Type 0 = λ o. IfSome o PlainEvent in
+    let P : Option ScriptEvent → Type 0 = λ o. IfSome o PlainLine in
     subst P e (line-event bytes h)

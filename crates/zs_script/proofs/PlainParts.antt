@@ -7,11 +7,13 @@ use Rattle.zs_sample.specs.Encoding.{encoding_of}
 use Rattle.zs_wire.specs.declared.quality.CongestionControl.{CongestionControl}
 use Rattle.zs_wire.specs.declared.wire_expr.WireExpr.{WireExpr}
 use Rattle.zs_events.specs.declared.event.Event.{Event}
+use Rattle.zs_events.specs.declared.script_event.ScriptEvent.{ScriptEvent}
 use Rattle.zs_events.specs.Kinds.{default_encoding, text_if, value_texts}
-use Rattle.zs_script.specs.Symbols.{number_of, u32_max, u64_max, locality_of, background_kind_of, complete_of, history_of, key_of, payload_of, wire_of, names_nothing, naming}
+use Rattle.zs_script.specs.Symbols.{number_of, u32_max, u64_max, locality_of, background_kind_of, parent_of, complete_of, history_of, key_of, payload_of, wire_of, names_nothing, naming}
 use Rattle.zs_script.specs.Options.{timestamp_of, entity_of, source_of, encoding_text_of, priority_of, congestion_of, flag_of, target_of, consolidation_of, any_key_of, value_of}
-use Rattle.zs_script.specs.Parts.{Part, number, locality, background_kind, complete, history, key, selector, wire, wire_if, payload, parameters, target, consolidation, timeout, value, encoding, own_encoding, timestamp, qos, own_priority, own_congestion, own_express, reliable, source, attachment, responder, any_key, token, interest, Value, first_of, behind, first_in, named_in, taken, option_in, maybe_in, named_wire_in, qos_in, value_in, selector_of, read, Maker, form}
-use Rattle.zs_script.specs.Plain.{is_field_text, is_plain_event, suffix_if}
+use Rattle.zs_script.specs.Channels.{channel_of, channel_kind_of}
+use Rattle.zs_script.specs.Parts.{Part, number, locality, background_kind, parent, complete, history, key, selector, wire, wire_if, payload, parameters, target, consolidation, timeout, value, encoding, own_encoding, timestamp, qos, own_priority, own_congestion, own_express, reliable, source, attachment, responder, any_key, token, interest, channel, handed_to, channel_kind, Value, first_of, behind, first_in, named_in, taken, option_in, maybe_in, named_wire_in, qos_in, value_in, selector_of, read, Maker, form}
+use Rattle.zs_script.specs.Plain.{is_field_text, is_plain_event, is_plain_script_event, suffix_if}
 use Rattle.zs_script.proofs.PlainSymbols.{IsText, PlainKey, PlainChars, PlainWire, on-map, on-then, on-any, prefix-text, chars-plain, key-plain, wire-plain, before-sign, behind-sign}
 
 abbrev pub AreTexts : List (List ℕ) → Type 0
@@ -22,6 +24,9 @@ AllPlain texts = list_all is_field_text texts ≡ true
 
 abbrev pub PlainEvent : Event → Type 0
 PlainEvent event = is_plain_event event ≡ true
+
+abbrev pub PlainLine : ScriptEvent → Type 0
+PlainLine event = is_plain_script_event event ≡ true
 
 pub default-plain : PlainChars default_encoding
 unfolding lib.Utf8.encode
@@ -148,6 +153,7 @@ unfolding read
 read-plain (number most) fields h = first-any (number_of most) fields h
 read-plain locality fields h = first-any locality_of fields h
 read-plain background_kind fields h = first-any background_kind_of fields h
+read-plain parent fields h = first-any parent_of fields h
 read-plain complete fields h = first-any complete_of fields h
 read-plain history fields h = first-any history_of fields h
 read-plain key fields h = first-plain (λ field. Some (key_of field)) PlainKey key-plain fields h
@@ -176,6 +182,9 @@ read-plain responder fields h = maybe-any (codes "by=") entity_of fields h
 read-plain any_key fields h = option-any (codes "accept=") any_key_of _ fields h
 read-plain token fields h = maybe-any (codes "token=") (number_of u32_max) fields h
 read-plain interest fields h = maybe-any (codes "interest=") (number_of u32_max) fields h
+read-plain channel fields h = taken-plain _ (λ _. Unit {0}) tt fields h (option_and_then channel_of (first_of fields)) (on-any _)
+read-plain handed_to fields h = option-any (codes "to=") channel_of _ fields h
+read-plain channel_kind fields h = first-any channel_kind_of fields h
 
 pub wire-read : (fields : List (List ℕ)) → AreTexts fields
     → IfSome (read wire fields) (λ found. PlainWire found.0 × AreTexts found.1)
@@ -189,17 +198,25 @@ number-read most (field ∷ rest) h =
     on-map {A = ℕ} {B = ℕ × List (List ℕ)} (λ found. (found, rest)) (λ _. Unit {0}) (λ found. AreTexts found.1) (λ _ _. h.1)
     (number_of most field) (on-any (number_of most field))
 
--- a maker that makes plain events of plain values
-abbrev pub MakesPlain : (parts : List Part) → Maker parts Event → Type 0
-MakesPlain [] made = PlainEvent made
-MakesPlain (part ∷ parts) make = (v : Value part) → IsPlainValue part v → MakesPlain parts (make v)
+-- a maker that makes what is plain of plain values
+abbrev pub MakesPlain : {A : Type 0} (P : A → Type 0) (parts : List Part) → Maker parts A → Type 0
+MakesPlain P [] made = P made
+MakesPlain P (part ∷ parts) make = (v : Value part) → IsPlainValue part v → MakesPlain P parts (make v)
 
-pub form-plain : (parts : List Part) (make : Maker parts Event) → MakesPlain parts make → (fields : List (List ℕ)) → AreTexts fields
-    → IfSome (form parts make fields) PlainEvent
+made-plain : {A : Type 0} (P : A → Type 0) (parts : List Part) (make : Maker parts A) → MakesPlain P parts make
+    → (fields : List (List ℕ)) → AreTexts fields → IfSome (form parts make fields) P
 unfolding form
-form-plain [] made plain [] h = plain
-form-plain [] made plain (field ∷ rest) h = tt
-form-plain (part ∷ parts) make plain fields h =
-    on-then {A = Value part × List (List ℕ)} {B = Event} (λ found. form parts (make found.0) found.1)
-    (λ found. IsPlainValue part found.0 × AreTexts found.1) PlainEvent
-    (λ found k. form-plain parts (make found.0) (plain found.0 k.0) found.1 k.1) (read part fields) (read-plain part fields h)
+made-plain P [] made plain [] h = plain
+made-plain P [] made plain (field ∷ rest) h = tt
+made-plain {A = A} P (part ∷ parts) make plain fields h =
+    on-then {A = Value part × List (List ℕ)} {B = A} (λ found. form parts (make found.0) found.1)
+    (λ found. IsPlainValue part found.0 × AreTexts found.1) P
+    (λ found k. made-plain P parts (make found.0) (plain found.0 k.0) found.1 k.1) (read part fields) (read-plain part fields h)
+
+pub form-plain : (parts : List Part) (make : Maker parts Event) → MakesPlain PlainEvent parts make → (fields : List (List ℕ)) → AreTexts fields
+    → IfSome (form parts make fields) PlainEvent
+form-plain parts make plain fields h = made-plain PlainEvent parts make plain fields h
+
+pub line-plain : (parts : List Part) (make : Maker parts ScriptEvent) → MakesPlain PlainLine parts make → (fields : List (List ℕ)) → AreTexts fields
+    → IfSome (form parts make fields) PlainLine
+line-plain parts make plain fields h = made-plain PlainLine parts make plain fields h

@@ -18,17 +18,17 @@ use Rattle.zs_events.specs.declared.turn.Answer.TheVariants.{Ok as accepted}
 use Rattle.zs_events.specs.declared.turn.Effect.TheVariants.{Hand}
 use Rattle.zs_events.specs.declared.turn.HandOver.TheVariants.{Query as handed_query}
 use Rattle.zs_script.specs.Parts.{read, form}
-use Rattle.zs_script.specs.Grammar.{undeclare_of, push_of, net_of, event_of}
+use Rattle.zs_script.specs.Grammar.{undeclare_of, push_of, net_of, printed, event_of}
 use Rattle.zs_script.specs.Pieces.{written}
 use Rattle.zs_script.specs.Printing.{queried_pieces, turn_text}
 use Rattle.zs_script.specs.Words.{hex_digits}
 
 -- queryables, query values and requests
-a_queryable : event_of (codes "queryable" ++ 9 ∷ codes "any" ++ 9 ∷ codes "complete" ++ 9 ∷ codes "#1:/b") ≡ Some (Queryable Any true (Number 1 (codes "/b")))
+a_queryable : event_of (codes "queryable" ++ 9 ∷ codes "any" ++ 9 ∷ codes "complete" ++ 9 ∷ codes "#1:/b") ≡ printed (Some (Queryable Any true (Number 1 (codes "/b"))))
 unfolding event_of undeclare_of net_of push_of form read chars is_utf8 hex_on_literals lib.Utf8.encode
 a_queryable = refl
 
-a_partial_queryable : event_of (codes "queryable" ++ 9 ∷ codes "local" ++ 9 ∷ codes "partial" ++ 9 ∷ codes "k") ≡ Some (Queryable SessionLocal false (Text (codes "k")))
+a_partial_queryable : event_of (codes "queryable" ++ 9 ∷ codes "local" ++ 9 ∷ codes "partial" ++ 9 ∷ codes "k") ≡ printed (Some (Queryable SessionLocal false (Text (codes "k"))))
 unfolding event_of undeclare_of net_of push_of form read chars is_utf8 hex_on_literals lib.Utf8.encode
 a_partial_queryable = refl
 
@@ -36,19 +36,19 @@ no_completeness : event_of (codes "queryable" ++ 9 ∷ codes "any" ++ 9 ∷ code
 unfolding event_of undeclare_of net_of push_of form read chars is_utf8 hex_on_literals lib.Utf8.encode
 no_completeness = refl
 
-a_queryable_undeclared : event_of (codes "undeclare" ++ 9 ∷ codes "queryable" ++ 9 ∷ codes "2") ≡ Some (Undeclare queryable_kind 2)
+a_queryable_undeclared : event_of (codes "undeclare" ++ 9 ∷ codes "queryable" ++ 9 ∷ codes "2") ≡ printed (Some (Undeclare queryable_kind 2))
 unfolding event_of undeclare_of net_of push_of form read chars is_utf8 hex_on_literals lib.Utf8.encode
 a_queryable_undeclared = refl
 
-a_queryable_in_the_background : event_of (codes "background" ++ 9 ∷ codes "queryable" ++ 9 ∷ codes "2") ≡ Some (Background background_queryable 2)
+a_queryable_in_the_background : event_of (codes "background" ++ 9 ∷ codes "queryable" ++ 9 ∷ codes "2") ≡ printed (Some (Background background_queryable 2))
 unfolding event_of undeclare_of net_of push_of form read chars is_utf8 hex_on_literals lib.Utf8.encode
 a_queryable_in_the_background = refl
 
-a_reply_as_the_query : event_of (codes "reply" ++ 9 ∷ codes "3" ++ 9 ∷ codes "k" ++ 9 ∷ codes "x01") ≡ Some (reply_event 3 (Text (codes "k")) ((1 ∷ []) ∷ []) (codes "zenoh/bytes") None None None None None None)
+a_reply_as_the_query : event_of (codes "reply" ++ 9 ∷ codes "3" ++ 9 ∷ codes "k" ++ 9 ∷ codes "x01") ≡ printed (Some (reply_event 3 (Text (codes "k")) ((1 ∷ []) ∷ []) (codes "zenoh/bytes") None None None None None None))
 unfolding event_of undeclare_of net_of push_of form read chars is_utf8 hex_on_literals lib.Utf8.encode
 a_reply_as_the_query = refl
 
-a_reply_of_its_own : event_of (codes "reply" ++ 9 ∷ codes "3" ++ 9 ∷ codes "#1" ++ 9 ∷ codes "x" ++ 9 ∷ codes "enc=a" ++ 9 ∷ codes "ts=5:a" ++ 9 ∷ codes "prio=1" ++ 9 ∷ codes "cc=drop" ++ 9 ∷ codes "express=0" ++ 9 ∷ codes "src=7:3:9" ++ 9 ∷ codes "att=xff") ≡ Some (reply_event 3 (Number 1 []) [] (codes "a") (Some (record { time = 5; id = 10 })) (Some 1) (Some Drop) (Some false) (Some (record { source_id = record { zid = 7; eid = 3 }; source_sn = 9 })) (Some ((255 ∷ []) ∷ [])))
+a_reply_of_its_own : event_of (codes "reply" ++ 9 ∷ codes "3" ++ 9 ∷ codes "#1" ++ 9 ∷ codes "x" ++ 9 ∷ codes "enc=a" ++ 9 ∷ codes "ts=5:a" ++ 9 ∷ codes "prio=1" ++ 9 ∷ codes "cc=drop" ++ 9 ∷ codes "express=0" ++ 9 ∷ codes "src=7:3:9" ++ 9 ∷ codes "att=xff") ≡ printed (Some (reply_event 3 (Number 1 []) [] (codes "a") (Some (record { time = 5; id = 10 })) (Some 1) (Some Drop) (Some false) (Some (record { source_id = record { zid = 7; eid = 3 }; source_sn = 9 })) (Some ((255 ∷ []) ∷ []))))
 unfolding event_of undeclare_of net_of push_of form read chars is_utf8 hex_on_literals lib.Utf8.encode
 a_reply_of_its_own = refl
 
@@ -60,11 +60,11 @@ no_reliability_of_a_reply : event_of (codes "reply" ++ 9 ∷ codes "3" ++ 9 ∷ 
 unfolding event_of undeclare_of net_of push_of form read chars is_utf8 hex_on_literals lib.Utf8.encode
 no_reliability_of_a_reply = refl
 
-a_reply_of_nothing : event_of (codes "replydel" ++ 9 ∷ codes "3" ++ 9 ∷ codes "k" ++ 9 ∷ codes "cc=block") ≡ Some (ReplyDelete 3 (Text (codes "k")) None None (Some Block) None None None)
+a_reply_of_nothing : event_of (codes "replydel" ++ 9 ∷ codes "3" ++ 9 ∷ codes "k" ++ 9 ∷ codes "cc=block") ≡ printed (Some (ReplyDelete 3 (Text (codes "k")) None None (Some Block) None None None))
 unfolding event_of undeclare_of net_of push_of form read chars is_utf8 hex_on_literals lib.Utf8.encode
 a_reply_of_nothing = refl
 
-an_error : event_of (codes "replyerr" ++ 9 ∷ codes "3" ++ 9 ∷ codes "x01" ++ 9 ∷ codes "enc=") ≡ Some (ReplyErr 3 ((1 ∷ []) ∷ []) (codes "zenoh/bytes"))
+an_error : event_of (codes "replyerr" ++ 9 ∷ codes "3" ++ 9 ∷ codes "x01" ++ 9 ∷ codes "enc=") ≡ printed (Some (ReplyErr 3 ((1 ∷ []) ∷ []) (codes "zenoh/bytes")))
 unfolding event_of undeclare_of net_of push_of form read chars is_utf8 hex_on_literals lib.Utf8.encode
 an_error = refl
 
@@ -72,15 +72,15 @@ no_priority_of_an_error : event_of (codes "replyerr" ++ 9 ∷ codes "3" ++ 9 ∷
 unfolding event_of undeclare_of net_of push_of form read chars is_utf8 hex_on_literals lib.Utf8.encode
 no_priority_of_an_error = refl
 
-a_share : event_of (codes "share" ++ 9 ∷ codes "3") ≡ Some (Share 3)
+a_share : event_of (codes "share" ++ 9 ∷ codes "3") ≡ printed (Some (Share 3))
 unfolding event_of undeclare_of net_of push_of form read chars is_utf8 hex_on_literals lib.Utf8.encode
 a_share = refl
 
-a_value_given_back : event_of (codes "finish" ++ 9 ∷ codes "3") ≡ Some (Finish 3)
+a_value_given_back : event_of (codes "finish" ++ 9 ∷ codes "3") ≡ printed (Some (Finish 3))
 unfolding event_of undeclare_of net_of push_of form read chars is_utf8 hex_on_literals lib.Utf8.encode
 a_value_given_back = refl
 
-a_request : event_of (codes "net" ++ 9 ∷ codes "request" ++ 9 ∷ codes "1" ++ 9 ∷ codes "s0:k") ≡ Some (Net (Request (record {
+a_request : event_of (codes "net" ++ 9 ∷ codes "request" ++ 9 ∷ codes "1" ++ 9 ∷ codes "s0:k") ≡ printed (Some (Net (Request (record {
   rid = 1;
   wire = record { scope = 0; suffix = codes "k"; mapping = Sender };
   parameters = [];
@@ -91,11 +91,11 @@ a_request : event_of (codes "net" ++ 9 ∷ codes "request" ++ 9 ∷ codes "1" ++
   qos = record { priority = 5; congestion = Block; express = false };
   source = None;
   attachment = None;
-})))
+}))))
 unfolding event_of undeclare_of net_of push_of form read chars is_utf8 hex_on_literals lib.Utf8.encode
 a_request = refl
 
-a_request_with_all : event_of (codes "net" ++ 9 ∷ codes "request" ++ 9 ∷ codes "1" ++ 9 ∷ codes "r1:" ++ 9 ∷ codes "params=x;=" ++ 9 ∷ codes "target=allcomplete" ++ 9 ∷ codes "cons=latest" ++ 9 ∷ codes "timeout=0" ++ 9 ∷ codes "payload=x01" ++ 9 ∷ codes "enc=a" ++ 9 ∷ codes "prio=0" ++ 9 ∷ codes "cc=drop" ++ 9 ∷ codes "express=1" ++ 9 ∷ codes "src=7:3:9" ++ 9 ∷ codes "att=x") ≡ Some (Net (Request (record {
+a_request_with_all : event_of (codes "net" ++ 9 ∷ codes "request" ++ 9 ∷ codes "1" ++ 9 ∷ codes "r1:" ++ 9 ∷ codes "params=x;=" ++ 9 ∷ codes "target=allcomplete" ++ 9 ∷ codes "cons=latest" ++ 9 ∷ codes "timeout=0" ++ 9 ∷ codes "payload=x01" ++ 9 ∷ codes "enc=a" ++ 9 ∷ codes "prio=0" ++ 9 ∷ codes "cc=drop" ++ 9 ∷ codes "express=1" ++ 9 ∷ codes "src=7:3:9" ++ 9 ∷ codes "att=x") ≡ printed (Some (Net (Request (record {
   rid = 1;
   wire = record { scope = 1; suffix = []; mapping = Receiver };
   parameters = codes "x;=";
@@ -106,7 +106,7 @@ a_request_with_all : event_of (codes "net" ++ 9 ∷ codes "request" ++ 9 ∷ cod
   qos = record { priority = 0; congestion = Drop; express = true };
   source = Some (record { source_id = record { zid = 7; eid = 3 }; source_sn = 9 });
   attachment = Some [];
-})))
+}))))
 unfolding event_of undeclare_of net_of push_of form read chars is_utf8 hex_on_literals lib.Utf8.encode
 a_request_with_all = refl
 
@@ -115,15 +115,15 @@ unfolding event_of undeclare_of net_of push_of form read chars is_utf8 hex_on_li
 no_replier_of_a_request = refl
 
 -- queriers
-a_querier : event_of (codes "querier" ++ 9 ∷ codes "remote" ++ 9 ∷ codes "#1") ≡ Some (Querier Remote (Number 1 []) BestMatching Auto None (record { priority = 5; congestion = Block; express = false }) false)
+a_querier : event_of (codes "querier" ++ 9 ∷ codes "remote" ++ 9 ∷ codes "#1") ≡ printed (Some (Querier Remote (Number 1 []) BestMatching Auto None (record { priority = 5; congestion = Block; express = false }) false))
 unfolding event_of undeclare_of net_of push_of form read chars is_utf8 hex_on_literals lib.Utf8.encode
 a_querier = refl
 
-a_querier_with_all : event_of (codes "querier" ++ 9 ∷ codes "any" ++ 9 ∷ codes "k?x" ++ 9 ∷ codes "target=allcomplete" ++ 9 ∷ codes "cons=latest" ++ 9 ∷ codes "timeout=0" ++ 9 ∷ codes "prio=7" ++ 9 ∷ codes "cc=drop" ++ 9 ∷ codes "express=1" ++ 9 ∷ codes "accept=any") ≡ Some (Querier Any (Text (codes "k?x")) AllComplete Latest (Some 0) (record { priority = 7; congestion = Drop; express = true }) true)
+a_querier_with_all : event_of (codes "querier" ++ 9 ∷ codes "any" ++ 9 ∷ codes "k?x" ++ 9 ∷ codes "target=allcomplete" ++ 9 ∷ codes "cons=latest" ++ 9 ∷ codes "timeout=0" ++ 9 ∷ codes "prio=7" ++ 9 ∷ codes "cc=drop" ++ 9 ∷ codes "express=1" ++ 9 ∷ codes "accept=any") ≡ printed (Some (Querier Any (Text (codes "k?x")) AllComplete Latest (Some 0) (record { priority = 7; congestion = Drop; express = true }) true))
 unfolding event_of undeclare_of net_of push_of form read chars is_utf8 hex_on_literals lib.Utf8.encode
 a_querier_with_all = refl
 
-a_querier_undeclared : event_of (codes "undeclare" ++ 9 ∷ codes "querier" ++ 9 ∷ codes "2") ≡ Some (Undeclare querier_kind 2)
+a_querier_undeclared : event_of (codes "undeclare" ++ 9 ∷ codes "querier" ++ 9 ∷ codes "2") ≡ printed (Some (Undeclare querier_kind 2))
 unfolding event_of undeclare_of net_of push_of form read chars is_utf8 hex_on_literals lib.Utf8.encode
 a_querier_undeclared = refl
 
@@ -131,19 +131,19 @@ no_querier_in_the_background : event_of (codes "background" ++ 9 ∷ codes "quer
 unfolding event_of undeclare_of net_of push_of form read chars is_utf8 hex_on_literals lib.Utf8.encode
 no_querier_in_the_background = refl
 
-a_querier_asks : event_of (codes "qget" ++ 9 ∷ codes "2") ≡ Some (QuerierGet 2 [] None None None None)
+a_querier_asks : event_of (codes "qget" ++ 9 ∷ codes "2") ≡ printed (Some (QuerierGet 2 [] None None None None))
 unfolding event_of undeclare_of net_of push_of form read chars is_utf8 hex_on_literals lib.Utf8.encode
 a_querier_asks = refl
 
-a_querier_asks_with_all : event_of (codes "qget" ++ 9 ∷ codes "2" ++ 9 ∷ codes "params=x;=" ++ 9 ∷ codes "enc=" ++ 9 ∷ codes "src=7:3:9" ++ 9 ∷ codes "att=x" ++ 9 ∷ codes "token=3") ≡ Some (QuerierGet 2 (codes "x;=") (Some (record { payload = []; encoding = codes "zenoh/bytes" })) (Some (record { source_id = record { zid = 7; eid = 3 }; source_sn = 9 })) (Some []) (Some 3))
+a_querier_asks_with_all : event_of (codes "qget" ++ 9 ∷ codes "2" ++ 9 ∷ codes "params=x;=" ++ 9 ∷ codes "enc=" ++ 9 ∷ codes "src=7:3:9" ++ 9 ∷ codes "att=x" ++ 9 ∷ codes "token=3") ≡ printed (Some (QuerierGet 2 (codes "x;=") (Some (record { payload = []; encoding = codes "zenoh/bytes" })) (Some (record { source_id = record { zid = 7; eid = 3 }; source_sn = 9 })) (Some []) (Some 3)))
 unfolding event_of undeclare_of net_of push_of form read chars is_utf8 hex_on_literals lib.Utf8.encode
 a_querier_asks_with_all = refl
 
-a_cancel_token : event_of (codes "ctoken") ≡ Some CancelToken
+a_cancel_token : event_of (codes "ctoken") ≡ printed (Some CancelToken)
 unfolding event_of undeclare_of net_of push_of form read chars is_utf8 hex_on_literals lib.Utf8.encode
 a_cancel_token = refl
 
-a_cancel : event_of (codes "cancel" ++ 9 ∷ codes "0") ≡ Some (Cancel 0)
+a_cancel : event_of (codes "cancel" ++ 9 ∷ codes "0") ≡ printed (Some (Cancel 0))
 unfolding event_of undeclare_of net_of push_of form read chars is_utf8 hex_on_literals lib.Utf8.encode
 a_cancel = refl
 
@@ -151,7 +151,7 @@ no_cancel_of_all : event_of (codes "cancel") ≡ None
 unfolding event_of undeclare_of net_of push_of form read chars is_utf8 hex_on_literals lib.Utf8.encode
 no_cancel_of_all = refl
 
-a_get_to_cancel : event_of (codes "get" ++ 9 ∷ codes "any" ++ 9 ∷ codes "k" ++ 9 ∷ codes "accept=any" ++ 9 ∷ codes "token=7") ≡ Some (Get Any (Text (codes "k")) [] BestMatching Auto None None (record { priority = 5; congestion = Block; express = false }) None None true (Some 7))
+a_get_to_cancel : event_of (codes "get" ++ 9 ∷ codes "any" ++ 9 ∷ codes "k" ++ 9 ∷ codes "accept=any" ++ 9 ∷ codes "token=7") ≡ printed (Some (Get Any (Text (codes "k")) [] BestMatching Auto None None (record { priority = 5; congestion = Block; express = false }) None None true (Some 7)))
 unfolding event_of undeclare_of net_of push_of form read chars is_utf8 hex_on_literals lib.Utf8.encode
 a_get_to_cancel = refl
 

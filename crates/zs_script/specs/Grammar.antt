@@ -1,7 +1,7 @@
--- The event that a line is, if it is one.
-use Rattle.std.specs.Prelude.{ℕ, Bool, List, [], ◌∷◌, Option, None, option_and_then, unwrap_or, codes, if◌then◌else◌}
+-- What a line says, if it says something.
+use Rattle.std.specs.Prelude.{ℕ, Bool, List, [], ◌∷◌, Option, None, option_map, option_and_then, unwrap_or, codes, if◌then◌else◌}
 use Rattle.std.specs.Str.{bytes_eq, is_utf8}
-use Rattle.zs_wire.specs.declared.message.Message.TheVariants.{DeclareKeyExpr, UndeclareKeyExpr, DeclareToken, UndeclareToken, DeclareFinal, Push, Request as request_message, Response as response_message, ResponseFinal, Close as close_message}
+use Rattle.zs_wire.specs.declared.message.Message.TheVariants.{DeclareKeyExpr, UndeclareKeyExpr, DeclareSubscriber, UndeclareSubscriber, DeclareQueryable, UndeclareQueryable, DeclareToken, UndeclareToken, DeclareFinal, Push, Request as request_message, Response as response_message, ResponseFinal, Close as close_message}
 use Rattle.zs_wire.specs.declared.body.Body.{Body}
 use Rattle.zs_wire.specs.declared.origin.EntityGlobalId.{EntityGlobalId}
 use Rattle.zs_wire.specs.declared.origin.SourceInfo.{SourceInfo}
@@ -12,15 +12,18 @@ use Rattle.zs_wire.specs.declared.response.Answered.{Answered}
 use Rattle.zs_wire.specs.declared.response.Answered.TheVariants.{Reply, Err as error_reply}
 use Rattle.zs_wire.specs.declared.sample_kind.SampleKind.TheVariants.{Put as put_kind}
 use Rattle.zs_wire.specs.declared.wire_expr.WireExpr.{WireExpr}
+use Rattle.zs_events.specs.declared.chan.Chan.TheVariants.{Print}
 use Rattle.zs_events.specs.declared.event.Event.{Event}
-use Rattle.zs_events.specs.declared.event.Event.TheVariants.{Key, UndeclareKey, Sub, Pub, Queryable, Querier, Token, Lsub, Undeclare, Background, Put, Delete, PublisherPut, PublisherDelete, CancelToken, Cancel, Get, QuerierGet, LivelinessGet, Reply as reply_event, ReplyDelete, ReplyErr, Share, Finish, Tick, Close, Net}
+use Rattle.zs_events.specs.declared.event.Event.TheVariants.{Key, UndeclareKey, Sub, Pub, Queryable, Querier, Token, Lsub, Listen, Status, Undeclare, Background, Put, Delete, PublisherPut, PublisherDelete, CancelToken, Cancel, Get, QuerierGet, LivelinessGet, Reply as reply_event, ReplyDelete, ReplyErr, Share, Finish, Tick, Close, Net}
+use Rattle.zs_events.specs.declared.script_event.ScriptEvent.{ScriptEvent}
+use Rattle.zs_events.specs.declared.script_event.ScriptEvent.TheVariants.{Core, Recv}
 use Rattle.zs_events.specs.Kinds.{delete_body}
 use Rattle.zs_script.specs.Lines.{fields}
 use Rattle.zs_script.specs.Symbols.{u16_max, u32_max, u64_max, entity_kind_of}
-use Rattle.zs_script.specs.Parts.{number, locality, background_kind, complete, history, key, selector, wire, wire_if, payload, parameters, target, consolidation, timeout, value, encoding, own_encoding, timestamp, qos, own_priority, own_congestion, own_express, reliable, source, attachment, responder, any_key, token, interest, read, form}
+use Rattle.zs_script.specs.Parts.{number, locality, background_kind, parent, complete, history, key, selector, wire, wire_if, payload, parameters, target, consolidation, timeout, value, encoding, own_encoding, timestamp, qos, own_priority, own_congestion, own_express, reliable, source, attachment, responder, any_key, token, interest, channel, handed_to, channel_kind, read, form}
 
 -- what a choice by the first field makes of the fields behind it
-abbrev pub by_word : (List ℕ → List (List ℕ) → Option Event) → List (List ℕ) → Option Event
+abbrev pub by_word : {A : Type 0} → (List ℕ → List (List ℕ) → Option A) → List (List ℕ) → Option A
 by_word choice [] = None
 by_word choice (word ∷ rest) = choice word rest
 
@@ -28,9 +31,9 @@ by_word choice (word ∷ rest) = choice word rest
 abbrev pub declare_of : List (List ℕ) → Option Event
 declare_of rest = form (key ∷ []) Key rest
 
--- `sub LOC KEY`
-abbrev pub sub_of : List (List ℕ) → Option Event
-sub_of rest = form (locality ∷ key ∷ []) Sub rest
+-- `sub LOC KEY`, `sub LOC KEY CHAN`
+abbrev pub sub_of : List (List ℕ) → Option ScriptEvent
+sub_of rest = form (locality ∷ key ∷ channel ∷ []) (λ origin k out. Core (Sub origin k) out) rest
 
 -- `pub LOC KEY` and its options
 abbrev pub pub_of : List (List ℕ) → Option Event
@@ -51,6 +54,14 @@ token_of rest = form (key ∷ []) Token rest
 -- `lsub history KEY`, `lsub live KEY`
 abbrev pub lsub_of : List (List ℕ) → Option Event
 lsub_of rest = form (history ∷ key ∷ []) Lsub rest
+
+-- `listen pub N`, `listen querier N`
+abbrev pub listen_of : List (List ℕ) → Option Event
+listen_of rest = form (parent ∷ number u32_max ∷ []) Listen rest
+
+-- `status pub N`, `status querier N`
+abbrev pub status_of : List (List ℕ) → Option Event
+status_of rest = form (parent ∷ number u32_max ∷ []) Status rest
 
 -- `N`, behind `undeclare` and a kind
 abbrev pub undeclare_entity_of : List ℕ → List (List ℕ) → Option Event
@@ -95,18 +106,25 @@ abbrev pub cancel_of : List (List ℕ) → Option Event
 cancel_of rest = form (number u32_max ∷ []) Cancel rest
 
 -- `get LOC SELECTOR` and its options: the selector is a key and the parameters
-abbrev pub get_of : List (List ℕ) → Option Event
+abbrev pub get_of : List (List ℕ) → Option ScriptEvent
 get_of rest =
-    form (locality ∷ selector ∷ target ∷ consolidation ∷ timeout ∷ value ∷ qos 1 Block ∷ source ∷ attachment ∷ any_key ∷ token ∷ [])
-    (λ where_to chosen. Get where_to chosen.0 chosen.1) rest
+    form (locality ∷ selector ∷ target ∷ consolidation ∷ timeout ∷ value ∷ qos 1 Block ∷ source ∷ attachment ∷ any_key ∷ token ∷ handed_to ∷ [])
+    (λ where_to chosen whom mode time given quality origin beside any cancel out.
+    Core (Get where_to chosen.0 chosen.1 whom mode time given quality origin beside any cancel) out) rest
 
 -- `qget N` and its options: the others are the querier's
-abbrev pub querier_get_of : List (List ℕ) → Option Event
-querier_get_of rest = form (number u32_max ∷ parameters ∷ value ∷ source ∷ attachment ∷ token ∷ []) QuerierGet rest
+abbrev pub querier_get_of : List (List ℕ) → Option ScriptEvent
+querier_get_of rest =
+    form (number u32_max ∷ parameters ∷ value ∷ source ∷ attachment ∷ token ∷ handed_to ∷ [])
+    (λ n text given origin beside cancel out. Core (QuerierGet n text given origin beside cancel) out) rest
 
 -- `lget KEY` and its options
-abbrev pub liveliness_get_of : List (List ℕ) → Option Event
-liveliness_get_of rest = form (key ∷ timeout ∷ token ∷ []) LivelinessGet rest
+abbrev pub liveliness_get_of : List (List ℕ) → Option ScriptEvent
+liveliness_get_of rest = form (key ∷ timeout ∷ token ∷ handed_to ∷ []) (λ k time cancel out. Core (LivelinessGet k time cancel) out) rest
+
+-- `recv sub N`, `recv get N`, `recv lget N`
+abbrev pub recv_of : List (List ℕ) → Option ScriptEvent
+recv_of rest = form (channel_kind ∷ number u32_max ∷ []) Recv rest
 
 -- `reply N KEY BYTES` and its options: what is not given is as in the query
 abbrev pub reply_of : List (List ℕ) → Option Event
@@ -146,6 +164,22 @@ key_expr_of rest = form (number u16_max ∷ wire ∷ []) (λ n w. Net (DeclareKe
 -- `unkeyexpr N`, behind `net`
 abbrev pub unkey_expr_of : List (List ℕ) → Option Event
 unkey_expr_of rest = form (number u16_max ∷ []) (λ n. Net (UndeclareKeyExpr n)) rest
+
+-- `sub N WIRE`, behind `net`
+abbrev pub net_sub_of : List (List ℕ) → Option Event
+net_sub_of rest = form (number u32_max ∷ wire ∷ []) (λ n w. Net (DeclareSubscriber n w)) rest
+
+-- `unsub N`, behind `net`
+abbrev pub net_unsub_of : List (List ℕ) → Option Event
+net_unsub_of rest = form (number u32_max ∷ []) (λ n. Net (UndeclareSubscriber n)) rest
+
+-- `queryable N complete WIRE`, `queryable N partial WIRE`, behind `net`
+abbrev pub net_queryable_of : List (List ℕ) → Option Event
+net_queryable_of rest = form (number u32_max ∷ complete ∷ wire ∷ []) (λ n whole w. Net (DeclareQueryable n whole w)) rest
+
+-- `unqueryable N`, behind `net`
+abbrev pub net_unqueryable_of : List (List ℕ) → Option Event
+net_unqueryable_of rest = form (number u32_max ∷ []) (λ n. Net (UndeclareQueryable n)) rest
 
 -- `token N WIRE` and its option, behind `net`
 abbrev pub net_token_of : List (List ℕ) → Option Event
@@ -268,6 +302,10 @@ abbrev pub net_by : List ℕ → List (List ℕ) → Option Event
 net_by word rest =
     if bytes_eq word (codes "keyexpr") then key_expr_of rest else
     if bytes_eq word (codes "unkeyexpr") then unkey_expr_of rest else
+    if bytes_eq word (codes "sub") then net_sub_of rest else
+    if bytes_eq word (codes "unsub") then net_unsub_of rest else
+    if bytes_eq word (codes "queryable") then net_queryable_of rest else
+    if bytes_eq word (codes "unqueryable") then net_unqueryable_of rest else
     if bytes_eq word (codes "token") then net_token_of rest else
     if bytes_eq word (codes "untoken") then net_untoken_of rest else
     if bytes_eq word (codes "declarefinal") then declare_final_of rest else
@@ -280,16 +318,17 @@ net_by word rest =
 unfoldable pub net_of : List (List ℕ) → Option Event
 net_of rest = by_word net_by rest
 
--- an event by the first field of its line
-abbrev pub event_by : List ℕ → List (List ℕ) → Option Event
-event_by word rest =
+-- an event of the session by the first field of its line, where the line has no channel
+abbrev pub plain_by : List ℕ → List (List ℕ) → Option Event
+plain_by word rest =
     if bytes_eq word (codes "key") then declare_of rest else
-    if bytes_eq word (codes "sub") then sub_of rest else
     if bytes_eq word (codes "pub") then pub_of rest else
     if bytes_eq word (codes "queryable") then queryable_of rest else
     if bytes_eq word (codes "querier") then querier_of rest else
     if bytes_eq word (codes "token") then token_of rest else
     if bytes_eq word (codes "lsub") then lsub_of rest else
+    if bytes_eq word (codes "listen") then listen_of rest else
+    if bytes_eq word (codes "status") then status_of rest else
     if bytes_eq word (codes "undeclare") then undeclare_of rest else
     if bytes_eq word (codes "background") then background_of rest else
     if bytes_eq word (codes "put") then put_of rest else
@@ -298,9 +337,6 @@ event_by word rest =
     if bytes_eq word (codes "pdel") then publisher_delete_of rest else
     if bytes_eq word (codes "ctoken") then cancel_token_of rest else
     if bytes_eq word (codes "cancel") then cancel_of rest else
-    if bytes_eq word (codes "get") then get_of rest else
-    if bytes_eq word (codes "qget") then querier_get_of rest else
-    if bytes_eq word (codes "lget") then liveliness_get_of rest else
     if bytes_eq word (codes "reply") then reply_of rest else
     if bytes_eq word (codes "replydel") then reply_delete_of rest else
     if bytes_eq word (codes "replyerr") then reply_error_of rest else
@@ -310,9 +346,22 @@ event_by word rest =
     if bytes_eq word (codes "close") then close_of rest else
     if bytes_eq word (codes "net") then net_of rest else None
 
-abbrev pub event_of_fields : List (List ℕ) → Option Event
+-- a line of an event that hands nothing to a channel
+abbrev pub printed : Option Event → Option ScriptEvent
+printed event = option_map (λ e. Core e Print) event
+
+-- what a line says, by its first field
+abbrev pub event_by : List ℕ → List (List ℕ) → Option ScriptEvent
+event_by word rest =
+    if bytes_eq word (codes "sub") then sub_of rest else
+    if bytes_eq word (codes "get") then get_of rest else
+    if bytes_eq word (codes "qget") then querier_get_of rest else
+    if bytes_eq word (codes "lget") then liveliness_get_of rest else
+    if bytes_eq word (codes "recv") then recv_of rest else printed (plain_by word rest)
+
+abbrev pub event_of_fields : List (List ℕ) → Option ScriptEvent
 event_of_fields rest = by_word event_by rest
 
--- the event of a line: it is UTF-8 text, in fields separated by single tabs
-unfoldable pub event_of : List ℕ → Option Event
+-- what a line says: it is UTF-8 text, in fields separated by single tabs
+unfoldable pub event_of : List ℕ → Option ScriptEvent
 event_of line = if is_utf8 line then event_of_fields (fields line) else None

@@ -1,14 +1,16 @@
 -- The laws by which the lines and fields of a printed text are found again.
 use Rattle.std.specs.Prelude.{ℕ, ◌≡◌, true, List, [], ◌∷◌, ◌++◌, Some, decimal, map}
 use Rattle.std.specs.List.{list_all}
-use Rattle.zs_events.specs.declared.event.Event.{Event}
+use Rattle.zs_events.specs.declared.received.Received.{Received}
+use Rattle.zs_events.specs.declared.script_event.ScriptEvent.{ScriptEvent}
 use Rattle.zs_events.specs.declared.turn.Answer.{Answer}
 use Rattle.zs_events.specs.declared.turn.Effect.{Effect}
+use Rattle.zs_events.specs.declared.turn.HandOver.{HandOver}
 use Rattle.zs_events.specs.declared.turn.Turn.{Turn}
 use Rattle.zs_script.specs.Lines.{lines, fields}
 use Rattle.zs_script.specs.Grammar.{event_of}
-use Rattle.zs_script.specs.Printing.{line, answer_fields, effect_fields, turn_text}
-use Rattle.zs_script.specs.Plain.{has_no_line_feed, is_plain, is_plain_event, is_plain_effect}
+use Rattle.zs_script.specs.Printing.{line, answer_fields, effect_fields, received_fields, turn_text}
+use Rattle.zs_script.specs.Plain.{has_no_line_feed, is_plain, is_plain_script_event, is_plain_effect, is_plain_received}
 
 -- fields, each behind a tab
 abbrev pub row : List (List ℕ) → List ℕ
@@ -23,10 +25,10 @@ LinesHaveNoLineFeed = (bytes : List ℕ) → list_all has_no_line_feed (lines by
 abbrev pub FieldsArePlain : Type 0
 FieldsArePlain = (bytes : List ℕ) → has_no_line_feed bytes ≡ true → list_all is_plain (fields bytes) ≡ true
 
--- the event of a line without a line feed is plain
+-- what a line without a line feed says is plain
 abbrev pub EventsArePlain : Type 0
-EventsArePlain = (bytes : List ℕ) (event : Event) → has_no_line_feed bytes ≡ true → event_of bytes ≡ Some event
-    → is_plain_event event ≡ true
+EventsArePlain = (bytes : List ℕ) (event : ScriptEvent) → has_no_line_feed bytes ≡ true → event_of bytes ≡ Some event
+    → is_plain_script_event event ≡ true
 
 -- an answer is printed in plain fields
 abbrev pub AnswersArePlain : Type 0
@@ -35,6 +37,10 @@ AnswersArePlain = (answer : Answer) → list_all is_plain (answer_fields answer)
 -- a plain effect is printed in plain fields
 abbrev pub EffectsArePlain : Type 0
 EffectsArePlain = (effect : Effect) → is_plain_effect effect ≡ true → list_all is_plain (effect_fields effect) ≡ true
+
+-- what a read of a channel is answered is printed in plain fields, where it is plain
+abbrev pub ReceivedArePlain : Type 0
+ReceivedArePlain = (received : Received HandOver) → is_plain_received received ≡ true → list_all is_plain (received_fields received) ≡ true
 
 -- a printed line of plain fields is the first of the lines of a text that begins with it
 abbrev pub LinesAreFound : Type 0

@@ -3,6 +3,7 @@ pub mod Fields
 pub mod Hexadecimal
 pub mod Symbols
 pub mod Options
+pub mod Channels
 pub mod Parts
 pub mod Grammar
 pub mod Words

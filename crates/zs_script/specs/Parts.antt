@@ -14,17 +14,23 @@ use Rattle.zs_wire.specs.declared.request.ConsolidationMode.TheVariants.{Auto}
 use Rattle.zs_wire.specs.declared.request.QueryTarget.{QueryTarget}
 use Rattle.zs_wire.specs.declared.request.QueryTarget.TheVariants.{BestMatching}
 use Rattle.zs_wire.specs.declared.wire_expr.WireExpr.{WireExpr}
+use Rattle.zs_events.specs.declared.chan.Chan.{Chan}
+use Rattle.zs_events.specs.declared.chan.Chan.TheVariants.{Print}
 use Rattle.zs_events.specs.declared.event.BackgroundKind.{BackgroundKind}
 use Rattle.zs_events.specs.declared.event.KeyArg.{KeyArg}
+use Rattle.zs_events.specs.declared.event.ParentKind.{ParentKind}
+use Rattle.zs_events.specs.declared.turn.Kind.{Kind}
 use Rattle.zs_events.specs.Kinds.{default_encoding}
-use Rattle.zs_script.specs.Symbols.{number_of, u32_max, u64_max, locality_of, background_kind_of, complete_of, history_of, key_of, payload_of, after_prefix, wire_of, naming}
+use Rattle.zs_script.specs.Symbols.{number_of, u32_max, u64_max, locality_of, background_kind_of, parent_of, complete_of, history_of, key_of, payload_of, after_prefix, wire_of, naming}
 use Rattle.zs_script.specs.Options.{timestamp_of, entity_of, source_of, encoding_text_of, priority_of, congestion_of, flag_of, target_of, consolidation_of, any_key_of, value_of}
+use Rattle.zs_script.specs.Channels.{channel_of, channel_kind_of}
 
 -- fields that have to be there, and then options, each with what it is where it is absent
 pub data Part : Type 0 where
   number : (most : ℕ) → Part
   locality : Part
   background_kind : Part
+  parent : Part
   complete : Part
   history : Part
   key : Part
@@ -53,12 +59,17 @@ pub data Part : Type 0 where
   any_key : Part
   token : Part
   interest : Part
+  -- where items go, as a field that may be left out and as an option, and what has a channel
+  channel : Part
+  handed_to : Part
+  channel_kind : Part
 
 -- what a part is read as
 abbrev pub Value : Part → Type 0
 Value (number most) = ℕ
 Value locality = Locality
 Value background_kind = BackgroundKind
+Value parent = ParentKind
 Value complete = Bool
 Value history = Bool
 Value key = KeyArg
@@ -85,6 +96,9 @@ Value responder = Option EntityGlobalId
 Value any_key = Bool
 Value token = Option ℕ
 Value interest = Option ℕ
+Value channel = Chan
+Value handed_to = Chan
+Value channel_kind = Kind
 
 -- the first field, and the fields behind it
 abbrev pub first_of : List (List ℕ) → Option (List ℕ)
@@ -146,6 +160,7 @@ unfoldable pub read : (part : Part) → List (List ℕ) → Option (Value part �
 read (number most) fields = first_in (number_of most) fields
 read locality fields = first_in locality_of fields
 read background_kind fields = first_in background_kind_of fields
+read parent fields = first_in parent_of fields
 read complete fields = first_in complete_of fields
 read history fields = first_in history_of fields
 read key fields = first_in (λ field. Some (key_of field)) fields
@@ -172,6 +187,9 @@ read responder fields = Some (maybe_in (codes "by=") entity_of fields)
 read any_key fields = Some (option_in (codes "accept=") any_key_of false fields)
 read token fields = Some (maybe_in (codes "token=") (number_of u32_max) fields)
 read interest fields = Some (maybe_in (codes "interest=") (number_of u32_max) fields)
+read channel fields = Some (taken Print fields (option_and_then channel_of (first_of fields)))
+read handed_to fields = Some (option_in (codes "to=") channel_of Print fields)
+read channel_kind fields = first_in channel_kind_of fields
 
 -- what makes something of the values of these parts
 abbrev pub Maker : List Part → Type 0 → Type 0

@@ -13,9 +13,14 @@ use Rattle.zs_wire.specs.declared.wire_expr.WireExpr.{WireExpr}
 use Rattle.zs_events.specs.declared.event.KeyArg.{KeyArg}
 use Rattle.zs_events.specs.declared.event.KeyArg.TheVariants.{Text, Number, Declared}
 use Rattle.zs_events.specs.declared.event.Event.{Event}
+use Rattle.zs_events.specs.declared.received.Received.{Received}
+use Rattle.zs_events.specs.declared.received.Received.TheVariants.{Item, Empty, Disconnected, Deleted}
+use Rattle.zs_events.specs.declared.script_event.ScriptEvent.{ScriptEvent}
+use Rattle.zs_events.specs.declared.script_event.ScriptEvent.TheVariants.{Core, Recv}
 use Rattle.zs_events.specs.Kinds.{NamedKey, NoKey, OwnKey, PublisherKey, QuerierKey, WireKey, text_if, value_texts, row_of}
 use Rattle.zs_events.specs.declared.turn.Effect.{Effect}
-use Rattle.zs_events.specs.declared.turn.Effect.TheVariants.{Send, Hand, End}
+use Rattle.zs_events.specs.declared.turn.Effect.TheVariants.{Send, Hand, End, Matching}
+use Rattle.zs_events.specs.declared.turn.HandOver.{HandOver}
 use Rattle.zs_events.specs.declared.turn.HandOver.TheVariants.{Sample, Reply as handed_reply, Query as handed_query}
 
 -- no tab and no line feed
@@ -51,6 +56,11 @@ is_plain_named (WireKey wire) = is_field_text wire.suffix
 -- an event all of whose texts are such
 abbrev pub is_plain_event : Event → Bool
 is_plain_event e = is_plain_named (row_of e).key && list_all is_field_text (row_of e).texts
+
+-- the same of what a line says
+abbrev pub is_plain_script_event : ScriptEvent → Bool
+is_plain_script_event (Core event to) = is_plain_event event
+is_plain_script_event (Recv kind number) = true
 
 -- the text of a wire expression, if there is one
 abbrev pub suffix_if : Option WireExpr → List (List ℕ)
@@ -99,3 +109,11 @@ is_plain_effect (Hand (Sample kind id sample)) = is_plain_sample sample
 is_plain_effect (Hand (handed_reply kind id reply)) = is_plain_outcome reply.result
 is_plain_effect (Hand (handed_query id count query)) = is_plain_query query
 is_plain_effect (End kind id) = true
+is_plain_effect (Matching id matching) = true
+
+-- the same of what a read of a channel is answered
+abbrev pub is_plain_received : Received HandOver → Bool
+is_plain_received (Item item) = is_plain_effect (Hand item)
+is_plain_received Empty = true
+is_plain_received Disconnected = true
+is_plain_received Deleted = true

@@ -18,16 +18,19 @@ use Rattle.zs_sample.specs.ErrorFields.{ErrorFields}
 use Rattle.zs_sample.specs.Reply.{Replied}
 use Rattle.zs_sample.specs.declared.sample_fields.SampleFields.{SampleFields}
 use Rattle.zs_query.specs.QueryData.{Query}
+use Rattle.zs_events.specs.declared.received.Received.{Received}
+use Rattle.zs_events.specs.declared.received.Received.TheVariants.{Item, Empty, Disconnected, Deleted}
 use Rattle.zs_events.specs.declared.turn.Answer.{Answer}
 use Rattle.zs_events.specs.declared.turn.Answer.TheVariants.{Ok as accepted, Refused}
 use Rattle.zs_events.specs.declared.turn.Effect.{Effect}
-use Rattle.zs_events.specs.declared.turn.Effect.TheVariants.{Send, Hand, End}
+use Rattle.zs_events.specs.declared.turn.Effect.TheVariants.{Send, Hand, End, Matching}
+use Rattle.zs_events.specs.declared.turn.HandOver.{HandOver}
 use Rattle.zs_events.specs.declared.turn.HandOver.TheVariants.{Sample, Reply as handed_reply, Query as handed_query}
 use Rattle.zs_events.specs.declared.turn.Kind.{Kind}
 use Rattle.zs_events.specs.declared.turn.Kind.TheVariants.{Queryable}
 use Rattle.zs_events.specs.declared.turn.Turn.{Turn}
 use Rattle.zs_script.specs.Symbols.{naming}
-use Rattle.zs_script.specs.Words.{refusal_name, kind_word, sample_word, is_reliable, complete_word, mode_word, what_word}
+use Rattle.zs_script.specs.Words.{refusal_name, kind_word, sample_word, is_reliable, complete_word, truth_word, mode_word, what_word}
 use Rattle.zs_script.specs.Pieces.{Piece, word, number, wire, wire_if, payload, parameters, target, consolidation, timeout, value, payload_if, encoding, encoding_if, timestamp, qos, reliable, source, attachment, responder, interest, pieces_fields}
 
 -- these fields, each behind a tab, and the line feed
@@ -132,10 +135,13 @@ abbrev pub outcome_pieces : Result SampleFields ErrorFields → List Piece
 outcome_pieces (Ok sample) = sample_pieces sample
 outcome_pieces (Err e) = error_pieces e
 
--- a reply that is handed to the get which the number names, and who sent it
+-- a reply: what it brings, and who sent it
+abbrev pub reply_item_pieces : Replied → List Piece
+reply_item_pieces reply = outcome_pieces reply.result ++ responder reply.replier ∷ []
+
+-- a reply that is handed to the get which the number names
 unfoldable pub replied_pieces : Kind → ℕ → Replied → List Piece
-replied_pieces kind id reply =
-    word (codes "reply") ∷ word (kind_word kind) ∷ number id ∷ (outcome_pieces reply.result ++ responder reply.replier ∷ [])
+replied_pieces kind id reply = word (codes "reply") ∷ word (kind_word kind) ∷ number id ∷ reply_item_pieces reply
 
 -- the quality of service of a query that is handed out
 abbrev pub asked_qos : Query → QoSType
@@ -163,6 +169,7 @@ effect_pieces (Hand (Sample kind id sample)) = hand_pieces kind id sample
 effect_pieces (Hand (handed_reply kind id reply)) = replied_pieces kind id reply
 effect_pieces (Hand (handed_query id count query)) = queried_pieces id count query
 effect_pieces (End kind id) = word (codes "end") ∷ word (kind_word kind) ∷ number id ∷ []
+effect_pieces (Matching id matching) = word (codes "match") ∷ number id ∷ word (truth_word matching) ∷ []
 
 abbrev pub effect_fields : Effect → List (List ℕ)
 effect_fields effect = pieces_fields (effect_pieces effect)
@@ -171,3 +178,19 @@ effect_fields effect = pieces_fields (effect_pieces effect)
 abbrev pub turn_text : ℕ → Turn → List ℕ
 turn_text count turn =
     line count (answer_fields turn.answer) ++ flat_map (λ effect. line count (effect_fields effect)) turn.effects
+
+-- an item of a channel: what was handed, without the kind and the number of whom
+abbrev pub item_pieces : HandOver → List Piece
+item_pieces (Sample kind id sample) = sample_pieces sample
+item_pieces (handed_reply kind id reply) = reply_item_pieces reply
+item_pieces (handed_query id count query) = asked_pieces query
+
+-- what a read of a channel is answered
+abbrev pub received_pieces : Received HandOver → List Piece
+received_pieces (Item item) = word (codes "item") ∷ item_pieces item
+received_pieces Empty = word (codes "empty") ∷ []
+received_pieces Disconnected = word (codes "disconnected") ∷ []
+received_pieces Deleted = word (codes "deleted") ∷ []
+
+abbrev pub received_fields : Received HandOver → List (List ℕ)
+received_fields received = pieces_fields (received_pieces received)

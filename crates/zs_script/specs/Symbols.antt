@@ -11,9 +11,11 @@ use Rattle.zs_wire.specs.declared.wire_expr.Mapping.{Mapping}
 use Rattle.zs_wire.specs.declared.wire_expr.Mapping.TheVariants.{Sender, Receiver}
 use Rattle.zs_wire.specs.declared.wire_expr.WireExpr.{WireExpr}
 use Rattle.zs_events.specs.declared.event.BackgroundKind.{BackgroundKind}
-use Rattle.zs_events.specs.declared.event.BackgroundKind.TheVariants.{Sub as background_sub, Queryable as background_queryable, Lsub as background_lsub}
+use Rattle.zs_events.specs.declared.event.BackgroundKind.TheVariants.{Sub as background_sub, Queryable as background_queryable, Listener as background_listener, Lsub as background_lsub}
 use Rattle.zs_events.specs.declared.event.EntityKind.{EntityKind}
-use Rattle.zs_events.specs.declared.event.EntityKind.TheVariants.{Sub as sub_kind, Pub as pub_kind, Queryable as queryable_kind, Querier as querier_kind, Token as token_kind, Lsub as lsub_kind}
+use Rattle.zs_events.specs.declared.event.EntityKind.TheVariants.{Sub as sub_kind, Pub as pub_kind, Queryable as queryable_kind, Querier as querier_kind, Listener as listener_kind, Token as token_kind, Lsub as lsub_kind}
+use Rattle.zs_events.specs.declared.event.ParentKind.{ParentKind}
+use Rattle.zs_events.specs.declared.event.ParentKind.TheVariants.{Pub as pub_parent, Querier as querier_parent}
 use Rattle.zs_events.specs.declared.event.KeyArg.{KeyArg}
 use Rattle.zs_events.specs.declared.event.KeyArg.TheVariants.{Text, Number}
 use Rattle.zs_events.specs.Kinds.{is_nothing}
@@ -57,6 +59,7 @@ entity_kind_of field =
     if bytes_eq field (codes "pub") then Some pub_kind else
     if bytes_eq field (codes "queryable") then Some queryable_kind else
     if bytes_eq field (codes "querier") then Some querier_kind else
+    if bytes_eq field (codes "listener") then Some listener_kind else
     if bytes_eq field (codes "token") then Some token_kind else
     if bytes_eq field (codes "lsub") then Some lsub_kind else None
 
@@ -65,7 +68,14 @@ abbrev pub background_kind_of : List ℕ → Option BackgroundKind
 background_kind_of field =
     if bytes_eq field (codes "sub") then Some background_sub else
     if bytes_eq field (codes "queryable") then Some background_queryable else
+    if bytes_eq field (codes "listener") then Some background_listener else
     if bytes_eq field (codes "lsub") then Some background_lsub else None
+
+-- a word for whose matching is asked for
+abbrev pub parent_of : List ℕ → Option ParentKind
+parent_of field =
+    if bytes_eq field (codes "pub") then Some pub_parent else
+    if bytes_eq field (codes "querier") then Some querier_parent else None
 
 -- a word for whether a queryable has all that is there
 abbrev pub complete_of : List ℕ → Option Bool

@@ -76,6 +76,11 @@ abbrev pub complete_word : Bool → List ℕ
 complete_word false = codes "partial"
 complete_word true = codes "complete"
 
+-- the word for whether anyone matches
+abbrev pub truth_word : Bool → List ℕ
+truth_word false = codes "false"
+truth_word true = codes "true"
+
 -- the word for whom a query reaches
 abbrev pub target_word : QueryTarget → List ℕ
 target_word BestMatching = codes "best"

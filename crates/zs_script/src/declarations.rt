@@ -1,12 +1,68 @@
 //! The forms of declarations that come in, each read from the fields behind its word.
 
 ghost use Rattle.std.specs.Prelude.{◌≡◌, IfOk};
-ghost use Rattle.zs_script.specs.Grammar.{net_token_of, net_untoken_of, declare_final_of};
+ghost use Rattle.zs_script.specs.Grammar.{net_sub_of, net_unsub_of, net_queryable_of, net_unqueryable_of, net_token_of, net_untoken_of, declare_final_of};
 
 use crate::parts::Fields;
 use std::alloc::{AllocError, Global};
 use zs_events::Event;
 use zs_wire::Message;
+
+/// `sub N WIRE`
+#[tactic(auto, unfolding(crate::specs::Parts::form))]
+pub(crate) fn parse_net_sub(
+    alloc: Global,
+    fields: &mut Fields<'_>,
+) -> Result<Option<Event>, AllocError>
+    ensures { IfOk result (λ found. found ≡ net_sub_of fields.old) }
+{
+    let Some(id) = fields.id() else {
+        return Ok(None);
+    };
+    let Some(wire) = fields.wire(alloc)? else {
+        return Ok(None);
+    };
+    Ok(fields.finish(Event::Net(Message::DeclareSubscriber { id, wire })))
+}
+
+/// `unsub N`
+#[tactic(auto, unfolding(crate::specs::Parts::form))]
+pub(crate) fn parse_net_unsub(fields: &mut Fields<'_>) -> Option<Event>
+    ensures { result ≡ net_unsub_of fields.old }
+{
+    let id = fields.id()?;
+    fields.finish(Event::Net(Message::UndeclareSubscriber { id }))
+}
+
+/// `queryable N complete WIRE`, `queryable N partial WIRE`
+#[tactic(auto, unfolding(crate::specs::Parts::form))]
+pub(crate) fn parse_net_queryable(
+    alloc: Global,
+    fields: &mut Fields<'_>,
+) -> Result<Option<Event>, AllocError>
+    ensures { IfOk result (λ found. found ≡ net_queryable_of fields.old) }
+{
+    let Some(id) = fields.id() else {
+        return Ok(None);
+    };
+    let Some(complete) = fields.complete() else {
+        return Ok(None);
+    };
+    let Some(wire) = fields.wire(alloc)? else {
+        return Ok(None);
+    };
+    let message = Message::DeclareQueryable { id, complete, wire };
+    Ok(fields.finish(Event::Net(message)))
+}
+
+/// `unqueryable N`
+#[tactic(auto, unfolding(crate::specs::Parts::form))]
+pub(crate) fn parse_net_unqueryable(fields: &mut Fields<'_>) -> Option<Event>
+    ensures { result ≡ net_unqueryable_of fields.old }
+{
+    let id = fields.id()?;
+    fields.finish(Event::Net(Message::UndeclareQueryable { id }))
+}
 
 /// `token N WIRE` and its option
 #[tactic(auto, unfolding(crate::specs::Parts::form))]

@@ -5,7 +5,7 @@ ghost use Rattle.zs_script.specs.Grammar.{cancel_token_of, cancel_of, get_of, qu
 
 use crate::parts::Fields;
 use std::alloc::{AllocError, Global};
-use zs_events::Event;
+use zs_events::{Event, ScriptEvent};
 use zs_wire::CongestionControl;
 
 /// `ctoken`
@@ -26,7 +26,10 @@ pub(crate) fn parse_cancel(fields: &mut Fields<'_>) -> Option<Event>
 
 /// `get LOC SELECTOR` and its options
 #[tactic(auto, unfolding(crate::specs::Parts::form))]
-pub(crate) fn parse_get(alloc: Global, fields: &mut Fields<'_>) -> Result<Option<Event>, AllocError>
+pub(crate) fn parse_get(
+    alloc: Global,
+    fields: &mut Fields<'_>,
+) -> Result<Option<ScriptEvent>, AllocError>
     ensures { IfOk result (λ found. found ≡ get_of fields.old) }
 {
     let Some(destination) = fields.locality() else {
@@ -49,7 +52,8 @@ pub(crate) fn parse_get(alloc: Global, fields: &mut Fields<'_>) -> Result<Option
         any_key: fields.any_key(),
         token: fields.token(),
     };
-    Ok(fields.finish(event))
+    let to = fields.handed_to();
+    Ok(fields.finish_line(ScriptEvent::Core { event, to }))
 }
 
 /// `querier LOC KEY` and its options
@@ -83,7 +87,7 @@ pub(crate) fn parse_querier(
 pub(crate) fn parse_querier_get(
     alloc: Global,
     fields: &mut Fields<'_>,
-) -> Result<Option<Event>, AllocError>
+) -> Result<Option<ScriptEvent>, AllocError>
     ensures { IfOk result (λ found. found ≡ querier_get_of fields.old) }
 {
     let Some(id) = fields.id() else {
@@ -97,5 +101,6 @@ pub(crate) fn parse_querier_get(
         attachment: fields.attachment(alloc)?,
         token: fields.token(),
     };
-    Ok(fields.finish(event))
+    let to = fields.handed_to();
+    Ok(fields.finish_line(ScriptEvent::Core { event, to }))
 }

@@ -1,12 +1,13 @@
-//! The forms of lines, each read from the fields behind its word.
+//! What lines say, each read from the fields behind its word.
 
 ghost use Rattle.std.specs.Prelude.{◌≡◌, [], ◌∷◌, IfOk};
 ghost use Rattle.zs_events.specs.declared.event.Event.TheVariants.{UndeclareKey};
-ghost use Rattle.zs_script.specs.Grammar.{event_of, event_of_fields, declare_of, sub_of, pub_of, queryable_of, undeclare_entity_of, undeclare_of, background_of, put_of, delete_of, publisher_put_of, publisher_delete_of, tick_of, close_of};
+ghost use Rattle.zs_script.specs.Grammar.{event_of, event_of_fields, plain_by, declare_of, sub_of, pub_of, queryable_of, listen_of, status_of, undeclare_entity_of, undeclare_of, background_of, put_of, delete_of, publisher_put_of, publisher_delete_of, tick_of, close_of};
 ghost use Rattle.zs_script.specs.Lines.{fields};
 ghost use Rattle.zs_script.specs.Fields.{texts};
 ghost use Rattle.zs_script.specs.Parts.{key, form};
 
+use crate::channels::{parse_recv, printed};
 use crate::gets::{parse_cancel, parse_cancel_token, parse_get, parse_querier, parse_querier_get};
 use crate::liveliness::{parse_liveliness_get, parse_lsub, parse_token};
 use crate::messages::parse_net;
@@ -17,12 +18,12 @@ use crate::replies::{
 };
 use crate::symbols::parse_entity_kind;
 use std::alloc::{AllocError, Global};
-use zs_events::Event;
+use zs_events::{Event, ScriptEvent};
 use zs_wire::CongestionControl;
 
-/// The event of a line, if its form is one of the script language's.
+/// What a line says, if its form is one of the script language's.
 #[tactic(auto, using(crate::proofs::ReadingFields::utf8_tests), unfolding(crate::specs::Grammar::event_of))]
-pub fn parse_event(alloc: Global, line: &Line) -> Result<Option<Event>, AllocError>
+pub fn parse_event(alloc: Global, line: &Line) -> Result<Option<ScriptEvent>, AllocError>
     ensures { IfOk result (λ found. found ≡ event_of line.now.bytes.items) }
 {
     let Ok(text) = str::from_utf8(&line.bytes) else {
@@ -39,20 +40,39 @@ fn split_fields(alloc: Global, line: &str) -> Result<Vec<&str>, AllocError>
     line.split('\t').collect(alloc)
 }
 
-fn parse_fields(alloc: Global, fields: &mut Fields<'_>) -> Result<Option<Event>, AllocError>
+fn parse_fields(alloc: Global, fields: &mut Fields<'_>) -> Result<Option<ScriptEvent>, AllocError>
     ensures { IfOk result (λ found. found ≡ event_of_fields fields.old) }
 {
     let Some(word) = fields.next() else {
         return Ok(None);
     };
     match word {
-        "key" => parse_declare(alloc, fields),
         "sub" => parse_sub(alloc, fields),
+        "get" => parse_get(alloc, fields),
+        "qget" => parse_querier_get(alloc, fields),
+        "lget" => parse_liveliness_get(alloc, fields),
+        "recv" => Ok(parse_recv(fields)),
+        _ => Ok(printed(parse_plain(alloc, word, fields)?)),
+    }
+}
+
+/// The event of a line that has no channel.
+fn parse_plain(
+    alloc: Global,
+    word: &str,
+    fields: &mut Fields<'_>,
+) -> Result<Option<Event>, AllocError>
+    ensures { IfOk result (λ found. found ≡ plain_by word.now fields.old) }
+{
+    match word {
+        "key" => parse_declare(alloc, fields),
         "pub" => parse_pub(alloc, fields),
         "queryable" => parse_queryable(alloc, fields),
         "querier" => parse_querier(alloc, fields),
         "token" => parse_token(alloc, fields),
         "lsub" => parse_lsub(alloc, fields),
+        "listen" => Ok(parse_listen(fields)),
+        "status" => Ok(parse_status(fields)),
         "undeclare" => parse_undeclare(alloc, fields),
         "background" => Ok(parse_background(fields)),
         "put" => parse_put(alloc, fields),
@@ -61,9 +81,6 @@ fn parse_fields(alloc: Global, fields: &mut Fields<'_>) -> Result<Option<Event>,
         "pdel" => parse_publisher_delete(alloc, fields),
         "ctoken" => Ok(parse_cancel_token(fields)),
         "cancel" => Ok(parse_cancel(fields)),
-        "get" => parse_get(alloc, fields),
-        "qget" => parse_querier_get(alloc, fields),
-        "lget" => parse_liveliness_get(alloc, fields),
         "reply" => parse_reply(alloc, fields),
         "replydel" => parse_reply_delete(alloc, fields),
         "replyerr" => parse_reply_error(alloc, fields),
@@ -87,9 +104,9 @@ fn parse_declare(alloc: Global, fields: &mut Fields<'_>) -> Result<Option<Event>
     Ok(fields.finish(Event::Key { key }))
 }
 
-/// `sub LOC KEY`
+/// `sub LOC KEY`, and a channel, which may be left out
 #[tactic(auto, unfolding(crate::specs::Parts::form))]
-fn parse_sub(alloc: Global, fields: &mut Fields<'_>) -> Result<Option<Event>, AllocError>
+fn parse_sub(alloc: Global, fields: &mut Fields<'_>) -> Result<Option<ScriptEvent>, AllocError>
     ensures { IfOk result (λ found. found ≡ sub_of fields.old) }
 {
     let Some(origin) = fields.locality() else {
@@ -98,7 +115,9 @@ fn parse_sub(alloc: Global, fields: &mut Fields<'_>) -> Result<Option<Event>, Al
     let Some(key) = fields.key(alloc)? else {
         return Ok(None);
     };
-    Ok(fields.finish(Event::Sub { origin, key }))
+    let to = fields.channel();
+    let event = Event::Sub { origin, key };
+    Ok(fields.finish_line(ScriptEvent::Core { event, to }))
 }
 
 /// `pub LOC KEY` and its options
@@ -141,6 +160,26 @@ fn parse_queryable(alloc: Global, fields: &mut Fields<'_>) -> Result<Option<Even
         complete,
         key,
     }))
+}
+
+/// `listen pub N`, `listen querier N`
+#[tactic(auto, unfolding(crate::specs::Parts::form))]
+fn parse_listen(fields: &mut Fields<'_>) -> Option<Event>
+    ensures { result ≡ listen_of fields.old }
+{
+    let parent = fields.parent()?;
+    let id = fields.id()?;
+    fields.finish(Event::Listen { parent, id })
+}
+
+/// `status pub N`, `status querier N`
+#[tactic(auto, unfolding(crate::specs::Parts::form))]
+fn parse_status(fields: &mut Fields<'_>) -> Option<Event>
+    ensures { result ≡ status_of fields.old }
+{
+    let parent = fields.parent()?;
+    let id = fields.id()?;
+    fields.finish(Event::Status { parent, id })
 }
 
 /// `undeclare key KEY`, and `undeclare`, a kind and `N`

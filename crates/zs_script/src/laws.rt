@@ -1,6 +1,6 @@
 //! Laws over the definitions. The functions do nothing: their contracts are the laws.
 
-ghost use Rattle.zs_script.specs.Laws.{LinesHaveNoLineFeed, FieldsArePlain, EventsArePlain, AnswersArePlain, EffectsArePlain, LinesAreFound, FieldsAreFound, TurnsAreFound};
+ghost use Rattle.zs_script.specs.Laws.{LinesHaveNoLineFeed, FieldsArePlain, EventsArePlain, AnswersArePlain, EffectsArePlain, ReceivedArePlain, LinesAreFound, FieldsAreFound, TurnsAreFound};
 
 /// No line of any input has a line feed.
 pub fn lines_have_no_line_feed()
@@ -12,7 +12,7 @@ pub fn fields_are_plain()
     ensures { FieldsArePlain }
 {}
 
-/// The texts of a line's event have neither tabs nor line feeds.
+/// The texts of what a line says have neither tabs nor line feeds.
 pub fn events_are_plain()
     ensures { EventsArePlain }
 {}
@@ -25,6 +25,12 @@ pub fn answers_are_plain()
 /// A printed effect has fields with neither tabs nor line feeds, where its texts have neither.
 pub fn effects_are_plain()
     ensures { EffectsArePlain }
+{}
+
+/// What a read of a channel is answered is printed in fields with neither tabs nor line feeds, where its texts have
+/// neither.
+pub fn received_are_plain()
+    ensures { ReceivedArePlain }
 {}
 
 /// A printed line is one line.

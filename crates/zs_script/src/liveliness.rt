@@ -5,7 +5,7 @@ ghost use Rattle.zs_script.specs.Grammar.{token_of, lsub_of, liveliness_get_of};
 
 use crate::parts::Fields;
 use std::alloc::{AllocError, Global};
-use zs_events::Event;
+use zs_events::{Event, ScriptEvent};
 
 /// `token KEY`
 #[tactic(auto, unfolding(crate::specs::Parts::form))]
@@ -43,7 +43,7 @@ pub(crate) fn parse_lsub(
 pub(crate) fn parse_liveliness_get(
     alloc: Global,
     fields: &mut Fields<'_>,
-) -> Result<Option<Event>, AllocError>
+) -> Result<Option<ScriptEvent>, AllocError>
     ensures { IfOk result (λ found. found ≡ liveliness_get_of fields.old) }
 {
     let Some(key) = fields.key(alloc)? else {
@@ -54,5 +54,6 @@ pub(crate) fn parse_liveliness_get(
         timeout: fields.timeout(),
         token: fields.token(),
     };
-    Ok(fields.finish(event))
+    let to = fields.handed_to();
+    Ok(fields.finish_line(ScriptEvent::Core { event, to }))
 }

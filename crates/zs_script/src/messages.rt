@@ -3,7 +3,10 @@
 ghost use Rattle.std.specs.Prelude.{◌≡◌, IfOk};
 ghost use Rattle.zs_script.specs.Grammar.{net_of, net_close_of, key_expr_of, unkey_expr_of, push_of, pushed, push_put_of, push_delete_of};
 
-use crate::declarations::{parse_declare_final, parse_net_token, parse_net_untoken};
+use crate::declarations::{
+    parse_declare_final, parse_net_queryable, parse_net_sub, parse_net_token,
+    parse_net_unqueryable, parse_net_unsub, parse_net_untoken,
+};
 use crate::options::default_encoding;
 use crate::parts::Fields;
 use crate::requests::parse_request;
@@ -24,6 +27,10 @@ pub(crate) fn parse_net(alloc: Global, fields: &mut Fields<'_>) -> Result<Option
     match word {
         "keyexpr" => parse_key_expr(alloc, fields),
         "unkeyexpr" => Ok(parse_unkey_expr(fields)),
+        "sub" => parse_net_sub(alloc, fields),
+        "unsub" => Ok(parse_net_unsub(fields)),
+        "queryable" => parse_net_queryable(alloc, fields),
+        "unqueryable" => Ok(parse_net_unqueryable(fields)),
         "token" => parse_net_token(alloc, fields),
         "untoken" => parse_net_untoken(alloc, fields),
         "declarefinal" => Ok(parse_declare_final(fields)),

@@ -3,23 +3,23 @@
 ghost use Rattle.std.specs.Prelude.{◌≡◌, [], Some, IfOk, option_map, codes};
 ghost use Rattle.zs_script.specs.Options.{encoding_text_of, priority_of, congestion_of, flag_of};
 ghost use Rattle.zs_script.specs.Symbols.{u16_max, u32_max, u64_max, payload_of};
-ghost use Rattle.zs_script.specs.Parts.{first_of, behind, named_in, option_in, maybe_in, number, locality, background_kind, complete, history, key, selector, wire, wire_if, payload, parameters, target, consolidation, timeout, value as given, encoding, own_encoding, timestamp, qos, own_priority, own_congestion, own_express, reliable, source, attachment, responder, any_key, token, interest, read, form};
+ghost use Rattle.zs_script.specs.Parts.{first_of, behind, named_in, option_in, maybe_in, number, locality, background_kind, parent, complete, history, key, selector, wire, payload, encoding, own_encoding, timestamp, qos, reliable, source, attachment, channel_kind, read, form};
 
+use crate::channels::parse_channel_kind;
 use crate::numbers::parse_number;
 use crate::options::{
-    default_encoding, empty_text, parse_any_key, parse_congestion, parse_consolidation,
-    parse_encoding, parse_entity, parse_flag, parse_priority, parse_source, parse_target,
-    parse_timestamp, value_of,
+    default_encoding, parse_congestion, parse_encoding, parse_flag, parse_priority, parse_source,
+    parse_timestamp,
 };
 use crate::symbols::{
-    after_prefix, naming, parse_background_kind, parse_complete, parse_history, parse_id,
-    parse_key, parse_key_number, parse_locality, parse_payload, parse_selector, parse_wire,
+    after_prefix, parse_background_kind, parse_complete, parse_history, parse_id, parse_key,
+    parse_key_number, parse_locality, parse_parent, parse_payload, parse_selector, parse_wire,
 };
 use std::alloc::{AllocError, Global};
 use std::marker::Model;
-use zs_events::{BackgroundKind, Event, KeyArg};
-use zs_sample::{ConsolidationMode, Locality, QueryTarget, Text, ZBytes};
-use zs_wire::{CongestionControl, EntityGlobalId, QoSType, SourceInfo, Timestamp, Value, WireExpr};
+use zs_events::{BackgroundKind, Event, KeyArg, Kind, ParentKind, ScriptEvent};
+use zs_sample::{Locality, Text, ZBytes};
+use zs_wire::{CongestionControl, QoSType, SourceInfo, Timestamp, WireExpr};
 
 /// The fields of a line that are left. Contracts see their texts.
 #[derive(Drop)]
@@ -57,7 +57,7 @@ impl<'a> Fields<'a> {
         Some(*first)
     }
 
-    fn first(&self) -> Option<&'a str>
+    pub(crate) fn first(&self) -> Option<&'a str>
         ensures { option_map (λ field. field.now) result ≡ first_of self.now }
     {
         let [first, ..] = self.rest else {
@@ -67,7 +67,7 @@ impl<'a> Fields<'a> {
     }
 
     /// What stands behind this name in the first field, if it begins with it.
-    fn named(&self, name: &str) -> Option<&'a str>
+    pub(crate) fn named(&self, name: &str) -> Option<&'a str>
         ensures { option_map (λ value. value.now) result ≡ named_in name.now self.now }
     {
         let [first, ..] = self.rest else {
@@ -77,13 +77,25 @@ impl<'a> Fields<'a> {
     }
 
     /// The first field is there no more.
-    fn skip(&mut self)
+    pub(crate) fn skip(&mut self)
         ensures { self.new ≡ behind self.old }
     {
         let _skipped = self.next();
     }
 
     /// What was made, if no field is left over.
+    #[tactic(auto, unfolding(crate::specs::Parts::form))]
+    pub(crate) fn finish_line(&self, made: ScriptEvent) -> Option<ScriptEvent>
+        ensures { result ≡ form [] made self.now }
+    {
+        if let [] = self.rest {
+            return Some(made);
+        }
+        drop(made);
+        None
+    }
+
+    /// The event that was made, if no field is left over.
     #[tactic(auto, unfolding(crate::specs::Parts::form))]
     pub(crate) fn finish(&self, made: Event) -> Option<Event>
         ensures { result ≡ form [] made self.now }
@@ -138,6 +150,15 @@ impl<'a> Fields<'a> {
         parse_background_kind(field)
     }
 
+    /// Whose matching is asked for.
+    #[tactic(auto, unfolding(crate::specs::Parts::read))]
+    pub(crate) fn parent(&mut self) -> Option<ParentKind>
+        ensures { read parent self.old ≡ option_map (λ value. (value, self.new)) result }
+    {
+        let field = self.next()?;
+        parse_parent(field)
+    }
+
     /// Whether a liveliness subscriber is told of what lives already.
     #[tactic(auto, unfolding(crate::specs::Parts::read))]
     pub(crate) fn history(&mut self) -> Option<bool>
@@ -145,6 +166,15 @@ impl<'a> Fields<'a> {
     {
         let field = self.next()?;
         parse_history(field)
+    }
+
+    /// What has a channel.
+    #[tactic(auto, unfolding(crate::specs::Parts::read))]
+    pub(crate) fn channel_kind(&mut self) -> Option<Kind>
+        ensures { read channel_kind self.old ≡ option_map (λ value. (value, self.new)) result }
+    {
+        let field = self.next()?;
+        parse_channel_kind(field)
     }
 
     /// Whether a queryable has all that is there.
@@ -219,7 +249,7 @@ impl<'a> Fields<'a> {
         self.encoding_if(alloc)
     }
 
-    fn encoding_if(&mut self, alloc: Global) -> Result<Option<Text>, AllocError>
+    pub(crate) fn encoding_if(&mut self, alloc: Global) -> Result<Option<Text>, AllocError>
         ensures { IfOk result (λ value. maybe_in (codes "enc=") encoding_text_of self.old ≡ (value, self.new)) }
     {
         let Some(text) = self.named("enc=") else {
@@ -313,7 +343,7 @@ impl<'a> Fields<'a> {
         self.bytes(alloc, "att=")
     }
 
-    fn bytes(&mut self, alloc: Global, name: &str) -> Result<Option<ZBytes>, AllocError>
+    pub(crate) fn bytes(&mut self, alloc: Global, name: &str) -> Result<Option<ZBytes>, AllocError>
         ensures { IfOk result (λ value. maybe_in name.now payload_of self.old ≡ (value, self.new)) }
     {
         let Some(text) = self.named(name) else {
@@ -324,155 +354,5 @@ impl<'a> Fields<'a> {
         };
         self.skip();
         Ok(Some(found))
-    }
-}
-
-/// Options of queries and of what they are answered.
-impl<'a> Fields<'a> {
-    #[tactic(auto, unfolding(crate::specs::Parts::read))]
-    pub(crate) fn parameters(&mut self, alloc: Global) -> Result<Text, AllocError>
-        ensures { IfOk result (λ value. read parameters self.old ≡ Some (value, self.new)) }
-    {
-        let Some(text) = self.named("params=") else {
-            return Ok(empty_text());
-        };
-        let found = Text::of(alloc, text)?;
-        self.skip();
-        Ok(found)
-    }
-
-    #[tactic(auto, unfolding(crate::specs::Parts::read))]
-    pub(crate) fn target(&mut self) -> QueryTarget
-        ensures { read target self.old ≡ Some (result, self.new) }
-    {
-        let Some(text) = self.named("target=") else {
-            return QueryTarget::BestMatching;
-        };
-        let Some(found) = parse_target(text) else {
-            return QueryTarget::BestMatching;
-        };
-        self.skip();
-        found
-    }
-
-    #[tactic(auto, unfolding(crate::specs::Parts::read))]
-    pub(crate) fn consolidation(&mut self) -> ConsolidationMode
-        ensures { read consolidation self.old ≡ Some (result, self.new) }
-    {
-        let Some(text) = self.named("cons=") else {
-            return ConsolidationMode::Auto;
-        };
-        let Some(found) = parse_consolidation(text) else {
-            return ConsolidationMode::Auto;
-        };
-        self.skip();
-        found
-    }
-
-    #[tactic(auto, unfolding(crate::specs::Parts::read))]
-    pub(crate) fn timeout(&mut self) -> Option<u64>
-        ensures { read timeout self.old ≡ Some (result, self.new) }
-    {
-        let found = parse_number(u64::MAX, self.named("timeout=")?.as_bytes())?;
-        self.skip();
-        Some(found)
-    }
-
-    /// A value: its payload and its encoding, of which one alone is enough.
-    #[tactic(auto, unfolding(crate::specs::Parts::read))]
-    pub(crate) fn value(&mut self, alloc: Global) -> Result<Option<Value>, AllocError>
-        ensures { IfOk result (λ value. read given self.old ≡ Some (value, self.new)) }
-    {
-        let payload = self.bytes(alloc, "payload=")?;
-        let encoding = self.encoding_if(alloc)?;
-        Ok(value_of(payload, encoding))
-    }
-
-    /// A priority of its own, if it is given.
-    #[tactic(auto, unfolding(crate::specs::Parts::read))]
-    pub(crate) fn own_priority(&mut self) -> Option<u8>
-        ensures { read own_priority self.old ≡ Some (result, self.new) }
-    {
-        let found = parse_priority(1, self.named("prio=")?)?;
-        self.skip();
-        Some(found)
-    }
-
-    #[tactic(auto, unfolding(crate::specs::Parts::read))]
-    pub(crate) fn own_congestion(&mut self) -> Option<CongestionControl>
-        ensures { read own_congestion self.old ≡ Some (result, self.new) }
-    {
-        let found = parse_congestion(self.named("cc=")?)?;
-        self.skip();
-        Some(found)
-    }
-
-    #[tactic(auto, unfolding(crate::specs::Parts::read))]
-    pub(crate) fn own_express(&mut self) -> Option<bool>
-        ensures { read own_express self.old ≡ Some (result, self.new) }
-    {
-        let found = parse_flag(self.named("express=")?)?;
-        self.skip();
-        Some(found)
-    }
-
-    /// Who replied.
-    #[tactic(auto, unfolding(crate::specs::Parts::read))]
-    pub(crate) fn responder(&mut self) -> Option<EntityGlobalId>
-        ensures { read responder self.old ≡ Some (result, self.new) }
-    {
-        let found = parse_entity(self.named("by=")?)?;
-        self.skip();
-        Some(found)
-    }
-
-    /// A key that may be left out: a wire expression that names nothing is like none.
-    #[tactic(auto, unfolding(crate::specs::Parts::read))]
-    pub(crate) fn wire_if(&mut self, alloc: Global) -> Result<Option<WireExpr>, AllocError>
-        ensures { IfOk result (λ value. read wire_if self.old ≡ Some (value, self.new)) }
-    {
-        let Some(field) = self.first() else {
-            return Ok(None);
-        };
-        let Some(found) = parse_wire(alloc, field)? else {
-            return Ok(None);
-        };
-        self.skip();
-        Ok(naming(found))
-    }
-
-    /// The cancellation token by which a get can be cancelled.
-    #[tactic(auto, unfolding(crate::specs::Parts::read))]
-    pub(crate) fn token(&mut self) -> Option<u32>
-        ensures { read token self.old ≡ Some (result, self.new) }
-    {
-        let found = parse_id(self.named("token=")?)?;
-        self.skip();
-        Some(found)
-    }
-
-    /// The interest that a message answers.
-    #[tactic(auto, unfolding(crate::specs::Parts::read))]
-    pub(crate) fn interest(&mut self) -> Option<u32>
-        ensures { read interest self.old ≡ Some (result, self.new) }
-    {
-        let found = parse_id(self.named("interest=")?)?;
-        self.skip();
-        Some(found)
-    }
-
-    /// Whether replies are taken on any key.
-    #[tactic(auto, unfolding(crate::specs::Parts::read))]
-    pub(crate) fn any_key(&mut self) -> bool
-        ensures { read any_key self.old ≡ Some (result, self.new) }
-    {
-        let Some(text) = self.named("accept=") else {
-            return false;
-        };
-        let Some(found) = parse_any_key(text) else {
-            return false;
-        };
-        self.skip();
-        found
     }
 }

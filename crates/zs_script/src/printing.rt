@@ -3,8 +3,9 @@
 ghost use Rattle.std.specs.Prelude.{◌≡◌, [], ◌∷◌, ◌++◌, IfOk, OnOk, flat_map, encode_utf8_all};
 ghost use Rattle.std.specs.String.{string_bytes};
 ghost use Rattle.zs_script.specs.Pieces.{word, number, responder, pieces_text};
-ghost use Rattle.zs_events.specs.declared.turn.Effect.TheVariants.{Send, Hand};
-ghost use Rattle.zs_script.specs.Printing.{line, turn_text, answer_fields, effect_fields, effect_pieces, sample_qos, sample_head, sample_options, sample_pieces, hand_pieces, error_pieces, replied_pieces, asked_qos, asked_head, asked_options, queried_pieces};
+ghost use Rattle.zs_events.specs.declared.received.Received.TheVariants.{Item};
+ghost use Rattle.zs_events.specs.declared.turn.Effect.TheVariants.{Send, Hand, Matching};
+ghost use Rattle.zs_script.specs.Printing.{line, turn_text, answer_fields, effect_fields, effect_pieces, sample_qos, sample_head, sample_options, sample_pieces, hand_pieces, error_pieces, reply_item_pieces, replied_pieces, asked_qos, asked_head, asked_options, asked_pieces, queried_pieces, received_pieces, received_fields};
 ghost use Rattle.zs_script.specs.Words.{kind_word};
 
 use crate::message_printing::append_message;
@@ -13,9 +14,10 @@ use crate::piece_printing::{
     append_payload_if, append_qos, append_reliable, append_responder, append_sample_encoding,
     append_source, append_timestamp, append_word,
 };
-use crate::words::{is_reliable, kind_word, refusal_name, sample_word};
+use crate::repeats::{Last, append_handed};
+use crate::words::{is_reliable, kind_word, refusal_name, sample_word, truth_word};
 use std::alloc::{AllocError, Global};
-use zs_events::{Answer, Effect, HandOver, Kind, Turn};
+use zs_events::{Answer, Effect, HandOver, Kind, Received, Turn};
 use zs_query::QueryData;
 use zs_sample::{QoSType, Reply, ReplyError, Sample, Text};
 use zs_wire::Message;
@@ -38,6 +40,45 @@ pub fn append_turn(out: &mut String, number: u64, turn: &Turn) -> Result<(), All
     append_effects(out, number, turn.effects.as_slice())
 }
 
+/// Puts the line of what a read of a channel is answered behind a text, as `append_turn` does with a turn.
+#[tactic(auto, using(crate::proofs::Joining::line_joining))]
+pub fn append_received(
+    out: &mut String,
+    number: u64,
+    received: &Received<HandOver>,
+) -> Result<(), AllocError>
+    ensures { OnOk result (string_bytes out.new ≡ string_bytes out.old ++ line number (received_fields received.now)) }
+{
+    write!(out, "{number}")?;
+    append_received_pieces(out, received)?;
+    out.push('\n')
+}
+
+#[tactic(auto, using(crate::proofs::Joining::joining))]
+fn append_received_pieces(out: &mut String, received: &Received<HandOver>) -> Result<(), AllocError>
+    ensures { OnOk result (string_bytes out.new ≡ string_bytes out.old ++ pieces_text (received_pieces received.now)) }
+{
+    match received {
+        Received::Item(item) => append_item(out, item),
+        Received::Empty => append_word(out, "empty"),
+        Received::Disconnected => append_word(out, "disconnected"),
+        Received::Deleted => append_word(out, "deleted"),
+    }
+}
+
+/// An item of a channel.
+#[tactic(auto, using(crate::proofs::Joining::joining))]
+fn append_item(out: &mut String, item: &HandOver) -> Result<(), AllocError>
+    ensures { OnOk result (string_bytes out.new ≡ string_bytes out.old ++ pieces_text (received_pieces (Item item.now))) }
+{
+    append_word(out, "item")?;
+    match item {
+        HandOver::Sample { sample, .. } => append_sample(out, sample),
+        HandOver::Reply { reply, .. } => append_reply_item(out, reply),
+        HandOver::Query { query, .. } => append_asked(out, query),
+    }
+}
+
 fn append_answer(out: &mut String, number: u64, answer: &Answer) -> Result<(), AllocError>
     ensures { OnOk result (string_bytes out.new ≡ string_bytes out.old ++ line number (answer_fields answer.now)) }
 {
@@ -55,38 +96,54 @@ fn append_effects(out: &mut String, number: u64, effects: &[Effect]) -> Result<(
     ensures { OnOk result (string_bytes out.new
         ≡ string_bytes out.old ++ flat_map (λ effect. line number (effect_fields effect)) effects.now) }
 {
+    let mut last = Last::Nothing;
     for effect in effects {
-        append_effect(out, number, effect)?;
+        append_effect(out, number, effect, &mut last)?;
     }
+    drop(last);
     Ok(())
 }
 
 /// The line of an effect.
 #[tactic(auto, using(crate::proofs::Joining::line_joining))]
-fn append_effect(out: &mut String, number: u64, effect: &Effect) -> Result<(), AllocError>
+fn append_effect<'a>(
+    out: &mut String,
+    number: u64,
+    effect: &'a Effect,
+    last: &mut Last<'a>,
+) -> Result<(), AllocError>
     ensures { OnOk result (string_bytes out.new ≡ string_bytes out.old ++ line number (effect_fields effect.now)) }
 {
     write!(out, "{number}")?;
-    append_effect_pieces(out, effect)?;
+    append_effect_pieces(out, effect, last)?;
     out.push('\n')
 }
 
 #[tactic(auto, using(crate::proofs::Joining::joining))]
-fn append_effect_pieces(out: &mut String, effect: &Effect) -> Result<(), AllocError>
+fn append_effect_pieces<'a>(
+    out: &mut String,
+    effect: &'a Effect,
+    last: &mut Last<'a>,
+) -> Result<(), AllocError>
     ensures { OnOk result (string_bytes out.new ≡ string_bytes out.old ++ pieces_text (effect_pieces effect.now)) }
 {
     match effect {
         Effect::Send(message) => append_sent(out, message),
-        Effect::Hand(hand) => append_hand_over(out, hand),
+        Effect::Hand(hand) => append_hand_over(out, hand, last),
         Effect::End { kind, id } => append_of(out, "end", *kind, *id),
+        Effect::Matching { id, matching } => append_matching(out, *id, *matching),
     }
 }
 
-fn append_hand_over(out: &mut String, hand: &HandOver) -> Result<(), AllocError>
+fn append_hand_over<'a>(
+    out: &mut String,
+    hand: &'a HandOver,
+    last: &mut Last<'a>,
+) -> Result<(), AllocError>
     ensures { OnOk result (string_bytes out.new ≡ string_bytes out.old ++ pieces_text (effect_pieces (Hand hand.now))) }
 {
     match hand {
-        HandOver::Sample { kind, id, sample } => append_hand(out, *kind, *id, sample),
+        HandOver::Sample { kind, id, sample } => append_hand(out, *kind, *id, sample, last),
         HandOver::Reply { kind, id, reply } => append_replied(out, *kind, *id, reply),
         HandOver::Query { id, value, query } => append_queried(out, *id, *value, query),
     }
@@ -111,22 +168,48 @@ fn append_of(out: &mut String, text: &str, kind: Kind, id: u32) -> Result<(), Al
     append_number(out, id)
 }
 
+/// What a listener is told.
+#[tactic(auto, using(crate::proofs::Joining::joining))]
+fn append_matching(out: &mut String, id: u32, matching: bool) -> Result<(), AllocError>
+    ensures { OnOk result (string_bytes out.new
+        ≡ string_bytes out.old ++ pieces_text (effect_pieces (Matching id matching))) }
+{
+    append_word(out, "match")?;
+    append_number(out, id)?;
+    append_word(out, truth_word(matching))
+}
+
 #[tactic(auto, using(crate::proofs::Joining::joining), unfolding(crate::specs::Printing::hand_pieces))]
-fn append_hand(out: &mut String, kind: Kind, id: u32, sample: &Sample) -> Result<(), AllocError>
+fn append_hand<'a>(
+    out: &mut String,
+    kind: Kind,
+    id: u32,
+    sample: &'a Sample,
+    last: &mut Last<'a>,
+) -> Result<(), AllocError>
     ensures { OnOk result (string_bytes out.new
         ≡ string_bytes out.old ++ pieces_text (hand_pieces kind id sample.now)) }
 {
     append_of(out, "hand", kind, id)?;
-    append_sample(out, sample)
+    append_handed(out, sample, last)
 }
 
-/// A reply that a get is handed, and who sent it.
+/// A reply that a get is handed.
 #[tactic(auto, using(crate::proofs::Joining::joining), unfolding(crate::specs::Printing::replied_pieces))]
 fn append_replied(out: &mut String, kind: Kind, id: u32, reply: &Reply) -> Result<(), AllocError>
     ensures { OnOk result (string_bytes out.new
         ≡ string_bytes out.old ++ pieces_text (replied_pieces kind id reply.now)) }
 {
     append_of(out, "reply", kind, id)?;
+    append_reply_item(out, reply)
+}
+
+/// What a reply brings, and who sent it.
+#[tactic(auto, using(crate::proofs::Joining::joining))]
+fn append_reply_item(out: &mut String, reply: &Reply) -> Result<(), AllocError>
+    ensures { OnOk result (string_bytes out.new
+        ≡ string_bytes out.old ++ pieces_text (reply_item_pieces reply.now)) }
+{
     match reply.result() {
         Ok(sample) => append_sample(out, sample)?,
         Err(error) => append_error(out, error)?,
@@ -144,7 +227,7 @@ fn append_error(out: &mut String, error: &ReplyError) -> Result<(), AllocError>
 }
 
 #[tactic(auto, using(crate::proofs::Joining::joining))]
-fn append_sample(out: &mut String, sample: &Sample) -> Result<(), AllocError>
+pub(crate) fn append_sample(out: &mut String, sample: &Sample) -> Result<(), AllocError>
     ensures { OnOk result (string_bytes out.new ≡ string_bytes out.old ++ pieces_text (sample_pieces sample.now)) }
 {
     append_sample_head(out, sample)?;
@@ -173,7 +256,7 @@ fn append_sample_options(out: &mut String, sample: &Sample) -> Result<(), AllocE
 }
 
 /// The quality of service of a sample.
-fn sample_qos(sample: &Sample) -> QoSType
+pub(crate) fn sample_qos(sample: &Sample) -> QoSType
     ensures { result ≡ sample_qos sample.now }
 {
     QoSType {
@@ -196,6 +279,13 @@ fn append_queried(
 {
     append_of(out, "hand", Kind::Queryable, id)?;
     append_number(out, count)?;
+    append_asked(out, query)
+}
+
+#[tactic(auto, using(crate::proofs::Joining::joining))]
+fn append_asked(out: &mut String, query: &QueryData) -> Result<(), AllocError>
+    ensures { OnOk result (string_bytes out.new ≡ string_bytes out.old ++ pieces_text (asked_pieces query.now)) }
+{
     append_asked_head(out, query)?;
     append_asked_options(out, query)
 }

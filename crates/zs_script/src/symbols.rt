@@ -3,12 +3,12 @@
 ghost use Rattle.std.specs.Prelude.{◌≡◌, ◌==◌, Some, IfOk, option_map};
 ghost use Rattle.std.specs.List.{before_first, after_first};
 ghost use Rattle.zs_script.specs.Parts.{selector_of};
-ghost use Rattle.zs_script.specs.Symbols.{number_of, u16_max, u32_max, locality_of, entity_kind_of, background_kind_of, complete_of, history_of, is_colon, numbered_of, key_of, payload_of, after_prefix, scoped_of, wire_of, naming};
+ghost use Rattle.zs_script.specs.Symbols.{number_of, u16_max, u32_max, locality_of, entity_kind_of, background_kind_of, parent_of, complete_of, history_of, is_colon, numbered_of, key_of, payload_of, after_prefix, scoped_of, wire_of, naming};
 
 use crate::numbers::parse_number;
 use hex::FromHexError;
 use std::alloc::{AllocError, Global};
-use zs_events::{BackgroundKind, EntityKind, KeyArg};
+use zs_events::{BackgroundKind, EntityKind, KeyArg, ParentKind};
 use zs_sample::{Locality, Text, ZBytes};
 use zs_wire::{Mapping, WireExpr};
 
@@ -61,6 +61,7 @@ pub(crate) fn parse_entity_kind(field: &str) -> Option<EntityKind>
         "pub" => Some(EntityKind::Pub),
         "queryable" => Some(EntityKind::Queryable),
         "querier" => Some(EntityKind::Querier),
+        "listener" => Some(EntityKind::Listener),
         "token" => Some(EntityKind::Token),
         "lsub" => Some(EntityKind::Lsub),
         _ => None,
@@ -74,7 +75,19 @@ pub(crate) fn parse_background_kind(field: &str) -> Option<BackgroundKind>
     match field {
         "sub" => Some(BackgroundKind::Sub),
         "queryable" => Some(BackgroundKind::Queryable),
+        "listener" => Some(BackgroundKind::Listener),
         "lsub" => Some(BackgroundKind::Lsub),
+        _ => None,
+    }
+}
+
+/// A word for whose matching is asked for.
+pub(crate) fn parse_parent(field: &str) -> Option<ParentKind>
+    ensures { result ≡ parent_of field.now }
+{
+    match field {
+        "pub" => Some(ParentKind::Pub),
+        "querier" => Some(ParentKind::Querier),
         _ => None,
     }
 }

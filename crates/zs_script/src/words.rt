@@ -1,7 +1,7 @@
 //! The words that stand for values in printed lines.
 
 ghost use Rattle.std.specs.Prelude.{◌≡◌};
-ghost use Rattle.zs_script.specs.Words.{refusal_name, kind_word, sample_word, congestion_word, flag_digit, is_reliable, complete_word, target_word, consolidation_word, mode_word, what_word};
+ghost use Rattle.zs_script.specs.Words.{refusal_name, kind_word, sample_word, congestion_word, flag_digit, is_reliable, complete_word, truth_word, target_word, consolidation_word, mode_word, what_word};
 
 use zs_events::{Kind, Refusal};
 use zs_sample::{CongestionControl, ConsolidationMode, QueryTarget, Reliability, SampleKind};
@@ -83,6 +83,13 @@ pub(crate) fn complete_word(complete: bool) -> &'static str
     ensures { result.now ≡ complete_word complete }
 {
     if complete { "complete" } else { "partial" }
+}
+
+/// The word for whether anyone matches.
+pub(crate) fn truth_word(matching: bool) -> &'static str
+    ensures { result.now ≡ truth_word matching }
+{
+    if matching { "true" } else { "false" }
 }
 
 /// The word for whom a query reaches.

@@ -33,3 +33,15 @@ unfolding net_of
 returns-in-untoken c =
     let first : first_of c.args.fields.now ≡ Some (codes "untoken") = sym c.in-Some.ensures.first ∙ ap Some c.in-untoken.is in
     rw (by-first net_by c.args.fields.now (codes "untoken") first) (rw c.next.ensures.rest at c.parse_net_untoken.ensures)
+
+pub returns-in-sub : goal.returns-in-sub
+unfolding net_of
+returns-in-sub c =
+    let first : first_of c.args.fields.now ≡ Some (codes "sub") = sym c.in-Some.ensures.first ∙ ap Some c.in-sub.is in
+    rw (by-first net_by c.args.fields.now (codes "sub") first) (rw c.next.ensures.rest at c.parse_net_sub.ensures)
+
+pub returns-in-queryable : goal.returns-in-queryable
+unfolding net_of
+returns-in-queryable c =
+    let first : first_of c.args.fields.now ≡ Some (codes "queryable") = sym c.in-Some.ensures.first ∙ ap Some c.in-queryable.is in
+    rw (by-first net_by c.args.fields.now (codes "queryable") first) (rw c.next.ensures.rest at c.parse_net_queryable.ensures)
