@@ -5,8 +5,7 @@ use Rattle.std.proofs.lemmas.List.{append-nil}
 use Rattle.std.proofs.lemmas.Bool.Decides.{nat_tests}
 use Rattle.std.proofs.lemmas.Result.{err_from_is_err_and}
 use Rattle.zs_keys.specs.Stream.{HasRisen, PutsOn, TakesOff, count_after}
-use Rattle.zs_core.specs.World.{World}
-use Rattle.zs_events.specs.declared.event.Event.{Event}
+use Rattle.zs_events.specs.declared.script_event.ScriptEvent.{ScriptEvent}
 use Rattle.zs_core.specs.declared.settings.Settings.{Settings}
 use Rattle.zs_script.specs.Reading.{Reading, Reads, Answers, IsAtEnd, IsSpent}
 use Rattle.zs_script.specs.Writing.{PutsFrontOn}
@@ -16,6 +15,7 @@ use Rattle.zs_script.proofs.Answering.{count-none, count-two}
 use Rattle.zs_script.proofs.Pieces.{both-pieces}
 use Rattle.zs_session.specs.declared.driving.Driven.{Driven}
 use Rattle.zs_session.specs.declared.errors.DriveError.{DriveError}
+use Rattle.zs_session.specs.declared.scripted.ScriptedSession.{ScriptedSession}
 use Rattle.zs_session.specs.declared.errors.DriveError.TheVariants.{ReadFault, WriteFault, BadLine, LineTooLong, OutOfTurns, NoMemory}
 use Rattle.zs_session.specs.Driving.{Drives, HasSpentTurns, IsDone, IsFront, StopsAt, IsNoEvent, IsLong, PutsWaiting, Supply, Outlet}
 use Rattle.zs_session.specs.Errors.{drive_error}
@@ -245,14 +245,14 @@ drives_failed s was r before after from mid to waiting d put later risen now =
 
 -- a stop behind a call of the reader
 pub err_next : (s : Settings) (e : DriveError) (r : Result Driven DriveError) (before mid after : Supply) (from to : Outlet) (Puts : List ℕ → Type 0)
-    (old new : Reading) (given : List ℕ) (state : World) (number : ℕ) → IsErrAnd r (λ y. y ≡ e)
-    → Progress s before.left mid.left old Puts state number → Counted s before mid old
+    (old new : Reading) (given : List ℕ) (run : ScriptedSession) (number : ℕ) → IsErrAnd r (λ y. y ≡ e)
+    → Progress s before.left mid.left old Puts run number → Counted s before mid old
     → TakesOff mid.left given after.left → Reads old new given → (IsAtEnd old mid.left → new.ended ≡ true → IsSpent mid.left after.left)
     → after.pieces ≡ count_after mid.pieces (old.turns - new.turns) → before.faults ≤ after.faults → from.faults ≤ to.faults
     → CauseOf s e before after from to Puts → Drives s r before after from to Puts
-err_next s e r before mid after from to Puts old new given state number now p counted took reads end pieces later later' cause =
+err_next s e r before mid after from to Puts old new given run number now p counted took reads end pieces later later' cause =
     handed_on s r e before after from to Puts now (stops s e before after from to Puts (record {
-      front = front_read s before.left mid.left after.left old new Puts state number p given took reads end;
+      front = front_read s before.left mid.left after.left old new Puts run number p given took reads end;
       few_reads = few_next s before mid after old new given counted reads pieces;
       source_later = later;
       sink_later = later';
@@ -274,7 +274,7 @@ ends_well s driven before after from to Puts done left = record {
   sink_later = left.sink_later;
 }
 
-pub none_from : (o : Option Event) → ((e : Event) → o ≡ Some e → ⊥) → o ≡ None
+pub none_from : (o : Option ScriptEvent) → ((e : ScriptEvent) → o ≡ Some e → ⊥) → o ≡ None
 none_from None never = refl
 none_from (Some e) never = absurd (never e refl)
 

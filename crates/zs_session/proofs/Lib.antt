@@ -1,4 +1,5 @@
 pub mod Cutting
+pub mod ChannelsHeard
 pub mod PlainKeys
 pub mod PlainParameters
 pub mod PlainSends
@@ -7,6 +8,7 @@ pub mod PlainGets
 pub mod PlainAnswers
 pub mod PlainLiveliness
 pub mod Telling
+pub mod ReadsTold
 pub mod Scripts
 pub mod Soaking
 pub mod Progress

@@ -11,7 +11,6 @@ use Rattle.zs_wire.specs.declared.wire_expr.WireExpr.{WireExpr}
 use Rattle.zs_sample.specs.Reply.{Replied}
 use Rattle.zs_query.specs.declared.open_get.OpenGet.{OpenGet}
 use Rattle.zs_query.specs.declared.query_value.QueryValue.{QueryValue}
-use Rattle.zs_query.specs.declared.request_row.RequestRow.{RequestRow}
 use Rattle.zs_query.specs.declared.requests.Finished.{Finished}
 use Rattle.zs_query.specs.declared.requests.Finished.TheVariants.{Unknown, MoreLeft, Last}
 use Rattle.zs_query.specs.declared.side.Side.TheVariants.{Local}
@@ -22,7 +21,7 @@ use Rattle.zs_events.specs.Kinds.{NamedKey, ReplyQuality, ToValues, NoValue, Req
 use Rattle.zs_core.specs.Sends.{full_wire, wire_form, declaration_of}
 use Rattle.zs_core.specs.GetEffects.{final_effects}
 use Rattle.zs_core.specs.Answers.{quality_of, replier_of, local_reply, local_error, response_by}
-use Rattle.zs_core.specs.ValueEffects.{Answering, requested_effects, error_effects, replied_effects, reply_for_value, error_for_value, answer_effects, answer_error_effects, finish_effects, value_effects}
+use Rattle.zs_core.specs.ValueEffects.{Answering, requested_effects, error_effects, replied_effects, reply_for_value, answer_effects, answer_error_effects, finish_effects, value_effects}
 use Rattle.zs_script.specs.Plain.{is_plain_text}
 use Rattle.zs_session.proofs.PlainKeys.{IsText, plain_encoding, found_all}
 use Rattle.zs_session.proofs.PlainSends.{AreQuiet, AreTexts, chars_plain, wire_plain}

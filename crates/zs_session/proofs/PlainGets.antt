@@ -3,12 +3,12 @@
 use Rattle.std.proofs.Common.{◌≡◌, ℕ, ◌==◌, ◌++◌, List, [], ◌∷◌, map, filter, Bool, true, false, not, ◌&&◌, Option, Some, None, IfSome, refl}
 use Rattle.std.specs.Prelude.{chars, if◌then◌else◌, option_map}
 use Rattle.std.specs.List.{AllByRecursion, list_all, flat_map}
-use Rattle.std.proofs.lemmas.Bool.{and_parts, and_from}
+use Rattle.std.proofs.lemmas.Bool.{and_from}
 use Rattle.zs_sample.specs.Encoding.{encoding_of}
 use Rattle.zs_sample.specs.Reply.{Replied}
 use Rattle.zs_wire.specs.declared.body.Body.{Body}
 use Rattle.zs_wire.specs.declared.body.Value.{Value}
-use Rattle.zs_wire.specs.declared.message.Message.TheVariants.{Request, Response as response_message}
+use Rattle.zs_wire.specs.declared.message.Message.TheVariants.{Request}
 use Rattle.zs_wire.specs.declared.response.Answered.{Answered}
 use Rattle.zs_wire.specs.declared.response.Answered.TheVariants.{Reply, Err as Error}
 use Rattle.zs_wire.specs.declared.response.Response.{Response}
@@ -27,8 +27,6 @@ use Rattle.zs_query.specs.Asked.{News, Quiet, ReplyTo, FinalOf, AtMoment, Querie
 use Rattle.zs_query.proofs.Keeping.{all_firsts}
 use Rattle.zs_wire.specs.declared.request.ConsolidationMode.{ConsolidationMode}
 use Rattle.zs_wire.specs.declared.request.ConsolidationMode.TheVariants as by
-use Rattle.zs_events.specs.declared.event.Event.{Event}
-use Rattle.zs_events.specs.declared.event.Event.TheVariants.{Get, Net}
 use Rattle.zs_events.specs.declared.turn.Effect.TheVariants.{Send}
 use Rattle.zs_events.specs.Kinds.{NamedKey, Question, ToGets, NoGet, Asks, AsksBy, Answers, EndsSide, Reaches, EndsQuerier, Cancels, EndsAll, ReplyQuality, ToValues, AnswersBy, GivesBack, value_texts, response_texts, row_of}
 use Rattle.zs_core.specs.declared.settings.Settings.{Settings}
@@ -54,7 +52,7 @@ use Rattle.zs_query.specs.declared.side.Side.{Side}
 use Rattle.zs_tables.specs.declared.queryable.QueryableRow.{QueryableRow}
 use Rattle.zs_wire.specs.declared.origin.EntityGlobalId.{EntityGlobalId}
 use Rattle.zs_wire.specs.declared.quality.QoSType.{QoSType}
-use Rattle.zs_script.specs.Plain.{is_plain, is_plain_text, is_field_text, is_plain_key, is_plain_named, is_plain_outcome, is_plain_event, message_texts}
+use Rattle.zs_script.specs.Plain.{is_plain, is_plain_text, is_plain_outcome, message_texts}
 use Rattle.zs_session.proofs.Cutting.{all_append}
 use Rattle.zs_session.proofs.PlainKeys.{IsText, AllPlain, PlainPast, plain_encoding, plain_handed, filter_all, found_all}
 use Rattle.zs_session.proofs.PlainValues.{PlainToGets, PlainToValues, PlainValue, to_plain, does_plain, queries_quiet}

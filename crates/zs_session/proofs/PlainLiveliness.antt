@@ -1,6 +1,6 @@
 -- What is told of tokens tells of no refusal and no sample handed to a subscriber, and its texts are plain: each token's key came with
 -- a plain event.
-use Rattle.std.proofs.Common.{◌≡◌, ℕ, ◌==◌, ◌++◌, List, [], ◌∷◌, map, filter, Bool, true, false, not, ◌&&◌, Option, Some, None, IfSome, refl}
+use Rattle.std.proofs.Common.{◌≡◌, ℕ, ◌==◌, List, [], ◌∷◌, map, filter, Bool, true, false, not, Option, Some, None, IfSome}
 use Rattle.std.specs.Prelude.{is_some, nat_lt, if◌then◌else◌}
 use Rattle.std.specs.List.{AllByRecursion, find, list_any}
 use Rattle.std.proofs.lemmas.Bool.{and_from}
@@ -19,7 +19,7 @@ use Rattle.zs_core.specs.declared.settings.Settings.{Settings}
 use Rattle.zs_core.specs.Entry.{Entry}
 use Rattle.zs_core.specs.Publications.{handed_encoding}
 use Rattle.zs_core.specs.Tokens.{asking_now, answers, is_told, token_told, told_behind, told_tokens}
-use Rattle.zs_core.specs.LivelinessEffects.{Watch, token_sample, hand_token, token_hands, hand_told, history_hands, told_hands, answer_hands, end_asking, ended_text, ended_hands, answered_ends, watch_effects}
+use Rattle.zs_core.specs.LivelinessEffects.{Watch, token_sample, hand_token, token_hands, hand_told, history_hands, told_hands, answer_hands, end_asking, ended_text, answered_ends, watch_effects}
 use Rattle.zs_script.specs.Plain.{is_plain, is_plain_text, is_plain_sample}
 use Rattle.zs_session.proofs.PlainKeys.{IsText, PlainPast, plain_handed, default_plain, filter_all, found_all}
 use Rattle.zs_session.proofs.PlainParameters.{all_map}

@@ -9,9 +9,9 @@ use Rattle.std.proofs.lemmas.List.{length-take}
 use Rattle.std.proofs.lemmas.Str.{IsUtf8-drop, IsCharBoundary-from_take, encodes-chars}
 use Rattle.zs_keys.specs.declared.declaration.Declared.{Declared}
 use Rattle.zs_wire.specs.declared.message.Message.{Message}
-use Rattle.zs_wire.specs.declared.message.Message.TheVariants.{DeclareKeyExpr, UndeclareKeyExpr, DeclareSubscriber, DeclareQueryable, UndeclareQueryable, DeclareToken, UndeclareToken, Interest}
-use Rattle.zs_wire.specs.declared.interest.InterestMode.TheVariants.{CurrentFuture, Current, Final}
-use Rattle.zs_wire.specs.declared.interest.InterestWhat.TheVariants.{Subscribers as of_subscribers, Queryables as of_queryables, Tokens as of_tokens}
+use Rattle.zs_wire.specs.declared.message.Message.TheVariants.{DeclareKeyExpr, UndeclareKeyExpr, DeclareSubscriber, DeclareQueryable, UndeclareQueryable, Interest}
+use Rattle.zs_wire.specs.declared.interest.InterestMode.TheVariants.{CurrentFuture, Current}
+use Rattle.zs_wire.specs.declared.interest.InterestWhat.TheVariants.{Subscribers as of_subscribers, Queryables as of_queryables}
 use Rattle.zs_wire.specs.declared.wire_expr.WireExpr.{WireExpr}
 use Rattle.zs_tables.specs.declared.group_kind.GroupKind.{GroupKind}
 use Rattle.zs_tables.specs.declared.group_kind.GroupKind.TheVariants.{Subscribers, Publishers, Queriers}
@@ -25,7 +25,7 @@ use Rattle.zs_events.specs.declared.event.EntityKind.TheVariants.{Sub as sub_kin
 use Rattle.zs_events.specs.declared.event.KeyArg.{KeyArg}
 use Rattle.zs_events.specs.declared.event.KeyArg.TheVariants.{Text, Number, Declared as declared_text}
 use Rattle.zs_events.specs.declared.turn.Effect.{Effect}
-use Rattle.zs_events.specs.declared.turn.Effect.TheVariants.{Send, Hand, End}
+use Rattle.zs_events.specs.declared.turn.Effect.TheVariants.{Send, Hand, End, Matching}
 use Rattle.zs_events.specs.declared.turn.HandOver.TheVariants.{Sample, Reply, Query}
 use Rattle.zs_events.specs.declared.turn.Kind.TheVariants.{LivelinessSubscriber}
 use Rattle.zs_events.specs.Kinds.{NamedKey, Publishes, NoContent, OwnContent, ByPublisher, row_of}
@@ -52,6 +52,7 @@ IsQuiet (Hand (Sample kind id sample)) = ⊥
 IsQuiet (Hand (Reply kind id reply)) = is_plain_outcome reply.result ≡ true
 IsQuiet (Hand (Query id value query)) = is_plain_query query ≡ true
 IsQuiet (End kind id) = Unit {0}
+IsQuiet (Matching id matching) = Unit {0}
 
 abbrev pub AreQuiet : List Effect → Type 0
 AreQuiet fx = AllByRecursion IsQuiet fx
@@ -65,6 +66,7 @@ quiet_one (Hand (Sample kind id sample)) plain = absurd plain
 quiet_one (Hand (Reply kind id reply)) plain = refl
 quiet_one (Hand (Query id value query)) plain = refl
 quiet_one (End kind id) plain = refl
+quiet_one (Matching id matching) plain = refl
 
 pub quiet_tell : (fx : List Effect) → AreQuiet fx → filter tells (map effect_fields fx) ≡ []
 quiet_tell [] all = refl
@@ -78,6 +80,7 @@ quiet_plain (Hand (Sample kind id sample)) plain = absurd plain
 quiet_plain (Hand (Reply kind id reply)) plain = plain
 quiet_plain (Hand (Query id value query)) plain = plain
 quiet_plain (End kind id) plain = refl
+quiet_plain (Matching id matching) plain = refl
 
 pub all_plain : (fx : List Effect) → AreQuiet fx → AllByRecursion (λ f. is_plain_effect f ≡ true) fx
 all_plain [] all = tt

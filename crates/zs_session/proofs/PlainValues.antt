@@ -1,6 +1,6 @@
 -- Query values have plain texts: each was drawn by a plain event, and so what is handed out of queries is plain.
-use Rattle.std.proofs.Common.{◌≡◌, ℕ, ◌+◌, ◌==◌, List, [], ◌∷◌, map, filter, Bool, true, ◌&&◌, Option, Some, None, IfSome, refl, sym, subst}
-use Rattle.std.specs.Prelude.{chars, option_map, encode_utf8_all}
+use Rattle.std.proofs.Common.{◌≡◌, ℕ, ◌+◌, ◌==◌, List, [], ◌∷◌, map, filter, true, ◌&&◌, Option, Some, None, IfSome, refl, sym, subst}
+use Rattle.std.specs.Prelude.{option_map, encode_utf8_all}
 use Rattle.std.specs.List.{AllByRecursion, list_all}
 use Rattle.std.proofs.lemmas.Bool.{and_parts, and_from}
 use Rattle.std.proofs.lemmas.Str.{encodes-chars}
@@ -14,11 +14,11 @@ use Rattle.zs_query.specs.declared.query_value.QueryValue.{QueryValue}
 use Rattle.zs_query.specs.declared.request_row.RequestRow.{RequestRow}
 use Rattle.zs_query.specs.Unfinished.{value_at, values_from}
 use Rattle.zs_query.specs.RequestTable.{Handing}
-use Rattle.zs_query.specs.Drawn.{ValueNews, Drew, GaveBack, Drawn, just_drawn, giving_back, drawn, is_unfinished, unfinished}
+use Rattle.zs_query.specs.Drawn.{ValueNews, Drawn, just_drawn, giving_back, drawn, is_unfinished, unfinished}
 use Rattle.zs_events.specs.declared.event.Event.{Event}
 use Rattle.zs_events.specs.declared.event.Event.TheVariants.{Get, QuerierGet, Undeclare, Net, Reply as reply_event, ReplyDelete, ReplyErr}
 use Rattle.zs_events.specs.declared.event.EntityKind.{EntityKind}
-use Rattle.zs_events.specs.declared.event.EntityKind.TheVariants.{Sub as sub_kind, Pub as pub_kind, Queryable as queryable_kind, Querier as querier_kind, Token as token_kind, Lsub as lsub_kind}
+use Rattle.zs_events.specs.declared.event.EntityKind.TheVariants.{Sub as sub_kind, Pub as pub_kind, Queryable as queryable_kind, Querier as querier_kind, Listener as listener_kind, Token as token_kind, Lsub as lsub_kind}
 use Rattle.zs_events.specs.Kinds.{Question, QuerierQuestion, ToGets, NoGet, Asks, AsksBy, Answers, gets_ended, ToValues, Requested, AnswersBy, AnswersError, SharesValue, GivesBack, text_if, value_texts, response_key, response_texts, row_of}
 use Rattle.zs_core.specs.Entry.{Entry}
 use Rattle.zs_core.specs.declared.querier.QuerierRow.{QuerierRow}
@@ -45,6 +45,7 @@ ended_plain sub_kind id = tt
 ended_plain pub_kind id = tt
 ended_plain queryable_kind id = tt
 ended_plain querier_kind id = tt
+ended_plain listener_kind id = tt
 ended_plain token_kind id = tt
 ended_plain lsub_kind id = tt
 

@@ -1,30 +1,34 @@
--- The text of a script tells it: each turn's lines of refusals and hand-overs are those that tell its event.
-use Rattle.std.proofs.Common.{◌≡◌, ◌+◌, List, [], ◌∷◌, ◌++◌, length, Bool, true, false, Option, Some, None, IfSome, refl, sym, ◌∙◌, ap}
-use Rattle.std.specs.Prelude.{ℕ, if◌then◌else◌, map, filter}
+-- Each turn's lines of refusals and hand-overs are those that tell its event.
+use Rattle.std.proofs.Common.{◌≡◌, List, [], ◌∷◌, ◌++◌, Bool, true, false, Option, Some, None, IfSome, refl, sym, ◌∙◌, ap}
+use Rattle.std.specs.Prelude.{ℕ, ◌&&◌, not, if◌then◌else◌, map, filter}
 use Rattle.std.specs.List.{AllByRecursion, flat_map}
 use Rattle.std.proofs.lemmas.Bool.{and_parts, and_from}
 use Rattle.std.proofs.lemmas.List.{append-nil, map-append}
 use Rattle.std.proofs.lemmas.List.Elements.{filter-append}
 use Rattle.zs_events.specs.declared.event.Event.{Event}
 use Rattle.zs_events.specs.declared.event.Event.TheVariants.{Undeclare, Put, Delete, PublisherPut, PublisherDelete, Close, Net}
-use Rattle.zs_events.specs.declared.event.EntityKind.TheVariants.{Sub as sub_kind, Pub as pub_kind, Queryable as queryable_kind, Querier as querier_kind, Token as token_kind, Lsub as lsub_kind}
+use Rattle.zs_events.specs.declared.event.EntityKind.TheVariants.{Sub as sub_kind, Pub as pub_kind, Queryable as queryable_kind, Querier as querier_kind, Listener as listener_kind, Token as token_kind, Lsub as lsub_kind}
 use Rattle.zs_tables.specs.declared.group_kind.GroupKind.TheVariants.{Subscribers, Publishers, Queriers}
 use Rattle.zs_wire.specs.declared.message.Message.TheVariants.{Push}
 use Rattle.zs_core.specs.declared.settings.Settings.{Settings}
 use Rattle.zs_events.specs.declared.turn.Answer.TheVariants.{Ok as accepted, Refused}
 use Rattle.zs_events.specs.declared.turn.Effect.{Effect}
-use Rattle.zs_events.specs.declared.turn.Effect.TheVariants.{Hand}
+use Rattle.zs_events.specs.declared.turn.Effect.TheVariants.{Hand, Matching}
 use Rattle.zs_events.specs.declared.turn.HandOver.TheVariants.{Sample}
 use Rattle.zs_events.specs.declared.turn.Kind.TheVariants.{Subscriber}
 use Rattle.zs_events.specs.declared.turn.Refusal.{Refusal}
 use Rattle.zs_events.specs.declared.turn.Turn.{Turn}
 use Rattle.zs_tables.specs.declared.subscriber.SubRow.{SubRow}
 use Rattle.zs_tables.specs.declared.queryable.QueryableRow.{QueryableRow}
+use Rattle.zs_tables.specs.declared.listener.ListenerRow.{ListenerRow}
+use Rattle.zs_tables.specs.MatchingLaws.{differ}
 use Rattle.zs_events.specs.Turn.{answered}
 use Rattle.zs_events.specs.Kinds.{Content, Publishes, NoContent, OwnContent, ByPublisher, ToGets, NoGet, Asks, AsksBy, Answers, EndsSide, Reaches, EndsQuerier, Cancels, EndsAll, ToValues, NoValue, Requested, AnswersBy, AnswersError, SharesValue, GivesBack, row_of}
 use Rattle.zs_core.specs.Entry.{Entry, is_closed}
 use Rattle.zs_core.specs.Held.{named_text}
-use Rattle.zs_core.specs.Live.{live_subs, live_pubs, live_queryables, live_lsubs, to_gets_of}
+use Rattle.zs_core.specs.Live.{live_subs, live_pubs, live_queryables, live_lsubs, live_listeners, to_gets_of}
+use Rattle.zs_core.specs.Listeners.{is_listener, listener_ends}
+use Rattle.zs_core.specs.Matching.{is_matched, listener_effects}
 use Rattle.zs_core.specs.Tokens.{asking_now}
 use Rattle.zs_core.specs.LivelinessEffects.{watch_effects, lsub_ends}
 use Rattle.zs_tables.specs.declared.liveliness_sub.LivelinessSub.{LivelinessSub}
@@ -33,10 +37,10 @@ use Rattle.zs_core.specs.Queryables.{queryable_ends}
 use Rattle.zs_core.specs.Publications.{Publication, allows, sample_on}
 use Rattle.zs_core.specs.Seen.{Sight}
 use Rattle.zs_core.specs.Causes.{past_sight, holds, in_order, first_that, refusal_of}
-use Rattle.zs_core.specs.Past.{entry_of, past_of}
+use Rattle.zs_core.specs.Past.{entry_of}
 use Rattle.zs_core.specs.Groups.{company_of}
 use Rattle.zs_core.specs.Publishers.{resolved}
-use Rattle.zs_core.specs.Effects.{publication_on, hands_for, hands_of, ends_of, draws_of, answering, own_keys_of, known_of, turn_of, effects}
+use Rattle.zs_core.specs.Effects.{publication_on, hands_for, hands_of, ends_of, draws_of, answering, own_keys_of, known_of, turn_of}
 use Rattle.zs_core.specs.ValueEffects.{value_effects, with_values}
 use Rattle.zs_query.specs.declared.query_value.QueryValue.{QueryValue}
 use Rattle.zs_core.specs.Gets.{open_now}
@@ -47,9 +51,8 @@ use Rattle.zs_script.specs.Printing.{hand_pieces, line, turn_text, answer_fields
 use Rattle.zs_script.specs.Plain.{is_plain, is_plain_text, is_plain_event, is_plain_effect}
 use Rattle.zs_script.proofs.PlainTexts.{fields-found}
 use Rattle.zs_script.proofs.PlainEffects.{answers-plain, effects-plain}
-use Rattle.zs_session.specs.Script.{text_after}
-use Rattle.zs_session.specs.Telling.{are_plain_keys, has_plain_aggregates, plain_line, tells, tells_behind, is_telling, told, published, hand_lines, refusal_or, event_lines, lines_after}
-use Rattle.zs_session.proofs.PlainKeys.{IsText, PlainPast, PlainEvents, PlainContent, plain_handed, content_plain, pubs_plain, held_plain, text_plain, past_plain}
+use Rattle.zs_session.specs.Telling.{are_plain_keys, has_plain_aggregates, plain_line, tells, tells_behind, is_telling, told, published, hand_lines, refusal_or, event_lines}
+use Rattle.zs_session.proofs.PlainKeys.{IsText, PlainPast, PlainContent, plain_handed, content_plain, pubs_plain, held_plain, text_plain}
 use Rattle.zs_session.proofs.PlainSends.{IsQuiet, AreQuiet, ArePlainGroups, sent_by, quiet_tell, all_plain, all_sent}
 use Rattle.zs_session.proofs.PlainValues.{to_plain, does_plain, drawn_plain, values_plain}
 use Rattle.zs_session.proofs.PlainGets.{open_plain, told_quiet, request_quiet}
@@ -118,6 +121,7 @@ ends_quiet queryables rows lsubs (Undeclare sub_kind id) = (tt, tt)
 ends_quiet queryables rows lsubs (Undeclare pub_kind id) = tt
 ends_quiet queryables rows lsubs (Undeclare queryable_kind id) = (tt, tt)
 ends_quiet queryables rows lsubs (Undeclare querier_kind id) = tt
+ends_quiet queryables rows lsubs (Undeclare listener_kind id) = tt
 ends_quiet queryables rows lsubs (Undeclare token_kind id) = tt
 ends_quiet queryables rows lsubs (Undeclare lsub_kind id) = (tt, tt)
 ends_quiet queryables rows lsubs Close =
@@ -159,13 +163,34 @@ answers s past e = told_effects (open_now s past) (asking_now s past) (named_tex
 abbrev brought : Settings → List Entry → Option ℕ → Event → List Effect
 brought s past number e = with_gets (to_gets_of past e) (others s past number e) (requested s past number e) (answers s past e)
 
+-- what it means to listeners is quiet
+listener_ends_quiet : (rows : List ListenerRow) → AreQuiet (listener_ends rows)
+listener_ends_quiet [] = tt
+listener_ends_quiet (row ∷ rows) = (tt, listener_ends_quiet rows)
+
+matching_quiet : (after : ListenerRow → Bool) (rows : List ListenerRow) → AreQuiet (map (λ row. Matching row.id (after row)) rows)
+matching_quiet after [] = tt
+matching_quiet after (row ∷ rows) = (tt, matching_quiet after rows)
+
+listeners_quiet : (past : List Entry) (x : Entry) → AreQuiet (listener_effects past x)
+listeners_quiet past x =
+    let ended = filter (λ row. not (is_listener row.id (live_listeners (x ∷ past)))) (live_listeners past) in
+    let before : ListenerRow → Bool = λ row. is_listener row.id (live_listeners past) && is_matched past row in
+    let after : ListenerRow → Bool = is_matched (x ∷ past) in
+    let heard = filter (λ row. differ (before row) (after row)) (live_listeners (x ∷ past)) in
+    all_append IsQuiet (listener_ends ended) (map (λ row. Matching row.id (after row)) heard) (listener_ends_quiet ended) (matching_quiet after heard)
+
+-- and all that it brings about
+abbrev brought_whole : Settings → List Entry → Option ℕ → Event → List Effect
+brought_whole s past number e = brought s past number e ++ listener_effects past (entry_of s past e)
+
 -- all that an event brings about but its samples and the ends of subscribers is quiet
-record IsQuietBut (s : Settings) (past : List Entry) (number : Option ℕ) (e : Event) : Type 0 where
-  sends : AreQuiet (sent s past number e)
-  watches : AreQuiet (watched s past number e)
-  values : AreQuiet (valued s past number e)
-  asks : AreQuiet (requested s past number e)
-  tells : AreQuiet (answers s past e)
+pub record IsQuietBut (s : Settings) (past : List Entry) (number : Option ℕ) (e : Event) : Type 0 where
+  pub sends : AreQuiet (sent s past number e)
+  pub watches : AreQuiet (watched s past number e)
+  pub values : AreQuiet (valued s past number e)
+  pub asks : AreQuiet (requested s past number e)
+  pub tells : AreQuiet (answers s past e)
 
 -- what stands beside them tells the hand-overs
 beside_told : (s : Settings) (past : List Entry) (n : ℕ) (number : Option ℕ) (e : Event) → AreQuiet (sent s past number e) → AreQuiet (watched s past number e)
@@ -280,7 +305,7 @@ answer_quiet : (n : ℕ) (number : Option ℕ) (fx : List Effect)
 answer_quiet n None fx = refl
 answer_quiet n (Some number) fx = refl
 
-event_told : (s : Settings) (past : List Entry) (n : ℕ) (e : Event) → ((number : Option ℕ) → IsQuietBut s past number e)
+pub event_told : (s : Settings) (past : List Entry) (n : ℕ) (e : Event) → ((number : Option ℕ) → IsQuietBut s past number e)
     → map (plain_line n) (filter tells (turn_rows (turn_of s past e))) ≡ event_lines s past n e
 event_told s past n e plain = go (is_closed past)
   where
@@ -290,20 +315,23 @@ event_told s past n e plain = go (is_closed past)
     by_shut None c = sym (shut_quiet past n (past_sight s past e) e c)
 
     by_open : (o : Option Refusal) (number : Option ℕ)
-        → map (plain_line n) (filter tells (turn_rows (answered o number (brought s past number e))))
+        → map (plain_line n) (filter tells (turn_rows (answered o number (brought_whole s past number e))))
         ≡ refusal_or n o (hand_lines past n (published past e))
     by_open (Some refusal) number = refl
-    by_open None number = ap (map (plain_line n)) (answer_quiet n number (brought s past number e)) ∙ effects_told s past n number e (plain number)
+    by_open None number =
+        ap (map (plain_line n)) (answer_quiet n number (brought_whole s past number e))
+        ∙ both_told n (brought s past number e) (listener_effects past (entry_of s past e)) (listeners_quiet past (entry_of s past e))
+        ∙ effects_told s past n number e (plain number)
 
     go : (closed : Bool) → map (plain_line n) (filter tells (turn_rows
         (if closed then answered (first_that (holds closed (row_of e) (past_sight s past e)) in_order) None []
-        else answered (first_that (holds closed (row_of e) (past_sight s past e)) in_order) (entry_of s past e).number (brought s past (entry_of s past e).number e))))
+        else answered (first_that (holds closed (row_of e) (past_sight s past e)) in_order) (entry_of s past e).number (brought_whole s past (entry_of s past e).number e))))
         ≡ refusal_or n (first_that (holds closed (row_of e) (past_sight s past e)) in_order) (hand_lines past n (published past e))
     go true = by_shut (first_that (holds true (row_of e) (past_sight s past e)) in_order) refl
     go false = by_open (first_that (holds false (row_of e) (past_sight s past e)) in_order) (entry_of s past e).number
 
 -- all texts of effects are plain
-abbrev PlainEffects : List Effect → Type 0
+abbrev pub PlainEffects : List Effect → Type 0
 PlainEffects fx = AllByRecursion (λ f. is_plain_effect f ≡ true) fx
 
 rows_plain : (fx : List Effect) → PlainEffects fx → AllByRecursion ArePlain (map effect_fields fx)
@@ -340,7 +368,7 @@ shared_plain s past shared Publishers = (and_parts (are_plain_keys s.aggregated_
 shared_plain s past shared Queriers = refl
 
 -- what a plain event brings about is quiet, and plain
-quiet_but : (s : Settings) → has_plain_aggregates s ≡ true → (past : List Entry) (e : Event) → PlainPast past → is_plain_event e ≡ true → (number : Option ℕ)
+pub quiet_but : (s : Settings) → has_plain_aggregates s ≡ true → (past : List Entry) (e : Event) → PlainPast past → is_plain_event e ≡ true → (number : Option ℕ)
     → IsQuietBut s past number e
 quiet_but s shared past e all plain number =
     let named = text_plain past e all plain in
@@ -382,14 +410,16 @@ plain_with_values (SharesValue value) rest values r v = v
 plain_with_values (GivesBack value) rest values r v = v
 
 plain_effects : (s : Settings) → has_plain_aggregates s ≡ true → (past : List Entry) (number : Option ℕ) (e : Event) → PlainPast past → is_plain_event e ≡ true
-    → PlainEffects (brought s past number e)
+    → PlainEffects (brought_whole s past number e)
 plain_effects s shared past number e all plain =
     let P : Effect → Type 0 = λ f. is_plain_effect f ≡ true in
     let quiet = quiet_but s shared past e all plain number in
     let sends = sent s past number e in
     let hands = hands_of (live_subs past) (live_pubs past) (named_text past e) e in
     let ends = watched s past number e in
-    plain_with_gets (to_gets_of past e) (others s past number e) (requested s past number e) (answers s past e)
+    let listeners = listener_effects past (entry_of s past e) in
+    all_append P (brought s past number e) listeners
+    (plain_with_gets (to_gets_of past e) (others s past number e) (requested s past number e) (answers s past e)
     (plain_with_values (row_of e).to_values (beside s past number e) (valued s past number e)
     (all_append P (sends ++ hands) ends
     (all_append P sends hands (all_plain sends quiet.sends)
@@ -397,10 +427,25 @@ plain_effects s shared past number e all plain =
     (content_plain (live_pubs past) e (pubs_plain past all) plain)))
     (all_plain ends quiet.watches))
     (all_plain (valued s past number e) quiet.values))
-    (all_plain (requested s past number e) quiet.asks) (all_plain (answers s past e) quiet.tells)
+    (all_plain (requested s past number e) quiet.asks) (all_plain (answers s past e) quiet.tells))
+    (all_plain listeners (listeners_quiet past (entry_of s past e)))
 
--- the texts of the turn of a plain event are plain
-plain_turn : (s : Settings) → has_plain_aggregates s ≡ true → (past : List Entry) (e : Event) → PlainPast past → is_plain_event e ≡ true → AllByRecursion ArePlain (turn_rows (turn_of s past e))
+-- so are the effects of its turn
+pub plain_turn_effects : (s : Settings) → has_plain_aggregates s ≡ true → (past : List Entry) (e : Event) → PlainPast past → is_plain_event e ≡ true → PlainEffects (turn_of s past e).effects
+plain_turn_effects s shared past e all plain = go (is_closed past)
+  where
+    effects_of : (o : Option Refusal) (number : Option ℕ) (fx : List Effect) → PlainEffects fx → PlainEffects (answered o number fx).effects
+    effects_of (Some refusal) number fx all = tt
+    effects_of None number fx all = all
+
+    go : (closed : Bool) → PlainEffects
+        (if closed then answered (refusal_of s past e) None []
+        else answered (refusal_of s past e) (entry_of s past e).number (brought_whole s past (entry_of s past e).number e)).effects
+    go true = effects_of (refusal_of s past e) None [] tt
+    go false = effects_of (refusal_of s past e) (entry_of s past e).number (brought_whole s past (entry_of s past e).number e) (plain_effects s shared past (entry_of s past e).number e all plain)
+
+-- and the texts of all its lines
+pub plain_turn : (s : Settings) → has_plain_aggregates s ≡ true → (past : List Entry) (e : Event) → PlainPast past → is_plain_event e ≡ true → AllByRecursion ArePlain (turn_rows (turn_of s past e))
 plain_turn s shared past e all plain = go (is_closed past)
   where
     answer : (o : Option Refusal) (number : Option ℕ) (fx : List Effect) → PlainEffects fx → AllByRecursion ArePlain (turn_rows (answered o number fx))
@@ -409,26 +454,15 @@ plain_turn s shared past e all plain = go (is_closed past)
 
     go : (closed : Bool) → AllByRecursion ArePlain (turn_rows
         (if closed then answered (refusal_of s past e) None []
-        else answered (refusal_of s past e) (entry_of s past e).number (brought s past (entry_of s past e).number e)))
+        else answered (refusal_of s past e) (entry_of s past e).number (brought_whole s past (entry_of s past e).number e)))
     go true = answer (refusal_of s past e) None [] tt
-    go false = answer (refusal_of s past e) (entry_of s past e).number (brought s past (entry_of s past e).number e) (plain_effects s shared past (entry_of s past e).number e all plain)
+    go false = answer (refusal_of s past e) (entry_of s past e).number (brought_whole s past (entry_of s past e).number e) (plain_effects s shared past (entry_of s past e).number e all plain)
 
 -- the first lines of an output that begins with a turn
-told_turn : (n : ℕ) (turn : Turn) (rest : List ℕ) → AllByRecursion ArePlain (turn_rows turn)
+pub told_turn : (n : ℕ) (turn : Turn) (rest : List ℕ) → AllByRecursion ArePlain (turn_rows turn)
     → told (turn_text n turn ++ rest) ≡ map (plain_line n) (filter tells (turn_rows turn)) ++ told rest
 told_turn n turn rest all =
     ap (λ (bytes : List ℕ). told (bytes ++ rest)) (turn_text_rows n turn)
     ∙ ap (λ (rows : List (List ℕ)). filter is_telling rows) (lines_all n (turn_rows turn) rest all)
     ∙ filter-append is_telling (map (plain_line n) (turn_rows turn)) (lines rest)
     ∙ ap (λ (rows : List (List ℕ)). rows ++ told rest) (telling_rows n (turn_rows turn) all)
-
--- the whole text of plain events tells them
-pub text_told : (s : Settings) → has_plain_aggregates s ≡ true → (h : List Event) (es : List Event) → PlainEvents h → PlainEvents es
-    → told (text_after s h es) ≡ lines_after s h es
-text_told s shared h [] past all = refl
-text_told s shared h (e ∷ es) past all =
-    let n = length h + 1 in
-    told_turn n (effects s h e) (text_after s (e ∷ h) es) (plain_turn s shared (past_of s h) e (past_plain s h past) all.0)
-    ∙ ap (λ (here : List (List ℕ)). here ++ told (text_after s (e ∷ h) es))
-    (event_told s (past_of s h) n e (quiet_but s shared (past_of s h) e (past_plain s h past) all.0))
-    ∙ ap (λ (later : List (List ℕ)). event_lines s (past_of s h) n e ++ later) (text_told s shared (e ∷ h) es (all.0, past) all.1)

@@ -3,8 +3,10 @@ use Rattle.std.specs.Prelude.{◌≡◌, ℕ, ◌+◌, ◌<◌, ◌≤◌, Bool,
 use Rattle.std.specs.List.{AllByRecursion}
 use Rattle.std.specs.Result.{IsOkUnless}
 use Rattle.zs_keys.specs.Stream.{HasRisen, TakesOff, PutsOn, count_after}
-use Rattle.zs_events.specs.declared.event.Event.{Event}
+use Rattle.zs_events.specs.declared.chan.Chan.TheVariants.{Print}
 use Rattle.zs_events.specs.declared.event.Event.TheVariants.{Close}
+use Rattle.zs_events.specs.declared.script_event.ScriptEvent.{ScriptEvent}
+use Rattle.zs_events.specs.declared.script_event.ScriptEvent.TheVariants.{Core}
 use Rattle.zs_core.specs.declared.settings.Settings.{Settings}
 use Rattle.zs_script.specs.Lines.{lines}
 use Rattle.zs_script.specs.Grammar.{event_of}
@@ -49,8 +51,8 @@ abbrev pub BeginsWith : List ℕ → Bool → List (List ℕ) → List ℕ → T
 BeginsWith gave ended rows part = (more : List ℕ) → (ended ≡ true → more ≡ []) → lines (gave ++ more) ≡ rows ++ lines (part ++ more)
 
 -- the events of lines that were read, and the close behind them, if it was taken
-abbrev pub read_events : List (List ℕ) → Bool → List Event
-read_events read closed = events_of read ++ (if closed then Close ∷ [] else [])
+abbrev pub read_events : List (List ℕ) → Bool → List ScriptEvent
+read_events read closed = events_of read ++ (if closed then Core Close Print ∷ [] else [])
 
 -- The source gave bytes, however they go on, of which these good lines are the first, and that part stands behind them.
 pub record HasRead (s : Settings) (left left' : Option (List ℕ)) (ended : Bool) (read : List (List ℕ)) (part : List ℕ) : Type 0 where

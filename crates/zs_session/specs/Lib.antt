@@ -1,4 +1,6 @@
+pub mod Heard
 pub mod Script
+pub mod Scripted
 pub mod Telling
 pub mod Driving
 pub mod Errors

@@ -3,6 +3,8 @@ use Rattle.std.specs.Prelude.{◌≡◌, ℕ, ◌+◌, Bool, false, ◌&&◌, �
 use Rattle.std.specs.List.{list_all}
 use Rattle.zs_keys.specs.Key.{Key}
 use Rattle.zs_events.specs.declared.event.Event.{Event}
+use Rattle.zs_events.specs.declared.script_event.ScriptEvent.{ScriptEvent}
+use Rattle.zs_events.specs.declared.script_event.ScriptEvent.TheVariants.{Core, Recv}
 use Rattle.zs_core.specs.declared.settings.Settings.{Settings}
 use Rattle.zs_events.specs.declared.turn.Answer.TheVariants.{Refused}
 use Rattle.zs_events.specs.declared.turn.Effect.TheVariants.{Hand}
@@ -10,7 +12,7 @@ use Rattle.zs_events.specs.declared.turn.HandOver.TheVariants.{Sample}
 use Rattle.zs_events.specs.declared.turn.Kind.TheVariants.{Subscriber}
 use Rattle.zs_events.specs.declared.turn.Refusal.{Refusal}
 use Rattle.zs_core.specs.Publications.{Publication, allows}
-use Rattle.zs_core.specs.Entry.{Entry}
+use Rattle.zs_core.specs.Entry.{Entry, is_closed}
 use Rattle.zs_core.specs.Held.{named_text}
 use Rattle.zs_core.specs.Live.{live_subs, live_pubs}
 use Rattle.zs_core.specs.Causes.{refusal_of}
@@ -20,6 +22,8 @@ use Rattle.zs_script.specs.Lines.{lines, fields}
 use Rattle.zs_script.specs.Printing.{answer_fields, effect_fields}
 use Rattle.zs_script.specs.Laws.{row}
 use Rattle.zs_script.specs.Plain.{is_plain_text}
+use Rattle.zs_session.specs.Heard.{core_of, answer_of}
+use Rattle.zs_session.specs.Script.{read_refusal}
 
 -- no text of a key has a tab or a line feed, as it is printed
 abbrev pub are_plain_keys : List Key → Bool
@@ -75,11 +79,16 @@ refusal_or number None hands = hands
 abbrev pub event_lines : Settings → List Entry → ℕ → Event → List (List ℕ)
 event_lines s past number e = refusal_or number (refusal_of s past e) (hand_lines past number (published past e))
 
+-- the lines that tell an event of a script behind a history: of a read its refusal alone
+abbrev pub script_lines : Settings → List ScriptEvent → ℕ → ScriptEvent → List (List ℕ)
+script_lines s h number (Core e to) = event_lines s (past_of s (core_of h)) number e
+script_lines s h number (Recv kind id) = refusal_or number (read_refusal (answer_of s h kind id) (is_closed (past_of s (core_of h)))) []
+
 -- the lines that tell events behind a history, one event after the other
-abbrev pub lines_after : Settings → List Event → List Event → List (List ℕ)
+abbrev pub lines_after : Settings → List ScriptEvent → List ScriptEvent → List (List ℕ)
 lines_after s h [] = []
-lines_after s h (e ∷ es) = event_lines s (past_of s h) (length h + 1) e ++ lines_after s (e ∷ h) es
+lines_after s h (e ∷ es) = script_lines s h (length h + 1) e ++ lines_after s (e ∷ h) es
 
 -- the lines are those that tell the events of a script from the first one on
-abbrev pub Told : Settings → List Event → List (List ℕ) → Type 0
+abbrev pub Told : Settings → List ScriptEvent → List (List ℕ) → Type 0
 Told s es told_lines = told_lines ≡ lines_after s [] es

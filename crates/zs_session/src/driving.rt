@@ -1,18 +1,19 @@
-ghost use Rattle.std.specs.Prelude.{◌≡◌, ◌⊎◌, ◌≤◌, ◌++◌, ℕ, List, [], ◌∷◌, Option, IsTrue, IfErr, OnOk, OnErr};
+ghost use Rattle.std.specs.Prelude.{◌≡◌, ◌≤◌, ℕ, List, [], Option, IsTrue, IfErr, OnOk, OnErr};
 ghost use Rattle.zs_keys.specs.Stream.{HasRisen, PutsOn};
-ghost use Rattle.zs_events.specs.declared.event.Event.{Event};
-ghost use Rattle.zs_core.specs.declared.settings.Settings.{Settings};
+ghost use Rattle.zs_events.specs.declared.chan.Chan.TheVariants.{Print};
+ghost use Rattle.zs_events.specs.declared.event.Event.TheVariants.{Close};
+ghost use Rattle.zs_events.specs.declared.script_event.ScriptEvent.TheVariants.{Core};
 ghost use Rattle.zs_core.specs.Settings.{is_valid};
-ghost use Rattle.zs_core.specs.Effects.{effects};
-ghost use Rattle.zs_core.specs.Stands.{Stands, world_after};
-ghost use Rattle.zs_script.specs.Printing.{turn_text};
 ghost use Rattle.zs_script.specs.Writing.{PutsFrontOn};
 ghost use Rattle.zs_session.specs.Driving.{Drives, Completes, PutsWaiting};
+ghost use Rattle.zs_session.specs.Scripted.{StandsFor};
 
 use crate::errors::DriveError;
+use crate::scripted::ScriptedSession;
 use crate::transcript::Transcript;
-use std::alloc::{AllocError, Global};
-use zs_core::{Event, SessionState, Settings};
+use std::alloc::Global;
+use zs_core::{Event, Settings};
+use zs_events::{Chan, ScriptEvent};
 use zs_keys::{Sink, Source};
 use zs_script::{LineReader, parse_event};
 
@@ -23,42 +24,9 @@ pub struct Driven {
     pub events: u64,
 }
 
-/// Steps the session by one event, and adds the text of its turn, under this number, to the transcript.
-fn take_event(
-    state: &mut SessionState,
-    event: Event,
-    number: u64,
-    transcript: &mut Transcript,
-) -> Result<(), AllocError>
-    ensures text { OnOk result ((s : Settings) (h : List Event) → Stands state.old s h
-        → transcript.new ≡ transcript.old ++ turn_text number (effects s h event)) }
-    ensures stands { OnOk result ((s : Settings) (h : List Event) → Stands state.old s h → Stands state.new s (event ∷ h)) }
-    ensures err { OnErr result (transcript.new ≡ transcript.old) }
-{
-    let taken = take_turn(state, &event, number, transcript);
-    drop(event);
-    taken
-}
-
-/// It is `take_event` of an event that is lent, so that no function lets go of an event and of a turn.
-fn take_turn(
-    state: &mut SessionState,
-    event: &Event,
-    number: u64,
-    transcript: &mut Transcript,
-) -> Result<(), AllocError>
-    ensures text { OnOk result ((s : Settings) (h : List Event) → Stands state.old s h
-        → transcript.new ≡ transcript.old ++ turn_text number (effects s h event.now)) }
-    ensures stands { OnOk result ((s : Settings) (h : List Event) → Stands state.old s h → Stands state.new s (event.now ∷ h)) }
-    ensures err { OnErr result (transcript.new ≡ transcript.old) }
-{
-    let turn = state.step(event)?;
-    transcript.add_turn(number, &turn)
-}
-
-/// Drives a session by a script: each line of the source, to its end, is one event, and so is the end itself, which
-/// closes the session. The turns of the events are written to the sink: before each read that may have to wait, at
-/// each return, and in between where much text has come together.
+/// Drives a session by a script: each line of the source, to its end, is one event or one read of a channel, and the end
+/// itself is an event, which closes the session. What comes of them is written to the sink: before each read that may
+/// have to wait, at each return, and in between where much text has come together.
 ///
 /// # Errors
 ///
@@ -147,9 +115,9 @@ fn drive_lines<S: Source, K: Sink>(
         (record { written = K.written sink.new; faults = K.faults sink.new })
         (PutsWaiting (K.written sink.old) transcript.new (K.written sink.new)) }
 {
-    let mut state = SessionState::new(alloc, settings)?;
-    let driven = drive_session(alloc, source, sink, settings, &mut state, transcript);
-    drop(state);
+    let mut session = ScriptedSession::new(alloc, settings)?;
+    let driven = drive_session(alloc, source, sink, settings, &mut session, transcript);
+    drop(session);
     driven
 }
 
@@ -159,11 +127,11 @@ fn drive_session<S: Source, K: Sink>(
     source: &mut S,
     sink: &mut K,
     settings: &Settings,
-    state: &mut SessionState,
+    session: &mut ScriptedSession,
     transcript: &mut Transcript,
 ) -> Result<Driven, DriveError>
     requires empty { transcript.old ≡ [] }
-    requires fresh { state.old ≡ world_after settings.now [] }
+    requires fresh { StandsFor session.old settings.now [] }
     ensures { Drives settings.now result
         (record { left = S.left source.old; reads = S.reads source.old; pieces = S.pieces source.old; faults = S.faults source.old })
         (record { left = S.left source.new; reads = S.reads source.new; pieces = S.pieces source.new; faults = S.faults source.new })
@@ -181,12 +149,22 @@ fn drive_session<S: Source, K: Sink>(
         let Some(event) = parse_event(alloc, &line)? else {
             return Err(DriveError::BadLine(line.number));
         };
-        take_event(state, event, line.number, transcript)?;
+        session.take(alloc, event, line.number, transcript)?;
         events = line.number;
     }
     let Some(number) = events.checked_add(1) else {
         return Err(DriveError::NoMemory);
     };
-    take_event(state, Event::Close, number, transcript)?;
+    session.take(alloc, end_of_input(), number, transcript)?;
     Ok(Driven { events: number })
+}
+
+/// The close that the end of input is.
+fn end_of_input() -> ScriptEvent
+    ensures { result ≡ Core Close Print }
+{
+    ScriptEvent::Core {
+        event: Event::Close,
+        to: Chan::Print,
+    }
 }

@@ -6,6 +6,7 @@ pub use errors::DriveError;
 pub use laws::{aggregates_are_plain, text_tells};
 pub use running::run;
 pub use system::{StdSink, StdSource};
+pub use words::settings_of;
 pub use zs_core::{KeyList, Settings};
 
 mod complaining;
@@ -13,9 +14,8 @@ mod driving;
 mod errors;
 mod laws;
 mod running;
+mod scripted;
 mod soak;
 mod system;
-#[cfg(test)]
-mod tests;
 mod transcript;
 mod words;

@@ -1,26 +1,27 @@
-//! The text of turns on its way to a sink.
+//! The text of events on its way to a sink.
 
 ghost use Rattle.std.specs.Prelude.{◌≡◌, ◌≤◌, [], ◌++◌, OnOk, OnErr};
 ghost use Rattle.zs_keys.specs.Stream.{HasRisen, PutsOn};
-ghost use Rattle.zs_script.specs.Printing.{turn_text};
+ghost use Rattle.zs_script.specs.Printing.{line, turn_text, received_fields};
 ghost use Rattle.zs_script.specs.Writing.{PutsFrontOn};
 
 use std::alloc::{AllocError, Global};
 use std::marker::Model;
-use zs_core::Turn;
+use zs_core::{HandOver, Turn};
+use zs_events::Received;
 use zs_keys::Sink;
-use zs_script::{WriteFault, append_turn, write_whole};
+use zs_script::{WriteFault, append_received, append_turn, write_whole};
 
 /// How much text waits before it is written.
 const FULL: usize = 65536;
 
-/// Whole turns that were printed and not written yet. Contracts see their text.
+/// What came of events, printed and not written yet. Contracts see the text.
 ///
-/// The memory of both texts outlives the turns.
+/// The memory of both texts outlives the events.
 #[derive(Drop)]
 pub(crate) struct Transcript {
     waiting: String,
-    turn: String,
+    event: String,
 }
 
 impl Model for Transcript {
@@ -38,7 +39,7 @@ impl Transcript {
     {
         Transcript {
             waiting: String::new(alloc),
-            turn: String::new(alloc),
+            event: String::new(alloc),
         }
     }
 
@@ -47,9 +48,23 @@ impl Transcript {
         ensures ok { OnOk result (self.new ≡ self.old ++ turn_text number turn.now) }
         ensures err { OnErr result (self.new ≡ self.old) }
     {
-        self.turn.clear();
-        append_turn(&mut self.turn, number, turn)?;
-        self.waiting.push_str(self.turn.as_str())
+        self.event.clear();
+        append_turn(&mut self.event, number, turn)?;
+        self.waiting.push_str(self.event.as_str())
+    }
+
+    /// Puts the line of what a read was answered behind those that wait.
+    pub(crate) fn add_received(
+        &mut self,
+        number: u64,
+        received: &Received<HandOver>,
+    ) -> Result<(), AllocError>
+        ensures ok { OnOk result (self.new ≡ self.old ++ line number (received_fields received.now)) }
+        ensures err { OnErr result (self.new ≡ self.old) }
+    {
+        self.event.clear();
+        append_received(&mut self.event, number, received)?;
+        self.waiting.push_str(self.event.as_str())
     }
 
     /// Whether so much waits that it is to be written.

@@ -21,9 +21,10 @@ const U32_MAX: u64 = u32::MAX as u64;
 /// The greatest number that a key is told as.
 const U16_MAX: u64 = u16::MAX as u64;
 
-/// The settings that the words give. There are none where a word has no place among them, and none where the settings
-/// are not valid. Only settings that there are can want memory.
-pub(crate) fn settings_of(alloc: Global, words: &[String]) -> Result<Option<Settings>, AllocError>
+/// The settings that the words of a run give: the default ones without a word, else those behind the word `drive`. There
+/// are none where a word has no place among them, and none where the settings are not valid. Only settings that there are
+/// can want memory.
+pub fn settings_of(alloc: Global, words: &[String]) -> Result<Option<Settings>, AllocError>
     ensures ok { IfOk result (λ found. found ≡ settings_of (map string_bytes words.now)) }
     ensures valid { IfOk result (λ found. IfSome found (λ s. IsTrue (is_valid s))) }
     ensures err { OnErr result (IsSome (settings_of (map string_bytes words.now))) }

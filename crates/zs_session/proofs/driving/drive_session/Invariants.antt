@@ -8,7 +8,7 @@ use Rattle.zs_session.proofs.driving.drive_session.Given as goal
 abbrev pub invariant-lines : goal.invariant-lines
 invariant-lines g l = record {
   progress : Progress l.settings (g.S.Source.left l.fn.source) (g.S.Source.left l.source) l.reader
-      (PutsWaiting (g.K.Sink.written l.fn.sink) l.transcript (g.K.Sink.written l.sink)) l.state l.events;
+      (PutsWaiting (g.K.Sink.written l.fn.sink) l.transcript (g.K.Sink.written l.sink)) l.session l.events;
   counted : Counted l.settings
       (record { left = g.S.Source.left l.fn.source; reads = g.S.Source.reads l.fn.source; pieces = g.S.Source.pieces l.fn.source; faults = g.S.Source.faults l.fn.source })
       (record { left = g.S.Source.left l.source; reads = g.S.Source.reads l.source; pieces = g.S.Source.pieces l.source; faults = g.S.Source.faults l.source })
