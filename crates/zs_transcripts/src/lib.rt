@@ -5,9 +5,13 @@
 #[cfg(test)]
 mod faults;
 #[cfg(test)]
+mod full_fifo;
+#[cfg(test)]
 mod hostile;
 #[cfg(test)]
 mod lines;
+#[cfg(test)]
+mod session;
 #[cfg(test)]
 mod spelling;
 #[cfg(test)]

@@ -7,6 +7,7 @@ use told::told;
 use zs_keys::{MemorySink, MemorySource, Source, SteadySource};
 use zs_script::{Line, LineReader, WriteFault, parse_event, write_whole};
 
+mod messages;
 mod told;
 
 /// Each of these lines is told so.
@@ -288,6 +289,63 @@ fn reads_tokens(rt: HostRuntime) -> Result<(), Fail> {
         ("net\tdeclarefinal", "declarefinal None"),
         ("net\tdeclarefinal\tinterest=3", "declarefinal Some(3)"),
         ("net\tdeclarefinal\t3", "nothing"),
+    ];
+    assert_told(&rt, rt.alloc(), table.as_slice())?;
+    Ok(())
+}
+
+#[test]
+fn reads_what_matches(rt: HostRuntime) -> Result<(), Fail> {
+    let table = [
+        ("listen\tpub\t2", "listen Pub 2"),
+        ("listen\tquerier\t3", "listen Querier 3"),
+        ("listen\tsub\t2", "nothing"),
+        ("status\tpub\t2", "status Pub 2"),
+        ("status\tquerier\t4294967295", "status Querier 4294967295"),
+        ("status\tquerier", "nothing"),
+        ("undeclare\tlistener\t4", "undeclare Listener 4"),
+        ("background\tlistener\t4", "background Listener 4"),
+        ("net\tsub\t9\ts0:k", "sub 9 Sender 0 and k"),
+        ("net\tunsub\t9", "unsub 9"),
+        ("net\tunsub\t9\ts0:k", "nothing"),
+        (
+            "net\tqueryable\t4\tpartial\tr7:",
+            "queryable 4 false Receiver 7 and ",
+        ),
+        (
+            "net\tqueryable\t4\tcomplete\ts0:a/**",
+            "queryable 4 true Sender 0 and a/**",
+        ),
+        ("net\tqueryable\t4\ts0:a", "nothing"),
+        ("net\tunqueryable\t4", "unqueryable 4"),
+    ];
+    assert_told(&rt, rt.alloc(), table.as_slice())?;
+    Ok(())
+}
+
+#[test]
+fn reads_channels(rt: HostRuntime) -> Result<(), Fail> {
+    let table = [
+        ("sub\tany\tk\tprint", "sub Any k"),
+        ("sub\tany\tk\tfifo:1", "sub Any k to a fifo of 1"),
+        ("sub\tany\tk\tring:65535", "sub Any k to a ring of 65535"),
+        ("sub\tany\tk\tring:65536", "nothing"),
+        ("sub\tany\tk\tfifo:0", "nothing"),
+        ("sub\tany\tk\tfifo:01", "nothing"),
+        ("sub\tany\tk\tfifo", "nothing"),
+        (
+            "qget\t2\ttoken=0\tto=ring:2",
+            "qget 2 and : Some(0) to a ring of 2",
+        ),
+        ("qget\t2\tto=ring:2\ttoken=0", "nothing"),
+        ("lget\tk\tto=fifo:7", "lget k None None to a fifo of 7"),
+        ("lget\tk\tto=print", "lget k None None"),
+        ("put\tany\tk\tx\tto=print", "nothing"),
+        ("recv\tsub\t2", "recv Subscriber 2"),
+        ("recv\tget\t0", "recv Get 0"),
+        ("recv\tlget\t3", "recv LivelinessGet 3"),
+        ("recv\tlsub\t3", "nothing"),
+        ("recv\tsub", "nothing"),
     ];
     assert_told(&rt, rt.alloc(), table.as_slice())?;
     Ok(())

@@ -10,10 +10,12 @@ use zs_session::run;
 
 mod all_kinds;
 mod cancelling;
+mod channels;
 mod closing;
 mod declared_keys;
 mod gets;
 mod liveliness;
+mod matching;
 mod network;
 mod publishers;
 mod queriers;

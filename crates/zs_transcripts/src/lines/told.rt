@@ -1,12 +1,11 @@
 //! What a line is, in a few words.
 
+use super::messages::message_told;
 use std::alloc::{AllocError, Global};
-use zs_events::{Event, KeyArg};
+use zs_events::{Chan, Event, KeyArg, ScriptEvent};
 use zs_sample::{Locality, Text, Timestamp, ZBytes};
 use zs_script::{Line, parse_event};
-use zs_wire::{
-    Answered, Body, EntityGlobalId, Message, Push, QoSType, Request, Response, Value, WireExpr,
-};
+use zs_wire::{QoSType, Value};
 
 /// What a line is.
 pub(super) fn told(alloc: Global, text: &str) -> Result<String, AllocError> {
@@ -17,9 +16,27 @@ pub(super) fn told(alloc: Global, text: &str) -> Result<String, AllocError> {
     let Some(event) = parse_event(alloc, &line)? else {
         return String::from_str(alloc, "nothing");
     };
-    let text = event_told(alloc, &event);
+    let text = line_told(alloc, &event);
     drop(event);
     text
+}
+
+fn line_told(alloc: Global, event: &ScriptEvent) -> Result<String, AllocError> {
+    match event {
+        ScriptEvent::Core { event, to } => {
+            let front = event_told(alloc, event)?;
+            with_channel(alloc, front, *to)
+        }
+        ScriptEvent::Recv { kind, number } => format!(in alloc; "recv {kind:?} {number}"),
+    }
+}
+
+fn with_channel(alloc: Global, front: String, to: Chan) -> Result<String, AllocError> {
+    match to {
+        Chan::Print => Ok(front),
+        Chan::Fifo(size) => format!(in alloc; "{front} to a fifo of {size}"),
+        Chan::Ring(size) => format!(in alloc; "{front} to a ring of {size}"),
+    }
 }
 
 fn event_told(alloc: Global, event: &Event) -> Result<String, AllocError> {
@@ -56,11 +73,13 @@ fn event_told(alloc: Global, event: &Event) -> Result<String, AllocError> {
     }
 }
 
-/// What asks by a querier or of liveliness, or cancels.
+/// What asks by a querier or of liveliness, listens, or cancels.
 fn asking_told(alloc: Global, event: &Event) -> Result<String, AllocError> {
     match event {
         Event::Querier { .. } => querier_told(alloc, event),
         Event::QuerierGet { .. } => querier_get_told(alloc, event),
+        Event::Listen { parent, id } => format!(in alloc; "listen {parent:?} {id}"),
+        Event::Status { parent, id } => format!(in alloc; "status {parent:?} {id}"),
         Event::CancelToken => String::from_str(alloc, "ctoken"),
         Event::Cancel { token } => format!(in alloc; "cancel {token}"),
         Event::Token { key } => keyed(alloc, "token", key),
@@ -263,116 +282,22 @@ fn reply_error_told(
     format!(in alloc; "{front} {encoding}")
 }
 
-fn message_told(alloc: Global, message: &Message) -> Result<String, AllocError> {
-    match message {
-        Message::DeclareKeyExpr { number, wire } => {
-            let wire = wire_told(alloc, wire)?;
-            format!(in alloc; "keyexpr {number} {wire}")
-        }
-        Message::UndeclareKeyExpr { number } => format!(in alloc; "unkeyexpr {number}"),
-        Message::Push(push) => push_told(alloc, push),
-        Message::Request(request) => request_told(alloc, request),
-        Message::Response(response) => response_told(alloc, response),
-        Message::ResponseFinal { rid } => format!(in alloc; "responsefinal {rid}"),
-        Message::Close => String::from_str(alloc, "net close"),
-        _ => liveliness_told(alloc, message),
-    }
-}
-
-/// What the network tells of tokens.
-fn liveliness_told(alloc: Global, message: &Message) -> Result<String, AllocError> {
-    match message {
-        Message::DeclareToken { id, wire, interest } => {
-            token_told(alloc, "token", *id, &Some(wire), *interest)
-        }
-        Message::UndeclareToken { id, wire, interest } => {
-            token_told(alloc, "untoken", *id, &wire.as_ref(), *interest)
-        }
-        Message::DeclareFinal { interest } => format!(in alloc; "declarefinal {interest:?}"),
-        _ => String::from_str(alloc, "another message"),
-    }
-}
-
-fn token_told(
+pub(super) fn with_value(
     alloc: Global,
-    word: &str,
-    id: u32,
-    wire: &Option<&WireExpr>,
-    interest: Option<u32>,
+    front: String,
+    value: &Option<Value>,
 ) -> Result<String, AllocError> {
-    let Some(wire) = wire else {
-        return format!(in alloc; "{word} {id} {interest:?}");
-    };
-    let wire = wire_told(alloc, wire)?;
-    format!(in alloc; "{word} {id} {wire} {interest:?}")
-}
-
-fn push_told(alloc: Global, push: &Push) -> Result<String, AllocError> {
-    let wire = wire_told(alloc, &push.wire)?;
-    let kind = push.body.kind;
-    let front = format!(in alloc; "push {wire} {kind:?}")?;
-    let front = with_bytes(alloc, &front, &push.body.payload)?;
-    with_quality(alloc, &front, &push.body.encoding, &push.qos, push.reliable)
-}
-
-fn request_told(alloc: Global, request: &Request) -> Result<String, AllocError> {
-    let wire = wire_told(alloc, &request.wire)?;
-    let rid = request.rid;
-    let parameters = request.parameters.as_str();
-    let target = request.target;
-    let consolidation = request.consolidation;
-    let timeout = request.timeout;
-    let priority = request.qos.priority;
-    let front = format!(in alloc;
-        "request {rid} {wire} and {parameters}: {target:?} {consolidation:?} {timeout} {priority}"
-    )?;
-    with_value(alloc, front, &request.value)
-}
-
-fn response_told(alloc: Global, response: &Response) -> Result<String, AllocError> {
-    let front = responder_told(alloc, response)?;
-    answered_told(alloc, front.as_str(), &response.answered)
-}
-
-fn responder_told(alloc: Global, response: &Response) -> Result<String, AllocError> {
-    let wire = wire_told(alloc, &response.wire)?;
-    let rid = response.rid;
-    let priority = response.qos.priority;
-    match response.responder {
-        Some(EntityGlobalId { zid, eid }) => {
-            format!(in alloc; "response {rid} {wire} {priority} by {zid} {eid}")
-        }
-        None => format!(in alloc; "response {rid} {wire} {priority}"),
-    }
-}
-
-fn answered_told(alloc: Global, front: &str, answered: &Answered) -> Result<String, AllocError> {
-    match answered {
-        Answered::Reply(body) => body_told(alloc, front, body),
-        Answered::Err(value) => error_told(alloc, front, value),
-    }
-}
-
-fn body_told(alloc: Global, front: &str, body: &Body) -> Result<String, AllocError> {
-    let kind = body.kind;
-    let front = format!(in alloc; "{front} {kind:?}")?;
-    let front = with_bytes(alloc, &front, &body.payload)?;
-    with_moment(alloc, &front, &body.timestamp)
-}
-
-fn error_told(alloc: Global, front: &str, value: &Value) -> Result<String, AllocError> {
-    let front = format!(in alloc; "{front} error")?;
-    value_told(alloc, &front, value)
-}
-
-fn with_value(alloc: Global, front: String, value: &Option<Value>) -> Result<String, AllocError> {
     match value {
         Some(value) => value_told(alloc, &front, value),
         None => Ok(front),
     }
 }
 
-fn value_told(alloc: Global, front: &String, value: &Value) -> Result<String, AllocError> {
+pub(super) fn value_told(
+    alloc: Global,
+    front: &String,
+    value: &Value,
+) -> Result<String, AllocError> {
     let front = with_bytes(alloc, front, &value.payload)?;
     let front = front.as_str();
     let encoding = value.encoding.as_str();
@@ -389,14 +314,18 @@ fn placed(alloc: Global, word: &str, place: Locality, key: &KeyArg) -> Result<St
     format!(in alloc; "{word} {place:?} {key}")
 }
 
-fn with_bytes(alloc: Global, front: &String, payload: &ZBytes) -> Result<String, AllocError> {
+pub(super) fn with_bytes(
+    alloc: Global,
+    front: &String,
+    payload: &ZBytes,
+) -> Result<String, AllocError> {
     let bytes = payload.to_bytes(alloc)?;
     let payload = bytes.as_slice();
     let front = front.as_str();
     format!(in alloc; "{front} {payload:?}")
 }
 
-fn with_moment(
+pub(super) fn with_moment(
     alloc: Global,
     front: &String,
     timestamp: &Option<Timestamp>,
@@ -411,7 +340,7 @@ fn with_moment(
     }
 }
 
-fn with_quality(
+pub(super) fn with_quality(
     alloc: Global,
     front: &String,
     encoding: &Text,
@@ -436,11 +365,4 @@ fn key_told(alloc: Global, key: &KeyArg) -> Result<String, AllocError> {
             format!(in alloc; "declared {number} {text}")
         }
     }
-}
-
-fn wire_told(alloc: Global, wire: &WireExpr) -> Result<String, AllocError> {
-    let scope = wire.scope;
-    let suffix = wire.suffix.as_str();
-    let mapping = wire.mapping;
-    format!(in alloc; "{mapping:?} {scope} and {suffix}")
 }
