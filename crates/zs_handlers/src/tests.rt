@@ -11,8 +11,17 @@ mod threads;
 
 // Inside of a callback's gate.
 fn enter_gate(alloc: Global) -> Result<Inside, NoPass> {
-    let (mut door, _keeper) = Gate::open(alloc)?;
-    door.pass()?.enter().map_err(|_pass| NoPass::Full)
+    let (mut door, keeper) = Gate::open(alloc)?;
+    drop(keeper);
+    let pass = door.pass()?;
+    drop(door);
+    match pass.enter() {
+        Ok(inside) => Ok(inside),
+        Err(late) => {
+            drop(late);
+            Err(NoPass::Full)
+        }
+    }
 }
 
 // The callback has ended.

@@ -41,10 +41,11 @@ fn done_of<R: Wait, H: Handler<u64>>(
 
 #[test]
 fn takes_each_item(rt: HostRuntime) -> Result<(), Fail> {
-    let sum = Sum(AtomicU64::new(0));
     let inside = enter_gate(rt.alloc())?;
+    let drained = end_gate(rt.alloc())?;
+    let sum = Sum(AtomicU64::new(0));
     assert!(rt; done_of(&rt, &inside, &sum, 3).unwrap() == 0);
     assert!(rt; done_of(&rt, &inside, &sum, 4).unwrap() == 3);
-    assert!(rt; sum.ended(&rt, &end_gate(rt.alloc())?) == 7);
+    assert!(rt; sum.ended(&rt, &drained) == 7);
     Ok(())
 }

@@ -28,21 +28,55 @@ fn send_three<R: Wait>(rt: &R, inside: &Inside, sender: &FifoSender<u64>, word: 
     }
 }
 
-// Receives until the end, and stores in the word what came last, or 9 at the end.
-fn receive_all<R: Wait>(rt: &R, receiver: &FifoChannelHandler<u64>, word: &AtomicU64) {
-    for item in receiver.iter(rt) {
-        word.store(item, Ordering::SeqCst);
+// Who receives, and the word that it stores in what came last, or 9 at the end.
+#[derive(Drop)]
+struct Receiving {
+    receiver: FifoChannelHandler<u64>,
+    word: Arc<AtomicU64>,
+}
+
+impl Receiving {
+    fn run<R: Wait>(self, rt: &R) {
+        let Receiving { receiver, word } = self;
+        for item in receiver.iter(rt) {
+            word.store(item, Ordering::SeqCst);
+        }
+        word.store(9, Ordering::SeqCst);
     }
-    word.store(9, Ordering::SeqCst);
+}
+
+// Who sends the items 1, 2 and 3, and the word that counts them.
+#[derive(Drop)]
+struct Sending {
+    inside: Inside,
+    sender: FifoSender<u64>,
+    word: Arc<AtomicU64>,
+}
+
+impl Sending {
+    fn run<R: Wait>(self, rt: &R) {
+        send_three(rt, &self.inside, &self.sender, &self.word);
+    }
+}
+
+// A word, and a second hold of it for another thread.
+fn word_twice(alloc: Global) -> Result<(Arc<AtomicU64>, Arc<AtomicU64>), AllocError> {
+    let word = Arc::new(alloc, AtomicU64::new(0))?;
+    let theirs = Arc::try_clone(&word)?;
+    Ok((word, theirs))
 }
 
 #[test]
 fn waits_for_room(rt: HostRuntime) -> Result<(), Fail> {
-    let (sender, receiver) = FifoChannel::new(2).into_handler(rt.alloc())?;
+    let (theirs, word) = word_twice(rt.alloc())?;
     let inside = enter_gate(rt.alloc())?;
-    let word = Arc::new(rt.alloc(), AtomicU64::new(0))?;
-    let theirs = Arc::try_clone(&word)?;
-    let sending = thread::spawn(&rt, move || send_three(&rt, &inside, &sender, &theirs))?;
+    let (sender, receiver) = FifoChannel::new(2).into_handler(rt.alloc())?;
+    let send = Sending {
+        inside,
+        sender,
+        word: theirs,
+    };
+    let sending = thread::spawn(&rt, move || send.run(&rt))?;
     assert!(rt; comes(&rt, &word, 2));
     thread::sleep(&rt, Duration::from_millis(20));
     assert!(rt; word.load(Ordering::SeqCst) == 2, "there is no room");
@@ -54,12 +88,15 @@ fn waits_for_room(rt: HostRuntime) -> Result<(), Fail> {
 
 #[test]
 fn waits_for_an_item_and_the_end(rt: HostRuntime) -> Result<(), Fail> {
-    let (sender, receiver) = FifoChannel::new(2).into_handler(rt.alloc())?;
+    let (theirs, word) = word_twice(rt.alloc())?;
     let inside = enter_gate(rt.alloc())?;
     let drained = end_gate(rt.alloc())?;
-    let word = Arc::new(rt.alloc(), AtomicU64::new(0))?;
-    let theirs = Arc::try_clone(&word)?;
-    let receiving = thread::spawn(&rt, move || receive_all(&rt, &receiver, &theirs))?;
+    let (sender, receiver) = FifoChannel::new(2).into_handler(rt.alloc())?;
+    let receive = Receiving {
+        receiver,
+        word: theirs,
+    };
+    let receiving = thread::spawn(&rt, move || receive.run(&rt))?;
     thread::sleep(&rt, Duration::from_millis(20));
     assert!(rt; takes(&rt, &inside, &sender, 1));
     assert!(rt; comes(&rt, &word, 1), "no one wakes the receiver");
