@@ -56,6 +56,11 @@ fn act(rt: &impl Print, effect: &Effect) -> Result<()> {
             println!(rt; "queryable {id} is asked for {key}")?;
         }
         Effect::End { id, .. } => println!(rt; "{id} has ended")?,
+        Effect::Matching { id, matching: true } => println!(rt; "listener {id} is matched")?,
+        Effect::Matching {
+            id,
+            matching: false,
+        } => println!(rt; "listener {id} is alone")?,
     }
     Ok(())
 }

@@ -43,30 +43,50 @@ No N and no HEX begins with a 0 that could go.
 A script line is one event. A tab stands between its fields:
   key KEY                       declares a key, and answers its number
   undeclare key #N              gives a declared key back
-  sub LOC KEY                   declares a subscriber
-  undeclare sub N               ends the subscriber of that number
-  background sub N              leaves it to itself: it can no longer be named
+  sub LOC KEY [CHAN]            declares a subscriber
+  undeclare KIND N              ends the one of that number: KIND is sub, pub, querier,
+                                queryable, token, lsub or listener
+  background KIND N             leaves it to itself, so that it can no longer be named:
+                                KIND is sub, queryable, lsub or listener
   pub LOC KEY [OPTION]..        declares a publisher: enc prio cc express rel
-  undeclare pub N               ends the publisher of that number
   put LOC KEY BYTES [OPTION]..  puts a value: enc ts prio cc express rel src att
   delete LOC KEY [OPTION]..     deletes a value: ts prio cc express rel src att
   pput N BYTES [OPTION]..       a publisher puts: enc ts src att
   pdel N [OPTION]..             a publisher deletes: ts src att
   get LOC SELECTOR [OPTION]..   asks for values, and answers the get's number:
                                 target cons timeout payload enc prio cc express src
-                                att accept
+                                att accept token to
+  querier LOC KEY [OPTION]..    declares a querier, whose gets ask in its way:
+                                target cons timeout prio cc express accept
+  qget N [OPTION]..             a querier asks: params payload enc src att token to
   queryable LOC complete KEY    declares a queryable that knows all values of its key
   queryable LOC partial KEY     declares one that need not
-  undeclare queryable N         ends it; background queryable N leaves it to itself
   reply N KEY BYTES [OPTION]..  answers the query handed out under number N:
                                 enc ts prio cc express src att
   replydel N KEY [OPTION]..     answers that a value is deleted: all but enc
   replyerr N BYTES [enc=TEXT]   answers with an error
   share N, finish N             draws one more number for the query; gives one back
+  token KEY                     declares a liveliness token
+  lsub history KEY              declares a subscriber to tokens, told of earlier ones too
+  lsub live KEY                 declares one that is told of later ones alone
+  lget KEY [OPTION]..           asks for the tokens that are alive: timeout token to
+  listen pub N, listen querier N  declares a listener: it hears each time when it changes
+                                whether anyone matches the publisher or querier
+  status pub N, status querier N  answers 1 where anyone matches it, else 0
+  ctoken                        makes a cancellation token, and answers its number
+  cancel N                      ends the open gets that were given it
+  recv sub N, recv get N, recv lget N  takes the first item out of the channel of that
+                                subscriber or get
   tick N                        tells the moment, in milliseconds
   close                         closes the session, as the end of input does
   net keyexpr N WIRE            the network tells what its number N stands for
   net unkeyexpr N               it gives the number back, which changes nothing
+  net sub N WIRE                it declares a subscriber; net unsub N ends it
+  net queryable N complete WIRE, net queryable N partial WIRE
+                                it declares a queryable; net unqueryable N ends it
+  net token N WIRE [interest=N] it tells of a token that is alive
+  net untoken N [WIRE] [interest=N]  it tells that a token lives no longer
+  net declarefinal [interest=N] it has told all tokens that the lget N asked for
   net push WIRE put BYTES [..]  a put comes in from the network, options as put's
   net push WIRE del [OPTION]..  a deletion comes in, options as delete's
   net request N WIRE [OPTION]..             a query comes in: params target cons timeout
@@ -81,7 +101,8 @@ LOC is any, local or remote. KEY is a key expression, or #N or #N:TEXT for the
 declared key N with a text behind it. SELECTOR is KEY, or KEY?TEXT with parameters
 behind the first ?. WIRE is s0:TEXT, or sN:TEXT for a number of the network, or
 rN:TEXT for one of this session. BYTES is x and hexadecimal digits, two for each
-byte.
+byte. CHAN is where items go beside being printed: print (nowhere), fifo:N (all of them,
+in order) or ring:N (the last N), N from 1 to 65535.
 
 An option is a field NAME=VALUE. Options stand behind the other fields, in the order
 given, each at most once:
@@ -97,6 +118,9 @@ given, each at most once:
   payload=BYTES  what is sent with the get
   accept=any   replies are taken on any key
   by=HEX:N     who replies: the session and the entity
+  token=N      the cancellation token that can end the get
+  to=CHAN      where replies go beside being printed
+  interest=N   the lget that a message answers
 
 Status: 0 the end was reached; 2 bad words; 3 a line is no event; 4 a line is too
 long; 5 too many reads; 6 the input failed; 7 the output failed; 8 no memory.
