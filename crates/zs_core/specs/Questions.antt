@@ -12,6 +12,11 @@ use Rattle.zs_sample.specs.Encoding.{encoding_of}
 use Rattle.zs_tables.specs.Recipients.{has_session, has_network}
 use Rattle.zs_query.specs.declared.get_row.GetRow.{GetRow}
 use Rattle.zs_events.specs.Kinds.{Question}
+use Rattle.zs_core.specs.declared.state.questions.Question.{Question as named_question}
+
+-- the question that the code names
+abbrev pub question_by : named_question → Question
+question_by q = record { settings = q.settings; inquiry = q.inquiry.now; querier = q.querier }
 
 -- its parameters, as the bytes of their text, without the signs at the end that say nothing there
 abbrev pub given_parameters : Question → List ℕ
