@@ -5,7 +5,7 @@
 pub use declared_key::KeyHolders;
 pub use key_list::KeyList;
 pub use laws::{
-    askings_are_told, askings_go_on, cancellations_are_told, closed_is_told, counters_are_told,
+    answers_are_numbered, askings_are_told, askings_go_on, cancellations_are_told, closed_is_told, counters_are_told,
     finals_are_due, first_cause, gets_are_told, groups_are_live, held_texts_keep_numbers,
     holders_are_counted, key_numbers_are_new, keys_are_held, keys_are_told, listeners_are_live,
     listeners_hear_changes, listeners_know, lists_are_tests, lsubs_are_live, moments_are_told,

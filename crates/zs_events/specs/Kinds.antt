@@ -61,6 +61,11 @@ pub data Draws : Type 0 where
   KeyNumber : Draws
   StatusOf : (kind : Kind) (id : ℕ) → Draws
 
+-- whether a number is answered
+abbrev pub is_numbered : Draws → Bool
+is_numbered NoNumber = false
+is_numbered draws = true
+
 -- an entity by its kind and number
 pub record Named : Type 0 where
   pub kind : Kind
