@@ -106,11 +106,7 @@ impl SessionState {
     }
 
     /// An error for a query value, as the application says it.
-    pub(super) fn decide_error_to(
-        &self,
-        value: u32,
-        error: &Value,
-    ) -> Result<Decision, AllocError>
+    pub(super) fn decide_error_to(&self, value: u32, error: &Value) -> Result<Decision, AllocError>
         ensures { IfOk result (λ made. made ≡ error_answer_decision self.now value (sent_value error.now)) }
     {
         let error = sent_value(self.alloc, error)?;
@@ -118,11 +114,7 @@ impl SessionState {
     }
 
     /// The same as it is sent.
-    fn decide_error_answer(
-        &self,
-        value: u32,
-        error: Value,
-    ) -> Result<Decision, AllocError>
+    fn decide_error_answer(&self, value: u32, error: Value) -> Result<Decision, AllocError>
         ensures { IfOk result (λ made. made ≡ error_answer_decision self.now value error) }
     {
         let Some((row, queryable)) = self.handing.find(value) else {

@@ -30,7 +30,11 @@ impl SessionState {
         let number = self.next_key;
         let wire = full_wire(self.alloc, key.as_str())?;
         let mut effects = Effects::new(self.alloc);
-        push_send(self.alloc, &mut effects, Message::DeclareKeyExpr { number, wire })?;
+        push_send(
+            self.alloc,
+            &mut effects,
+            Message::DeclareKeyExpr { number, wire },
+        )?;
         let key = into_owned(self.alloc, key)?;
         let change = Change::OfKeys(KeyChange::Declare { number, key });
         Ok(Decision::accepted(Some(u32::from(number)), effects, change))
@@ -59,7 +63,11 @@ impl SessionState {
     {
         let mut effects = Effects::new(self.alloc);
         if self.holders.of(number) <= 1 {
-            push_send(self.alloc, &mut effects, Message::UndeclareKeyExpr { number })?;
+            push_send(
+                self.alloc,
+                &mut effects,
+                Message::UndeclareKeyExpr { number },
+            )?;
         }
         Ok(Decision::of(effects, Change::OfKeys(KeyChange::Release { number })))
     }

@@ -17,7 +17,9 @@ use super::wires::push_send;
 use crate::change::{Change, Decision, LivelinessChange};
 use crate::liveliness::next_behind;
 use std::alloc::{AllocError, Global};
-use zs_events::{BackgroundKind, Effect, Effects, EntityKind, Event, KeyArg, Kind, Refusal, Shared};
+use zs_events::{
+    BackgroundKind, Effect, Effects, EntityKind, Event, KeyArg, Kind, Refusal, Shared,
+};
 use zs_keys::KeyExpr;
 use zs_sample::SampleKind;
 use zs_tables::{LivelinessGet, LivelinessSub};

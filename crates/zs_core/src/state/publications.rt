@@ -319,11 +319,7 @@ fn ids_by_number(
 }
 
 /// Adds a sample for each of those subscribers: all hold it in one place.
-fn hand_to_all(
-    effects: &mut Effects,
-    ids: &[u32],
-    sample: Shared<Sample>,
-) -> Result<(), AllocError>
+fn hand_to_all(effects: &mut Effects, ids: &[u32], sample: Shared<Sample>) -> Result<(), AllocError>
     ensures { OnOk result (effects.new ≡ effects.old ++ hands_to sample ids.now) }
 {
     let Some((last, others)) = ids.split_last() else {

@@ -23,9 +23,7 @@ use crate::key_list::{KeyList, copy_of};
 use crate::pub_table::PubTable;
 use crate::publisher::{Prefix, PubRow};
 use std::alloc::{AllocError, Global};
-use zs_events::{
-    Effects, EntityKind, Event, KeyArg, PublisherSettings, Refusal, Shared, Update,
-};
+use zs_events::{Effects, EntityKind, Event, KeyArg, PublisherSettings, Refusal, Shared, Update};
 use zs_keys::KeyExpr;
 use zs_sample::Locality;
 use zs_tables::{GroupKind, Groups};
@@ -142,11 +140,7 @@ impl SessionState {
     }
 
     /// What a publisher is told to publish goes out on its key, with its destination and qualities.
-    pub(super) fn decide_published(
-        &self,
-        id: u32,
-        update: &Update,
-    ) -> Result<Decision, AllocError>
+    pub(super) fn decide_published(&self, id: u32, update: &Update) -> Result<Decision, AllocError>
         ensures { IfOk result (λ made. made ≡ published_decision self.now id update.now) }
     {
         let Some(row) = self.publishers.get(id) else {

@@ -90,7 +90,11 @@ impl SessionState {
             return Ok(effects);
         };
         if has_network(row.origin) {
-            push_send(self.alloc, &mut effects, Message::UndeclareQueryable { id: row.id })?;
+            push_send(
+                self.alloc,
+                &mut effects,
+                Message::UndeclareQueryable { id: row.id },
+            )?;
         }
         Ok(effects)
     }

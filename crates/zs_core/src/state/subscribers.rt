@@ -84,7 +84,11 @@ impl SessionState {
             resolved,
         ) {
             let wire = self.group_wire(aggregates, key, resolved)?;
-            push_send(self.alloc, &mut effects, Message::DeclareSubscriber { id, wire })?;
+            push_send(
+                self.alloc,
+                &mut effects,
+                Message::DeclareSubscriber { id, wire },
+            )?;
         }
         Ok(effects)
     }
@@ -95,7 +99,11 @@ impl SessionState {
     {
         let mut effects = Effects::new(self.alloc);
         if let Some(number) = self.last_number_of_sub(id) {
-            push_send(self.alloc, &mut effects, Message::UndeclareSubscriber { id: number })?;
+            push_send(
+                self.alloc,
+                &mut effects,
+                Message::UndeclareSubscriber { id: number },
+            )?;
         }
         Ok(effects)
     }

@@ -87,7 +87,11 @@ impl SessionState {
             return final_effects(self.alloc, row.rid, outcome);
         }
         let mut effects = Effects::new(self.alloc);
-        push_send(self.alloc, &mut effects, Message::ResponseFinal { rid: row.rid })?;
+        push_send(
+            self.alloc,
+            &mut effects,
+            Message::ResponseFinal { rid: row.rid },
+        )?;
         Ok(effects)
     }
 
