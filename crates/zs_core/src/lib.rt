@@ -2,6 +2,7 @@
 //! Nothing here waits, prints or calls a handler: whoever steps the state carries the effects out.
 #![tactic(auto)]
 
+pub use change::{Change, Decision};
 pub use declared_key::KeyHolders;
 pub use key_list::KeyList;
 pub use laws::{
@@ -16,12 +17,12 @@ pub use laws::{
     wire_forms_are_read,
 };
 pub use publisher::{Prefix, PubRow};
-pub use querier::{QuerierRow, QuerierSettings};
+pub use querier::QuerierRow;
 pub use settings::Settings;
 pub use state::SessionState;
 pub use zs_events::{
-    Answer, BackgroundKind, Effect, Effects, EntityKind, Event, HandOver, KeyArg, Kind, Refusal,
-    Turn,
+    Answer, BackgroundKind, Effect, Effects, EntityKind, Event, HandOver, KeyArg, Kind,
+    PublisherSettings, QuerySettings, Refusal, Turn,
 };
 pub use zs_tables::{KeyRef, QueryableRow, SubRow};
 
