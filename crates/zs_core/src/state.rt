@@ -3,12 +3,13 @@ ghost use Rattle.zs_core.specs.Turns.{decision_of, decision, open_decision, with
 ghost use Rattle.zs_core.specs.Changes.{Fits, with_change};
 
 use crate::change::{Change, Decision};
+use crate::entity_table::EntityTable;
 use crate::id_set::IdSet;
 use crate::key_holders::KeyHolderCounts;
 use crate::liveliness::Liveliness;
 use crate::matching::Matching;
-use crate::pub_table::PubTable;
-use crate::querier_table::QuerierTable;
+use crate::publisher::PubRow;
+use crate::querier::QuerierRow;
 use crate::settings::Settings;
 use std::alloc::{AllocError, Global};
 use std::marker::Model;
@@ -54,9 +55,9 @@ pub struct SessionState {
     next_key: u16,
     tables: Tables,
     holders: KeyHolderCounts,
-    publishers: PubTable,
+    publishers: EntityTable<PubRow>,
     queryables: QueryableTable,
-    queriers: QuerierTable,
+    queriers: EntityTable<QuerierRow>,
     left_subs: IdSet,
     left_queryables: IdSet,
     groups: Groups,
@@ -64,8 +65,8 @@ pub struct SessionState {
     liveliness: Liveliness,
     matching: Matching,
     handing: RequestTable,
-    next_token: u32,
-    taken_tokens: IdSet,
+    next_cancellation_token: u32,
+    taken_cancellation_tokens: IdSet,
 }
 
 impl Model for SessionState {
@@ -92,7 +93,7 @@ impl Model for SessionState {
       liveliness = s.liveliness;
       matching = shown s.matching;
       handing = s.handing;
-      cancelling = record { next = s.next_token; taken = s.taken_tokens };
+      cancelling = record { next = s.next_cancellation_token; taken = s.taken_cancellation_tokens };
     } };
 
     ghost use Rattle.zs_core.specs.Bounds.{AreBelow};
@@ -226,7 +227,7 @@ impl SessionState {
             Change::OfGets(change) => self.change_gets(change),
             Change::OfLiveliness(change) => self.change_liveliness(change),
             Change::OfValues(change) => self.change_values(change),
-            Change::OfTokens(change) => self.change_tokens(change),
+            Change::OfCancellation(change) => self.change_cancellation(change),
             Change::OfMatching(change) => self.change_matching(change),
             Change::Shut => {
                 self.shut();
