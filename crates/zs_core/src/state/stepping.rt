@@ -58,7 +58,8 @@ impl SessionState {
     pub fn preview(&self, event: &Event) -> Result<Turn, AllocError>
         ensures { IfOk result (λ turn. Previews self.now event.now turn) }
     {
-        let (turn, change) = self.plan(event)?.into_parts();
+        let made = self.plan(event)?;
+        let (turn, change) = made.into_parts();
         drop(change);
         Ok(turn)
     }
@@ -70,7 +71,8 @@ impl SessionState {
         ensures refused { IfOk result (λ turn. was_refused turn.answer ≡ true → self.new ≡ self.old) }
         ensures err { OnErr result (self.new ≡ self.old) }
     {
-        let (turn, change) = self.plan(event)?.into_parts();
+        let made = self.plan(event)?;
+        let (turn, change) = made.into_parts();
         self.apply(change)?;
         Ok(turn)
     }
