@@ -2,6 +2,7 @@ pub mod Cutting
 pub mod ChannelsHeard
 pub mod PlainKeys
 pub mod PlainParameters
+pub mod PlainIncluding
 pub mod PlainSends
 pub mod PlainValues
 pub mod PlainGets
@@ -15,4 +16,3 @@ pub mod Progress
 pub mod Exits
 pub mod Completing
 pub mod WordExamples
-pub mod PlainWords

@@ -171,11 +171,11 @@ trimmed text t =
     )
 
 -- the parameters of a request
-pub parameters_text : (q : Question) → is_field_text q.parameters ≡ true → IsText (parameters_of q)
-parameters_text q plain = go q.any_key
+pub parameters_text : (q : Question) → is_field_text q.inquiry.parameters ≡ true → IsText (parameters_of q)
+parameters_text q plain = go q.settings.any_key
   where
     given : IsText (given_parameters q)
-    given = trimmed (encode_utf8_all q.parameters) (field_text q.parameters plain)
+    given = trimmed (encode_utf8_all q.inquiry.parameters) (field_text q.inquiry.parameters plain)
 
     go : (b : Bool) → IsText (if b then text_with any_key_name [] (given_parameters q) else given_parameters q)
     go true = with_text any_key_name [] (given_parameters q) name_text no_text given

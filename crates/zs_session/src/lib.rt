@@ -3,7 +3,7 @@
 
 pub use driving::{Driven, drive};
 pub use errors::DriveError;
-pub use laws::{aggregates_are_plain, text_tells};
+pub use laws::text_tells;
 pub use running::run;
 pub use system::{StdSink, StdSource};
 pub use words::settings_of;
