@@ -10,4 +10,4 @@ no_chars = refl
 
 pub returns : goal.returns
 returns c =
-    subst (λ (unnamed : List ℕ). IfOk c.body_with.result (λ made. made ≡ body_of unnamed c.args.update.now)) (c.fixed.ensures ∙ no_chars) c.body_with.ensures
+    subst (λ (unnamed : List ℕ). IfOk c.body_with.result (λ made. made ≡ body_of unnamed c.args.update.now)) (c.fixed-unnamed.ensures ∙ no_chars) c.body_with.ensures
