@@ -11,7 +11,7 @@ use Rattle.zs_tables.specs.Numbers.{key_at}
 use Rattle.zs_tables.specs.Recipients.{matches, has_network}
 use Rattle.zs_events.specs.declared.event.Event.{Event}
 use Rattle.zs_events.specs.declared.event.Event.TheVariants.{Key}
-use Rattle.zs_events.specs.declared.event.KeyArg.{KeyArg}
+use Rattle.zs_events.specs.declared.key_arg.KeyArg.{KeyArg}
 use Rattle.zs_core.specs.declared.settings.Settings.{Settings}
 use Rattle.zs_events.specs.declared.turn.Refusal.{Refusal}
 use Rattle.zs_events.specs.Kinds.{row_of}

@@ -10,7 +10,7 @@ pub use publication::{Content, PublicationQuality, PublisherSettings, ReplyQuali
 pub use received::Received;
 pub use script_event::ScriptEvent;
 pub use turn::{Answer, Effect, Effects, HandOver, Kind, Refusal, Turn};
-pub use update::{PushBody, Update};
+pub use update::{PushBody, Update, clone_bytes, default_encoding};
 pub use zs_shared::Shared;
 
 mod chan;

@@ -91,7 +91,7 @@ pub fn default_encoding() -> Text
 }
 
 /// The same bytes in the same memory, where there are any.
-fn clone_bytes(bytes: &Option<ZBytes>, alloc: Global) -> Result<Option<ZBytes>, AllocError>
+pub fn clone_bytes(bytes: &Option<ZBytes>, alloc: Global) -> Result<Option<ZBytes>, AllocError>
     ensures { IfOk result (λ copy. copy ≡ bytes.now) }
 {
     match bytes {
