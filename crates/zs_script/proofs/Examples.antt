@@ -23,7 +23,7 @@ use Rattle.zs_events.specs.declared.turn.Effect.TheVariants.{Hand, End}
 use Rattle.zs_events.specs.declared.turn.HandOver.TheVariants.{Sample, Reply as handed_reply}
 use Rattle.zs_events.specs.declared.turn.Kind.TheVariants.{Subscriber, Get, LivelinessGet}
 use Rattle.zs_events.specs.declared.turn.Refusal.TheVariants.{NotFound}
-use Rattle.zs_script.specs.Lines.{lines, fields}
+use Rattle.zs_lines.specs.Lines.{lines, fields}
 use Rattle.zs_script.specs.Parts.{read, form}
 use Rattle.zs_script.specs.Grammar.{undeclare_of, push_of, response_on, response_of, net_of, printed, event_of}
 use Rattle.zs_script.specs.Pieces.{written}

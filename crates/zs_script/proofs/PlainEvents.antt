@@ -9,7 +9,7 @@ use Rattle.zs_events.specs.declared.event.EntityKind.{EntityKind}
 use Rattle.zs_events.specs.declared.event.Event.{Event}
 use Rattle.zs_events.specs.declared.event.Event.TheVariants.{Undeclare, Net}
 use Rattle.zs_events.specs.declared.script_event.ScriptEvent.{ScriptEvent}
-use Rattle.zs_script.specs.Lines.{fields}
+use Rattle.zs_lines.specs.Lines.{fields}
 use Rattle.zs_script.specs.Symbols.{u32_max, entity_kind_of}
 use Rattle.zs_script.specs.Parts.{number, form}
 use Rattle.zs_script.specs.Grammar.{by_word, declare_of, sub_of, pub_of, queryable_of, querier_of, token_of, lsub_of, listen_of, status_of, undeclare_entity_of, undeclared_by, undeclare_of, background_of, put_of, delete_of, publisher_put_of, publisher_delete_of, cancel_token_of, cancel_of, get_of, querier_get_of, liveliness_get_of, recv_of, reply_of, reply_delete_of, reply_error_of, share_of, finish_of, tick_of, close_of, key_expr_of, unkey_expr_of, net_sub_of, net_unsub_of, net_queryable_of, net_unqueryable_of, net_token_of, net_untoken_of, declare_final_of, push_put_of, push_delete_of, push_by, push_of, request_of, response_put_of, response_delete_of, response_error_of, response_by, response_on, response_of, response_final_of, net_close_of, net_by, net_of, plain_by, printed, event_by, event_of_fields, event_of}

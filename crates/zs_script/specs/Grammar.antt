@@ -18,7 +18,7 @@ use Rattle.zs_events.specs.declared.event.Event.TheVariants.{Key, UndeclareKey, 
 use Rattle.zs_events.specs.declared.script_event.ScriptEvent.{ScriptEvent}
 use Rattle.zs_events.specs.declared.script_event.ScriptEvent.TheVariants.{Core, Recv}
 use Rattle.zs_events.specs.Kinds.{delete_body}
-use Rattle.zs_script.specs.Lines.{fields}
+use Rattle.zs_lines.specs.Lines.{fields}
 use Rattle.zs_script.specs.Symbols.{u16_max, u32_max, u64_max, entity_kind_of}
 use Rattle.zs_script.specs.Parts.{number, locality, background_kind, parent, complete, history, key, selector, wire, wire_if, payload, parameters, target, consolidation, timeout, value, encoding, own_encoding, timestamp, qos, own_priority, own_congestion, own_express, reliable, source, attachment, responder, any_key, token, interest, channel, handed_to, channel_kind, read, form}
 

@@ -3,7 +3,7 @@
 ghost use Rattle.std.specs.Prelude.{◌≡◌, [], ◌∷◌, IfOk};
 ghost use Rattle.zs_events.specs.declared.event.Event.TheVariants.{UndeclareKey};
 ghost use Rattle.zs_script.specs.Grammar.{event_of, event_of_fields, plain_by, declare_of, sub_of, pub_of, queryable_of, listen_of, status_of, undeclare_entity_of, undeclare_of, background_of, put_of, delete_of, publisher_put_of, publisher_delete_of, tick_of, close_of};
-ghost use Rattle.zs_script.specs.Lines.{fields};
+ghost use Rattle.zs_lines.specs.Lines.{fields};
 ghost use Rattle.zs_script.specs.Fields.{texts};
 ghost use Rattle.zs_script.specs.Parts.{key, form};
 
@@ -12,13 +12,13 @@ use crate::gets::{parse_cancel, parse_cancel_token, parse_get, parse_querier, pa
 use crate::liveliness::{parse_liveliness_get, parse_lsub, parse_token};
 use crate::messages::parse_net;
 use crate::parts::Fields;
-use crate::reader::Line;
 use crate::replies::{
     parse_finish, parse_reply, parse_reply_delete, parse_reply_error, parse_share,
 };
 use crate::symbols::parse_entity_kind;
 use std::alloc::{AllocError, Global};
 use zs_events::{Event, ScriptEvent};
+use zs_lines::Line;
 use zs_wire::CongestionControl;
 
 /// What a line says, if its form is one of the script language's.

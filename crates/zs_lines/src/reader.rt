@@ -1,7 +1,7 @@
 ghost use Rattle.std.specs.Prelude.{◌≡◌, ℕ, ◌≢◌, ◌+◌, ◌-◌, ◌<◌, ◌≤◌, ◌==◌, false, true, List, [], ◌++◌, length, take, drop, Some, None, is_some, IfOk, IfErr, OnOk, OnErr, IfSome, IfNone, OnSome};
 ghost use Rattle.std.specs.List.{position};
 ghost use Rattle.zs_keys.specs.Stream.{HasRisen, TakesOff, count_after};
-ghost use Rattle.zs_script.specs.Reading.{Answers, GivesLine, IsAtEnd, IsSpent, IsTooLong, MayFollow, Reads, work};
+ghost use Rattle.zs_lines.specs.Reading.{Answers, GivesLine, IsAtEnd, IsSpent, IsTooLong, MayFollow, Reads, work};
 
 use crate::held::Held;
 use std::alloc::{AllocError, Global};
@@ -31,7 +31,7 @@ pub enum LineError {
 }
 
 impl From<AllocError> for LineError {
-    ghost use Rattle.zs_script.specs.declared.reader.LineError.{LineError};
+    ghost use Rattle.zs_lines.specs.declared.reader.LineError.{LineError};
 
     ghost from_gives = { λ _ e. e ≡ LineError.NoMemory };
 
@@ -54,7 +54,7 @@ pub struct LineReader {
 }
 
 impl Model for LineReader {
-    ghost use Rattle.zs_script.specs.Reading.{Reading};
+    ghost use Rattle.zs_lines.specs.Reading.{Reading};
 
     ghost Value = { Reading };
 

@@ -1,6 +1,6 @@
 use Rattle.std.proofs.Common.{◌++◌, take, arith}
-use Rattle.zs_script.proofs.Pieces.{both-pieces, cut-again}
-use Rattle.zs_script.proofs.writing.write_whole.Goals as goal
+use Rattle.zs_lines.proofs.Pieces.{both-pieces, cut-again}
+use Rattle.zs_lines.proofs.writing.write_whole.Goals as goal
 
 pub loop-rest-preserved : goal.loop-rest-preserved
 loop-rest-preserved g c =

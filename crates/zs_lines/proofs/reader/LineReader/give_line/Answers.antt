@@ -1,6 +1,6 @@
-use Rattle.zs_script.proofs.FirstLine.{given-line, long-line}
-use Rattle.zs_script.proofs.Answering.{answers-error}
-use Rattle.zs_script.proofs.reader.LineReader.give_line.Goals as goal
+use Rattle.zs_lines.proofs.FirstLine.{given-line, long-line}
+use Rattle.zs_lines.proofs.Answering.{answers-error}
+use Rattle.zs_lines.proofs.reader.LineReader.give_line.Goals as goal
 
 pub returns-in_err-give-clause-answer : goal.returns-in_err-give-clause-answer
 returns-in_err-give-clause-answer c =

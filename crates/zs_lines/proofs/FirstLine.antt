@@ -4,10 +4,10 @@ use Rattle.std.specs.List.{position}
 use Rattle.std.proofs.lemmas.List.{take_all, drop_all, length-take}
 use Rattle.std.proofs.lemmas.Result.{err_from_is_err_and}
 use Rattle.std.specs.Result.{IsErrAnd}
-use Rattle.zs_script.specs.Lines.{lines, onto_line}
-use Rattle.zs_script.specs.Reading.{Reading, GivesLine, IsTooLong}
-use Rattle.zs_script.specs.declared.reader.LineError.{LineError}
-use Rattle.zs_script.proofs.Cuts.{feed, none-found, some-found}
+use Rattle.zs_lines.specs.Lines.{lines, onto_line}
+use Rattle.zs_lines.specs.Reading.{Reading, GivesLine, IsTooLong}
+use Rattle.zs_lines.specs.declared.reader.LineError.{LineError}
+use Rattle.zs_lines.proofs.Cuts.{feed, none-found, some-found}
 
 lines-feed : (held left : List ℕ) → feed held < length held
     → lines (held ++ left) ≡ take (feed held) held ∷ lines (drop (suc (feed held)) held ++ left)

@@ -1,6 +1,6 @@
 use Rattle.std.proofs.Common.{◌≡◌, ◌≤◌, ℕ, List, ◌++◌, length}
 use Rattle.zs_keys.specs.Stream.{PutsOn}
-use Rattle.zs_script.proofs.writing.write_whole.Given as goal
+use Rattle.zs_lines.proofs.writing.write_whole.Given as goal
 
 abbrev pub invariant-loop-rest : goal.invariant-loop-rest
 invariant-loop-rest g l =

@@ -1,6 +1,6 @@
 use Rattle.std.proofs.Common.{Err}
-use Rattle.zs_script.proofs.Answering.{answers-on, reads-none}
-use Rattle.zs_script.proofs.reader.LineReader.next.Goals as goal
+use Rattle.zs_lines.proofs.Answering.{answers-on, reads-none}
+use Rattle.zs_lines.proofs.reader.LineReader.next.Goals as goal
 
 pub returns-in-Some-clause-answer : goal.returns-in-Some-clause-answer
 returns-in-Some-clause-answer g c =

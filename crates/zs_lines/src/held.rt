@@ -3,7 +3,7 @@
 ghost use Rattle.std.specs.Prelude.{◌≡◌, ℕ, ◌+◌, ◌≤◌, ◌==◌, ◌⊎◌, List, [], ◌++◌, length, take, drop, IfOk, IfErr, OnOk, OnErr, vec_len};
 ghost use Rattle.std.specs.List.{position};
 ghost use Rattle.zs_keys.specs.Stream.{HasRisen, TakesOff, count_after, pieces_after};
-ghost use Rattle.zs_script.specs.Reading.{GivesCount, IsSpent};
+ghost use Rattle.zs_lines.specs.Reading.{GivesCount, IsSpent};
 
 use crate::bytes::{behind, position_of};
 use crate::reader::LineError;

@@ -1,7 +1,7 @@
 use Rattle.std.proofs.Common.{arith}
-use Rattle.zs_script.proofs.FirstLine.{given-rest, long-rest}
-use Rattle.zs_script.proofs.Answering.{answers-error}
-use Rattle.zs_script.proofs.reader.LineReader.give_rest.Goals as goal
+use Rattle.zs_lines.proofs.FirstLine.{given-rest, long-rest}
+use Rattle.zs_lines.proofs.Answering.{answers-error}
+use Rattle.zs_lines.proofs.reader.LineReader.give_rest.Goals as goal
 
 pub returns-in_err-give-clause-answer : goal.returns-in_err-give-clause-answer
 returns-in_err-give-clause-answer c =

@@ -1,10 +1,10 @@
 -- What a reader of lines is between two calls, and what one call gives.
 use Rattle.std.specs.Prelude.{ℕ, ◌≡◌, ◌+◌, ◌*◌, ◌≤◌, ◌<◌, Bool, true, false, List, [], ◌∷◌, ◌++◌, length, Option, Some, None, Result, Ok, Err, if◌then◌else◌}
 use Rattle.zs_keys.specs.Stream.{HoldsNothing}
-use Rattle.zs_script.specs.Lines.{lines}
-use Rattle.zs_script.specs.declared.reader.Line.{Line}
-use Rattle.zs_script.specs.declared.reader.LineError.{LineError}
-use Rattle.zs_script.specs.declared.reader.LineError.TheVariants.{ReadFault, LineTooLong, OutOfTurns, NoMemory}
+use Rattle.zs_lines.specs.Lines.{lines}
+use Rattle.zs_lines.specs.declared.reader.Line.{Line}
+use Rattle.zs_lines.specs.declared.reader.LineError.{LineError}
+use Rattle.zs_lines.specs.declared.reader.LineError.TheVariants.{ReadFault, LineTooLong, OutOfTurns, NoMemory}
 
 pub record Reading : Type 0 where
   pub held : List ℕ  -- the bytes that were read and not given yet

@@ -1,6 +1,6 @@
 ghost use Rattle.std.specs.Prelude.{◌≤◌, OnOk, OnErr};
 ghost use Rattle.zs_keys.specs.Stream.{HasRisen, PutsOn};
-ghost use Rattle.zs_script.specs.Writing.{PutsFrontOn};
+ghost use Rattle.zs_lines.specs.Writing.{PutsFrontOn};
 
 use crate::bytes::behind;
 use zs_keys::Sink;

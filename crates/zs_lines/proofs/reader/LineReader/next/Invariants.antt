@@ -2,8 +2,8 @@ use Rattle.std.proofs.Common.{◌≡◌, ℕ, ◌≤◌, ◌-◌, ◌++◌, ◌=
 use Rattle.std.specs.Prelude.{is_some}
 use Rattle.std.specs.List.{position}
 use Rattle.zs_keys.specs.Stream.{TakesOff, count_after}
-use Rattle.zs_script.specs.Reading.{Reads, IsAtEnd, IsSpent, work}
-use Rattle.zs_script.proofs.reader.LineReader.next.Given as goal
+use Rattle.zs_lines.specs.Reading.{Reads, IsAtEnd, IsSpent, work}
+use Rattle.zs_lines.proofs.reader.LineReader.next.Given as goal
 
 abbrev pub invariant-reads : goal.invariant-reads
 invariant-reads g l = record {

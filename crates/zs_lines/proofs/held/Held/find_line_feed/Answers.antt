@@ -1,6 +1,6 @@
 use Rattle.std.proofs.Common.{arith, sym, ◌∙◌}
-use Rattle.zs_script.proofs.Cuts.{all_clear, none_on, some_on}
-use Rattle.zs_script.proofs.held.Held.find_line_feed.Goals as goal
+use Rattle.zs_lines.proofs.Cuts.{all_clear, none_on, some_on}
+use Rattle.zs_lines.proofs.held.Held.find_line_feed.Goals as goal
 
 pub invariant_of-self : goal.invariant_of-self
 invariant_of-self c =

@@ -4,11 +4,11 @@ use Rattle.std.proofs.lemmas.Result.{err_from_is_err_and}
 use Rattle.std.proofs.lemmas.Bool.Decides.{nat_tests}
 use Rattle.std.specs.Result.{IsErrAnd}
 use Rattle.zs_keys.specs.Stream.{TakesOff, count_after, HoldsNothing}
-use Rattle.zs_script.specs.Lines.{lines}
-use Rattle.zs_script.specs.Reading.{Reading, Reads, IsTooLong, IsSpent, Answers}
-use Rattle.zs_script.specs.declared.reader.Line.{Line}
-use Rattle.zs_script.specs.declared.reader.LineError.{LineError}
-use Rattle.zs_script.specs.declared.reader.LineError.TheVariants.{ReadFault, LineTooLong, OutOfTurns, NoMemory}
+use Rattle.zs_lines.specs.Lines.{lines}
+use Rattle.zs_lines.specs.Reading.{Reading, Reads, IsTooLong, IsSpent, Answers}
+use Rattle.zs_lines.specs.declared.reader.Line.{Line}
+use Rattle.zs_lines.specs.declared.reader.LineError.{LineError}
+use Rattle.zs_lines.specs.declared.reader.LineError.TheVariants.{ReadFault, LineTooLong, OutOfTurns, NoMemory}
 
 -- a `?` hands an error of a line on
 pub answers-error : (old new : Reading) (given : Result Line LineError) (result : Result (Option Line) LineError) (e : LineError)

@@ -1,6 +1,6 @@
 use Rattle.std.proofs.Common.{arith, take}
-use Rattle.zs_script.proofs.Cuts.{feed-drop-grows}
-use Rattle.zs_script.proofs.held.Held.read_from.Goals as goal
+use Rattle.zs_lines.proofs.Cuts.{feed-drop-grows}
+use Rattle.zs_lines.proofs.held.Held.read_from.Goals as goal
 
 pub invariant_of-self-2 : goal.invariant_of-self-2
 invariant_of-self-2 g c =
