@@ -3,7 +3,7 @@ use Rattle.zs_keys.specs.Stream.{TakesOff}
 use Rattle.std.specs.Prelude.{◌&&◌, is_some, nat_le, Result, Ok, Err}
 use Rattle.std.proofs.lemmas.Bool.Decides.{nat_tests}
 use Rattle.zs_core.specs.declared.settings.Settings.{Settings}
-use Rattle.zs_script.specs.Lines.{lines}
+use Rattle.zs_lines.specs.Lines.{lines}
 use Rattle.zs_script.specs.Grammar.{event_of}
 use Rattle.zs_session.specs.declared.driving.Driven.{Driven}
 use Rattle.zs_session.specs.declared.errors.DriveError.{DriveError}

@@ -7,12 +7,12 @@ use Rattle.std.proofs.lemmas.Result.{err_from_is_err_and}
 use Rattle.zs_keys.specs.Stream.{HasRisen, PutsOn, TakesOff, count_after}
 use Rattle.zs_events.specs.declared.script_event.ScriptEvent.{ScriptEvent}
 use Rattle.zs_core.specs.declared.settings.Settings.{Settings}
-use Rattle.zs_script.specs.Reading.{Reading, Reads, Answers, IsAtEnd, IsSpent}
-use Rattle.zs_script.specs.Writing.{PutsFrontOn}
-use Rattle.zs_script.specs.declared.reader.LineError.{LineError}
-use Rattle.zs_script.specs.declared.reader.LineError.TheVariants.{ReadFault as read_fault, LineTooLong as long_line, OutOfTurns as out_of_turns, NoMemory as no_memory}
-use Rattle.zs_script.proofs.Answering.{count-none, count-two}
-use Rattle.zs_script.proofs.Pieces.{both-pieces}
+use Rattle.zs_lines.specs.Reading.{Reading, Reads, Answers, IsAtEnd, IsSpent}
+use Rattle.zs_lines.specs.Writing.{PutsFrontOn}
+use Rattle.zs_lines.specs.declared.reader.LineError.{LineError}
+use Rattle.zs_lines.specs.declared.reader.LineError.TheVariants.{ReadFault as read_fault, LineTooLong as long_line, OutOfTurns as out_of_turns, NoMemory as no_memory}
+use Rattle.zs_lines.proofs.Answering.{count-none, count-two}
+use Rattle.zs_lines.proofs.Pieces.{both-pieces}
 use Rattle.zs_session.specs.declared.driving.Driven.{Driven}
 use Rattle.zs_session.specs.declared.errors.DriveError.{DriveError}
 use Rattle.zs_session.specs.declared.scripted.ScriptedSession.{ScriptedSession}

@@ -10,12 +10,12 @@ use Rattle.zs_events.specs.declared.event.Event.TheVariants.{Close}
 use Rattle.zs_events.specs.declared.script_event.ScriptEvent.{ScriptEvent}
 use Rattle.zs_events.specs.declared.script_event.ScriptEvent.TheVariants.{Core}
 use Rattle.zs_core.specs.declared.settings.Settings.{Settings}
-use Rattle.zs_script.specs.Lines.{lines}
+use Rattle.zs_lines.specs.Lines.{lines}
 use Rattle.zs_script.specs.Grammar.{event_of}
-use Rattle.zs_script.specs.Reading.{Reading, Reads, IsAtEnd, IsSpent, GivesLine, IsTooLong}
-use Rattle.zs_script.specs.Writing.{PutsFrontOn}
-use Rattle.zs_script.proofs.Answering.{takes-two}
-use Rattle.zs_script.proofs.Pieces.{both-pieces}
+use Rattle.zs_lines.specs.Reading.{Reading, Reads, IsAtEnd, IsSpent, GivesLine, IsTooLong}
+use Rattle.zs_lines.specs.Writing.{PutsFrontOn}
+use Rattle.zs_lines.proofs.Answering.{takes-two}
+use Rattle.zs_lines.proofs.Pieces.{both-pieces}
 use Rattle.zs_session.specs.declared.scripted.ScriptedSession.{ScriptedSession}
 use Rattle.zs_session.specs.Script.{is_good, events_of, script, event_text, text_after, text}
 use Rattle.zs_session.specs.Scripted.{StandsFor}

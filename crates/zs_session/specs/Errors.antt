@@ -1,7 +1,7 @@
 -- The errors of a run, from those of its parts, and the statuses that stand for them.
 use Rattle.std.specs.Prelude.{ℕ, List, codes, decimal, ◌++◌, [], ◌∷◌}
-use Rattle.zs_script.specs.declared.reader.LineError.{LineError}
-use Rattle.zs_script.specs.declared.reader.LineError.TheVariants.{ReadFault as read_fault, LineTooLong as long_line, OutOfTurns as out_of_turns, NoMemory as no_memory}
+use Rattle.zs_lines.specs.declared.reader.LineError.{LineError}
+use Rattle.zs_lines.specs.declared.reader.LineError.TheVariants.{ReadFault as read_fault, LineTooLong as long_line, OutOfTurns as out_of_turns, NoMemory as no_memory}
 use Rattle.zs_session.specs.declared.errors.DriveError.{DriveError}
 use Rattle.zs_session.specs.declared.errors.DriveError.TheVariants.{ReadFault, WriteFault, BadLine, LineTooLong, OutOfTurns, NoMemory}
 

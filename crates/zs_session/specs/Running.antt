@@ -2,7 +2,7 @@
 use Rattle.std.specs.Prelude.{◌≡◌, ◌⊎◌, ◌≤◌, ℕ, List, Result, Ok, Err, codes}
 use Rattle.zs_keys.specs.Stream.{HasRisen, PutsOn}
 use Rattle.zs_core.specs.declared.settings.Settings.{Settings}
-use Rattle.zs_script.specs.Writing.{PutsFrontOn}
+use Rattle.zs_lines.specs.Writing.{PutsFrontOn}
 use Rattle.zs_session.specs.declared.driving.Driven.{Driven}
 use Rattle.zs_session.specs.declared.errors.DriveError.{DriveError}
 use Rattle.zs_session.specs.Driving.{Completes, Drives, Outlet, Supply}

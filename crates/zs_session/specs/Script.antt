@@ -13,7 +13,7 @@ use Rattle.zs_core.specs.declared.settings.Settings.{Settings}
 use Rattle.zs_core.specs.Entry.{is_closed}
 use Rattle.zs_core.specs.Past.{past_of}
 use Rattle.zs_core.specs.Effects.{effects}
-use Rattle.zs_script.specs.Lines.{lines}
+use Rattle.zs_lines.specs.Lines.{lines}
 use Rattle.zs_script.specs.Grammar.{event_of}
 use Rattle.zs_script.specs.Printing.{line, turn_text, received_fields}
 use Rattle.zs_session.specs.Heard.{core_of, answer_of}

@@ -4,7 +4,7 @@ ghost use Rattle.zs_events.specs.declared.chan.Chan.TheVariants.{Print};
 ghost use Rattle.zs_events.specs.declared.event.Event.TheVariants.{Close};
 ghost use Rattle.zs_events.specs.declared.script_event.ScriptEvent.TheVariants.{Core};
 ghost use Rattle.zs_core.specs.Settings.{is_valid};
-ghost use Rattle.zs_script.specs.Writing.{PutsFrontOn};
+ghost use Rattle.zs_lines.specs.Writing.{PutsFrontOn};
 ghost use Rattle.zs_session.specs.Driving.{Drives, Completes, PutsWaiting};
 ghost use Rattle.zs_session.specs.Scripted.{StandsFor};
 

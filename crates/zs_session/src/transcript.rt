@@ -3,7 +3,7 @@
 ghost use Rattle.std.specs.Prelude.{◌≡◌, ◌≤◌, [], ◌++◌, OnOk, OnErr};
 ghost use Rattle.zs_keys.specs.Stream.{HasRisen, PutsOn};
 ghost use Rattle.zs_script.specs.Printing.{line, turn_text, received_fields};
-ghost use Rattle.zs_script.specs.Writing.{PutsFrontOn};
+ghost use Rattle.zs_lines.specs.Writing.{PutsFrontOn};
 
 use std::alloc::{AllocError, Global};
 use std::marker::Model;

@@ -3,9 +3,9 @@ use Rattle.zs_events.specs.declared.chan.Chan.TheVariants.{Print}
 use Rattle.zs_events.specs.declared.event.Event.TheVariants.{Close}
 use Rattle.zs_events.specs.declared.script_event.ScriptEvent.{ScriptEvent}
 use Rattle.zs_events.specs.declared.script_event.ScriptEvent.TheVariants.{Core}
-use Rattle.zs_script.specs.Reading.{Reading, Answers}
-use Rattle.zs_script.specs.declared.reader.Line.{Line}
-use Rattle.zs_script.specs.declared.reader.LineError.{LineError}
+use Rattle.zs_lines.specs.Reading.{Reading, Answers}
+use Rattle.zs_lines.specs.declared.reader.Line.{Line}
+use Rattle.zs_lines.specs.declared.reader.LineError.{LineError}
 use Rattle.zs_session.specs.Script.{events_of, event_text, text}
 use Rattle.zs_session.specs.Driving.{PutsWaiting}
 use Rattle.zs_session.specs.Errors.{drive_error}

@@ -1,5 +1,5 @@
 use Rattle.std.proofs.Common.{◌≤◌}
-use Rattle.zs_script.specs.Reading.{work}
+use Rattle.zs_lines.specs.Reading.{work}
 use Rattle.zs_session.specs.Driving.{PutsWaiting}
 use Rattle.zs_session.proofs.Exits.{Counted}
 use Rattle.zs_session.proofs.Progress.{Progress}
