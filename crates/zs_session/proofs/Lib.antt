@@ -11,8 +11,7 @@ pub mod Telling
 pub mod ReadsTold
 pub mod Scripts
 pub mod Soaking
-pub mod Progress
-pub mod Exits
-pub mod Completing
+pub mod Lines
+pub mod Driven
 pub mod WordExamples
 pub mod PlainWords

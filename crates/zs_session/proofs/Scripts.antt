@@ -10,7 +10,8 @@ use Rattle.zs_script.specs.Grammar.{event_of}
 use Rattle.zs_script.specs.Plain.{is_plain_script_event, has_no_line_feed}
 use Rattle.zs_script.proofs.PlainTexts.{lines-no-feed}
 use Rattle.zs_script.proofs.PlainEvents.{events-plain}
-use Rattle.zs_session.proofs.Cutting.{both, all_append}
+use Rattle.zs_driving.proofs.Progress.{all_append}
+use Rattle.zs_session.proofs.Cutting.{both}
 use Rattle.zs_session.specs.Script.{events_of, script, text}
 use Rattle.zs_session.specs.Telling.{has_plain_aggregates, Told, told}
 use Rattle.zs_session.proofs.ReadsTold.{PlainScript, text_told}
