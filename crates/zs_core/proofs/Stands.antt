@@ -14,7 +14,7 @@ use Rattle.zs_events.specs.declared.turn.Turn.{Turn}
 use Rattle.zs_core.specs.Settings.{last_entity, last_query, last_key}
 use Rattle.zs_events.specs.Turn.{answered}
 use Rattle.zs_core.specs.World.{World}
-use Rattle.zs_events.specs.Kinds.{Draws, NoNumber, EntityNumber, QueryNumber, ValueNumber, TokenNumber, KeyNumber, StatusOf, Named, ToGets, asking_token, token_named, row_of}
+use Rattle.zs_events.specs.Kinds.{Draws, NoNumber, EntityNumber, QueryNumber, ValueNumber, CancellationNumber, KeyNumber, StatusOf, Named, ToGets, asking_token, token_named, row_of}
 use Rattle.zs_core.specs.Seen.{Sight}
 use Rattle.zs_core.specs.Entry.{Entry, is_closed}
 use Rattle.zs_core.specs.Held.{held_number, is_claimed, named_text}
@@ -114,7 +114,7 @@ draws_is w past NoNumber text k = refl
 draws_is w past EntityNumber text k = refl
 draws_is w past QueryNumber text k = refl
 draws_is w past ValueNumber text k = refl
-draws_is w past TokenNumber text k = refl
+draws_is w past CancellationNumber text k = refl
 draws_is w past (StatusOf kind id) text k = refl
 
 -- what gets hear of an event is told by the past
@@ -175,7 +175,7 @@ lacks_is s w past NoNumber text st = refl
 lacks_is s w past EntityNumber text st = ap (is_spent last_entity) st.entity
 lacks_is s w past QueryNumber text st = ap (is_spent last_query) st.asking.next
 lacks_is s w past ValueNumber text st = ap (λ (h : Handing). is_spent last_value h.next) st.handing
-lacks_is s w past TokenNumber text st = ap (is_spent last_token) st.cancelling.next
+lacks_is s w past CancellationNumber text st = ap (is_spent last_token) st.cancelling.next
 lacks_is s w past (StatusOf kind id) text st = refl
 lacks_is s w past KeyNumber None st = refl
 lacks_is s w past KeyNumber (Some text) st =
@@ -187,7 +187,7 @@ number_drawn s w past NoNumber text st = refl
 number_drawn s w past EntityNumber text st = ap (λ (n : ℕ). Some n) st.entity
 number_drawn s w past QueryNumber text st = ap (λ (n : ℕ). Some n) st.asking.next
 number_drawn s w past ValueNumber text st = ap (λ (h : Handing). Some h.next) st.handing
-number_drawn s w past TokenNumber text st = ap (λ (n : ℕ). Some n) st.cancelling.next
+number_drawn s w past CancellationNumber text st = ap (λ (n : ℕ). Some n) st.cancelling.next
 number_drawn s w past (StatusOf kind id) text st = ap (λ (n : ℕ). Some n) (status_is w past kind id st.live st.matched)
 number_drawn s w past KeyNumber None st = refl
 number_drawn s w past KeyNumber (Some text) st =

@@ -1,7 +1,7 @@
 -- Cancellation tokens, told by the events alone: which were drawn, and which were taken.
 use Rattle.std.specs.Prelude.{ℕ, ◌+◌, Bool, true, false, not, nat_lt, ◌==◌, List, [], ◌∷◌, Option, Some, None, if◌then◌else◌}
 use Rattle.std.specs.List.{list_any}
-use Rattle.zs_events.specs.Kinds.{Draws, TokenNumber, ToGets, Cancels, row_of}
+use Rattle.zs_events.specs.Kinds.{Draws, CancellationNumber, ToGets, Cancels, row_of}
 use Rattle.zs_tables.specs.Ascending.{placed_by}
 use Rattle.zs_query.specs.GetTable.{Asking, without_token}
 use Rattle.zs_core.specs.declared.change.TokenChange.{TokenChange}
@@ -19,7 +19,7 @@ last_token = 4294967295
 
 -- whether a cancellation token is drawn
 abbrev pub draws_token : Draws → Bool
-draws_token TokenNumber = true
+draws_token CancellationNumber = true
 draws_token draws = false
 
 -- the next token: as many were drawn before it

@@ -8,11 +8,11 @@ use Rattle.zs_tables.specs.declared.subscriber.SubRow.{SubRow}
 use Rattle.zs_tables.specs.declared.queryable.QueryableRow.{QueryableRow}
 use Rattle.zs_core.specs.declared.declared_key.KeyHolders.{KeyHolders}
 use Rattle.zs_events.specs.declared.event.Event.{Event}
-use Rattle.zs_events.specs.declared.event.Event.TheVariants.{Key, UndeclareKey, Sub, Pub, Queryable, Querier, Undeclare, Background, Close, Net, Get, QuerierGet, Listen, CancelToken, Cancel, Tick, Reply as reply_event, ReplyDelete, Share, Finish, Token, Lsub, LivelinessGet}
-use Rattle.zs_events.specs.declared.event.EntityKind.TheVariants.{Sub as sub_kind, Pub as pub_kind, Queryable as queryable_sort, Querier as querier_sort, Listener as listener_sort, Token as token_sort, Lsub as lsub_sort}
-use Rattle.zs_events.specs.declared.event.BackgroundKind.TheVariants.{Sub as background_sub, Queryable as background_queryable, Listener as background_listener, Lsub as background_lsub}
-use Rattle.zs_events.specs.declared.event.KeyArg.{KeyArg}
-use Rattle.zs_events.specs.declared.event.KeyArg.TheVariants.{Number, Declared}
+use Rattle.zs_events.specs.declared.event.Event.TheVariants.{Key, UndeclareKey, Sub, Pub, Queryable, Querier, Undeclare, Background, Close, Net, Get, QuerierGet, Listen, CancelToken, Cancel, Tick, Reply as reply_event, Share, Finish, Token, Lsub, LivelinessGet}
+use Rattle.zs_events.specs.declared.entity_kind.EntityKind.TheVariants.{Sub as sub_kind, Pub as pub_kind, Queryable as queryable_sort, Querier as querier_sort, Listener as listener_sort, Token as token_sort, Lsub as lsub_sort}
+use Rattle.zs_events.specs.declared.entity_kind.BackgroundKind.TheVariants.{Sub as background_sub, Queryable as background_queryable, Listener as background_listener, Lsub as background_lsub}
+use Rattle.zs_events.specs.declared.key_arg.KeyArg.{KeyArg}
+use Rattle.zs_events.specs.declared.key_arg.KeyArg.TheVariants.{Number, Declared}
 use Rattle.zs_wire.specs.declared.message.Message.{Message}
 use Rattle.zs_wire.specs.declared.message.Message.TheVariants.{DeclareKeyExpr, Request as request_message, Response as response_message, ResponseFinal, DeclareToken as token_message, UndeclareToken as token_end_message, DeclareFinal, DeclareSubscriber, UndeclareSubscriber, DeclareQueryable, UndeclareQueryable}
 use Rattle.zs_core.specs.declared.change.Change.{Change}
@@ -49,19 +49,22 @@ use Rattle.zs_wire.specs.declared.request.Request.{Request}
 use Rattle.zs_sample.specs.Reply.{Replied}
 use Rattle.zs_core.specs.Answers.{local_reply}
 use Rattle.zs_core.specs.Values.{met_by_get, met_by_request, get_request, network_request, last_value, lacks_values}
-use Rattle.zs_events.specs.Kinds.{Question, QuerierQuestion, ReplyQuality, put_body, delete_body, response_key, parent_kind_of}
+use Rattle.zs_events.specs.Kinds.{Question, response_key, parent_kind_of}
+use Rattle.zs_events.specs.declared.inquiry.Inquiry.{Inquiry}
+use Rattle.zs_events.specs.declared.publication.PublisherSettings.{PublisherSettings}
+use Rattle.zs_events.specs.declared.publication.ReplyQuality.{ReplyQuality}
+use Rattle.zs_events.specs.Updates.{body_of}
 use Rattle.zs_core.specs.Questions.{row_waiting}
 use Rattle.zs_core.specs.Gets.{sample_reply}
 use Rattle.zs_core.specs.Settings.{last_entity, last_query, last_key}
 use Rattle.zs_core.specs.Counters.{is_spent}
-use Rattle.zs_wire.specs.declared.quality.QoSType.{QoSType}
 use Rattle.zs_tables.specs.Ascending.{placed_by}
 use Rattle.zs_tables.specs.Groups.{AllGroups}
 use Rattle.zs_core.specs.declared.publisher.PubRow.{PubRow}
 use Rattle.zs_core.specs.declared.settings.Settings.{Settings}
 use Rattle.zs_core.specs.Subscribers.{sub_at}
 use Rattle.zs_core.specs.Publishers.{pub_on, pub_at}
-use Rattle.zs_core.specs.declared.querier.QuerierSettings.{QuerierSettings}
+use Rattle.zs_events.specs.declared.inquiry.QuerySettings.{QuerySettings}
 use Rattle.zs_core.specs.declared.querier.QuerierRow.{QuerierRow}
 use Rattle.zs_core.specs.Queriers.{querier_on, querier_at, question_of}
 use Rattle.zs_core.specs.Cancelling.{last_token, cancelling_after, asking_cancelled}
@@ -90,9 +93,9 @@ sub_change id origin None = Nothing
 sub_change id origin (Some text) = OfEntities (AddSub (record { id = id; origin = origin; key = undeclared text }))
 
 -- a declared publisher
-abbrev pub pub_change : ℕ → Locality → KeyArg → List ℕ → QoSType → Bool → Option (List ℕ) → Change
-pub_change id destination key encoding qos reliable None = Nothing
-pub_change id destination key encoding qos reliable (Some text) = OfEntities (AddPub (pub_on id destination key encoding qos reliable text))
+abbrev pub pub_change : ℕ → KeyArg → PublisherSettings → Option (List ℕ) → Change
+pub_change id key settings None = Nothing
+pub_change id key settings (Some text) = OfEntities (AddPub (pub_on id key settings text))
 
 -- a declared queryable
 abbrev pub queryable_change : ℕ → Locality → Bool → Option (List ℕ) → Change
@@ -101,7 +104,7 @@ queryable_change id origin complete (Some text) =
     OfEntities (AddQueryable (record { id = id; origin = origin; complete = complete; key = undeclared text }))
 
 -- a declared querier
-abbrev pub querier_change : ℕ → KeyArg → QuerierSettings → Option (List ℕ) → Change
+abbrev pub querier_change : ℕ → KeyArg → QuerySettings → Option (List ℕ) → Change
 querier_change id key settings None = Nothing
 querier_change id key settings (Some text) = OfEntities (AddQuerier (querier_on id key settings text))
 
@@ -129,7 +132,7 @@ get_change w q (Some text) =
     (get_request w.asking.next text q) (met_by_get w.entities.queryables q text)
 
 -- a get of a querier, where that is live
-abbrev pub querier_get_change : World → QuerierQuestion → Option QuerierRow → Change
+abbrev pub querier_get_change : World → Inquiry → Option QuerierRow → Change
 querier_get_change w q None = Nothing
 querier_get_change w q (Some row) = get_change w (question_of row q) (Some row.key.text)
 
@@ -170,61 +173,28 @@ abbrev pub change_for : World → Event → Change
 change_for w (Key key) = key_change w (key_of w key)
 change_for w (UndeclareKey (Number number suffix)) = OfKeys (Release number)
 change_for w (UndeclareKey (Declared text number prefix_len)) = OfKeys (Release number)
-change_for w (Sub origin key) = sub_change w.counters.entity origin (key_of w key)
-change_for w (Pub destination key encoding qos reliable) = pub_change w.counters.entity destination key encoding qos reliable (key_of w key)
+change_for w (Sub origin key to) = sub_change w.counters.entity origin (key_of w key)
+change_for w (Pub key settings) = pub_change w.counters.entity key settings (key_of w key)
 change_for w (Queryable origin complete key) = queryable_change w.counters.entity origin complete (key_of w key)
 change_for w (Undeclare sub_kind id) = OfEntities (EndSub id)
 change_for w (Undeclare pub_kind id) = OfEntities (EndPub id)
 change_for w (Undeclare queryable_sort id) = OfEntities (EndQueryable id)
 change_for w (Undeclare querier_sort id) = OfEntities (EndQuerier id)
-change_for w (Querier destination key target consolidation timeout qos any_key) =
-    querier_change w.counters.entity key
-    (record {
-      destination = destination;
-      target = target;
-      consolidation = consolidation;
-      timeout = timeout;
-      qos = qos;
-      any_key = any_key;
-    })
-    (key_of w key)
+change_for w (Querier key settings) = querier_change w.counters.entity key settings (key_of w key)
 change_for w (Token key) = OfLiveliness (DeclareToken w.counters.entity)
 change_for w (Undeclare token_sort id) = OfLiveliness (EndToken id)
 change_for w (Lsub history key) = lsub_change w.counters.entity history (key_of w key)
 change_for w (Undeclare lsub_sort id) = OfLiveliness (EndLsub id)
 change_for w (Background background_lsub id) = OfLiveliness (LeaveLsub id)
-change_for w (LivelinessGet key timeout token) = asking_change w.settings.default_timeout w.asking.moment w.counters.entity timeout token (key_of w key)
+change_for w (LivelinessGet key timeout token to) = asking_change w.settings.default_timeout w.asking.moment w.counters.entity timeout token (key_of w key)
 change_for w (Background background_sub id) = OfEntities (LeaveSub id)
 change_for w (Background background_queryable id) = OfEntities (LeaveQueryable id)
-change_for w (Get destination key parameters target consolidation timeout value qos source attachment any_key token) =
-    get_change w
-    (record {
-      destination = destination;
-      parameters = parameters;
-      target = target;
-      consolidation = consolidation;
-      timeout = timeout;
-      value = value;
-      qos = qos;
-      source = source;
-      attachment = attachment;
-      any_key = any_key;
-      querier = None;
-      token = token;
-    })
-    (key_of w key)
-change_for w (QuerierGet id parameters value source attachment token) =
-    querier_get_change w
-    (record { parameters = parameters; value = value; source = source; attachment = attachment; token = token })
-    (querier_at id w.entities.queriers)
+change_for w (Get key settings inquiry to) = get_change w (record { settings = settings; inquiry = inquiry; querier = None }) (key_of w key)
+change_for w (QuerierGet id inquiry to) = querier_get_change w inquiry (querier_at id w.entities.queriers)
 change_for w CancelToken = OfTokens Draw
 change_for w (Cancel token) = OfTokens (TakeToken token)
-change_for w (reply_event value key payload encoding timestamp priority congestion express source attachment) =
-    answer_change w.settings.zid (record { priority = priority; congestion = congestion; express = express })
-    (put_body payload encoding timestamp source attachment) (value_at value w.handing.values) (key_of w key)
-change_for w (ReplyDelete value key timestamp priority congestion express source attachment) =
-    answer_change w.settings.zid (record { priority = priority; congestion = congestion; express = express })
-    (delete_body timestamp source attachment) (value_at value w.handing.values) (key_of w key)
+change_for w (reply_event value key update quality) =
+    answer_change w.settings.zid quality (body_of [] update) (value_at value w.handing.values) (key_of w key)
 change_for w (Listen parent id) = listen_change (listening w.entities.pubs w.entities.queriers w.counters.entity (parent_kind_of parent) id)
 change_for w (Undeclare listener_sort id) = OfMatching (EndListener id)
 change_for w (Background background_listener id) = OfMatching (LeaveListener id)

@@ -48,7 +48,7 @@ abbrev pub sub_shared : SubRow → Shared
 sub_shared row = record { id = row.id; told = has_network row.origin; text = row.key.text }
 
 abbrev pub pub_shared : PubRow → Shared
-pub_shared row = record { id = row.id; told = has_network row.destination; text = row.key.text }
+pub_shared row = record { id = row.id; told = has_network row.settings.destination; text = row.key.text }
 
 abbrev pub querier_shared : QuerierRow → Shared
 querier_shared row = record { id = row.id; told = has_network row.settings.destination; text = row.key.text }

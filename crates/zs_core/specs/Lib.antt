@@ -34,6 +34,7 @@ pub mod HolderCounts
 pub mod Changes
 pub mod Turns
 pub mod Stands
+pub mod Plans
 pub mod Laws
 pub mod Liveliness
 pub mod LivelinessChanges

@@ -162,11 +162,11 @@ pub enum Change {
     Shut,
 }
 
-/// The turn of an event, and what the event changes.
+/// What a session makes of an event: its turn, and what it changes. `SessionState::plan` makes it.
 #[derive(Drop)]
 pub struct Decision {
-    pub turn: Turn,
-    pub change: Change,
+    pub(crate) turn: Turn,
+    pub(crate) change: Change,
 }
 
 impl Decision {
@@ -208,10 +208,18 @@ impl Decision {
         }
     }
 
-    /// The turn alone.
-    pub(crate) fn into_turn(self) -> Turn
-        ensures { result ≡ self.turn }
+    /// The turn.
+    pub fn turn(&self) -> &Turn
+        ensures { result.now ≡ self.now.turn }
     {
-        self.turn
+        &self.turn
+    }
+
+    /// The turn, and the change for `SessionState::apply`.
+    pub fn into_parts(self) -> (Turn, Change)
+        ensures turn { result.0 ≡ self.turn }
+        ensures change { result.1 ≡ self.change }
+    {
+        (self.turn, self.change)
     }
 }

@@ -2,10 +2,11 @@
 //! Nothing here waits, prints or calls a handler: whoever steps the state carries the effects out.
 #![tactic(auto)]
 
+pub use change::{Change, Decision};
 pub use declared_key::KeyHolders;
 pub use key_list::KeyList;
 pub use laws::{
-    askings_are_told, askings_go_on, cancellations_are_told, closed_is_told, counters_are_told,
+    answers_are_numbered, askings_are_told, askings_go_on, cancellations_are_told, closed_is_told, counters_are_told,
     finals_are_due, first_cause, gets_are_told, groups_are_live, held_texts_keep_numbers,
     holders_are_counted, key_numbers_are_new, keys_are_held, keys_are_told, listeners_are_live,
     listeners_hear_changes, listeners_know, lists_are_tests, lsubs_are_live, moments_are_told,
@@ -16,12 +17,12 @@ pub use laws::{
     wire_forms_are_read,
 };
 pub use publisher::{Prefix, PubRow};
-pub use querier::{QuerierRow, QuerierSettings};
+pub use querier::QuerierRow;
 pub use settings::Settings;
 pub use state::SessionState;
 pub use zs_events::{
-    Answer, BackgroundKind, Effect, Effects, EntityKind, Event, HandOver, KeyArg, Kind, Refusal,
-    Turn,
+    Answer, BackgroundKind, Effect, Effects, EntityKind, Event, HandOver, KeyArg, Kind,
+    PublisherSettings, QuerySettings, Refusal, Turn,
 };
 pub use zs_tables::{KeyRef, QueryableRow, SubRow};
 

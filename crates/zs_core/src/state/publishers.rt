@@ -8,37 +8,34 @@ ghost use Rattle.zs_tables.specs.Recipients.{has_network};
 ghost use Rattle.zs_core.specs.Changes.{EntitiesFit, with_change};
 ghost use Rattle.zs_core.specs.Groups.{company_at, pub_shared, share_text, joined_by, left_found, joins_first, sends_if, last_sends, leaving, interest_end};
 ghost use Rattle.zs_core.specs.Publishers.{prefix_of, pub_at};
-ghost use Rattle.zs_core.specs.Publications.{published_content};
 ghost use Rattle.std.specs.Prelude.{true};
 ghost use Rattle.zs_keys.specs.Key.{undeclared};
 ghost use Rattle.zs_keys.specs.Text.{is_canonical};
 
 use super::SessionState;
-use super::content::{PublisherContent, published_by};
+use super::content::published_by;
 use super::groups::{join_group, joins_first, last_number, leave_group};
 use super::keys::{KeyName, into_owned};
 use super::recipients::has_network;
+use super::wires::push_send;
 use crate::change::{Change, Decision, EntityChange};
 use crate::key_list::{KeyList, copy_of};
 use crate::pub_table::PubTable;
 use crate::publisher::{Prefix, PubRow};
 use std::alloc::{AllocError, Global};
-use zs_events::{Effect, Effects, EntityKind, Event, KeyArg, Refusal};
+use zs_events::{Effects, EntityKind, Event, KeyArg, PublisherSettings, Refusal, Shared, Update};
 use zs_keys::KeyExpr;
-use zs_sample::{Locality, QoSType, Text};
+use zs_sample::Locality;
 use zs_tables::{GroupKind, Groups};
 use zs_wire::{InterestMode, InterestWhat, Message};
 
 impl SessionState {
     pub(super) fn decide_pub(
         &self,
-        destination: Locality,
         key: &KeyArg,
-        encoding: &Text,
-        qos: QoSType,
-        reliable: bool,
+        settings: &Shared<PublisherSettings>,
     ) -> Result<Decision, AllocError>
-        ensures { IfOk result (λ made. made ≡ open_decision self.now (Event.Pub destination key.now encoding.now qos reliable)) }
+        ensures { IfOk result (λ made. made ≡ open_decision self.now (Event.Pub key.now settings.now)) }
     {
         let resolved = match self.resolve(key)? {
             Ok(key) => key,
@@ -49,16 +46,15 @@ impl SessionState {
         }
         let id = self.next_entity;
         let prefix = prefix_of(key, &resolved)?;
+        let owned = into_owned(self.alloc, resolved)?;
+        let effects = self.joining_pub(id, settings.get().destination, key, &owned)?;
+        let settings = settings.try_clone()?;
         let row = PubRow {
             id,
-            destination,
-            key: into_owned(self.alloc, resolved)?,
+            key: owned,
             prefix,
-            encoding: encoding.try_clone(self.alloc)?,
-            qos,
-            reliable,
+            settings,
         };
-        let effects = self.joining_pub(id, destination, key, &row.key)?;
         let change = Change::OfEntities(EntityChange::AddPub { row });
         Ok(Decision::accepted(Some(id), effects, change))
     }
@@ -97,12 +93,13 @@ impl SessionState {
             resolved,
         ) {
             let wire = self.group_wire(aggregates, key, resolved)?;
-            effects.push(Effect::Send(Message::Interest {
+            let interest = Message::Interest {
                 id,
                 mode: InterestMode::CurrentFuture,
                 what: InterestWhat::Subscribers,
                 wire: Some(wire),
-            }))?;
+            };
+            push_send(self.alloc, &mut effects, interest)?;
         }
         Ok(effects)
     }
@@ -113,12 +110,13 @@ impl SessionState {
     {
         let mut effects = Effects::new(self.alloc);
         if let Some(number) = self.last_number_of_pub(id) {
-            effects.push(Effect::Send(Message::Interest {
+            let end = Message::Interest {
                 id: number,
                 mode: InterestMode::Final,
                 what: InterestWhat::Subscribers,
                 wire: None,
-            }))?;
+            };
+            push_send(self.alloc, &mut effects, end)?;
         }
         Ok(effects)
     }
@@ -136,23 +134,19 @@ impl SessionState {
             &self.groups,
             GroupKind::Publishers,
             aggregates,
-            has_network(row.destination),
+            has_network(row.settings.get().destination),
             &row.key,
         )
     }
 
     /// What a publisher is told to publish goes out on its key, with its destination and qualities.
-    pub(super) fn decide_published(
-        &self,
-        id: u32,
-        content: PublisherContent,
-    ) -> Result<Decision, AllocError>
-        ensures { IfOk result (λ made. made ≡ published_decision self.now id (published_content content)) }
+    pub(super) fn decide_published(&self, id: u32, update: &Update) -> Result<Decision, AllocError>
+        ensures { IfOk result (λ made. made ≡ published_decision self.now id update.now) }
     {
         let Some(row) = self.publishers.get(id) else {
             return Ok(Decision::refused(self.alloc, Refusal::NotFound));
         };
-        let content = published_by(self.alloc, row, content)?;
+        let content = published_by(self.alloc, row, update)?;
         let effects = self.publish(KeyName::Publisher(id), key_of(row), content)?;
         Ok(Decision::of(effects, Change::Nothing))
     }
@@ -205,7 +199,7 @@ fn add_to_group(
     ensures same_groups { OnErr result (groups.new ≡ groups.old) }
 {
     let id = row.id;
-    let told = has_network(row.destination);
+    let told = has_network(row.settings.get().destination);
     let key = copy_of(alloc, &row.key)?;
     publishers.add(row)?;
     if let Err(error) = join_group(groups, GroupKind::Publishers, aggregates, told, &key, id) {
@@ -221,7 +215,7 @@ fn leave_pub_group(groups: &mut Groups, publishers: &PubTable, aggregates: &KeyL
         (left_found aggregates.now (option_map pub_shared (pub_at id publishers.now)) (groups_of GroupKind.Publishers groups.old)) groups.old }
 {
     if let Some(row) = publishers.get(id) {
-        let told = has_network(row.destination);
+        let told = has_network(row.settings.get().destination);
         leave_group(
             groups,
             GroupKind::Publishers,

@@ -10,7 +10,7 @@ ghost use Rattle.zs_core.specs.Turns.{known_at, open_decision, own_keys_at};
 ghost use Rattle.zs_core.specs.Effects.{entity_sends, key_wire};
 ghost use Rattle.zs_core.specs.Changes.{EntitiesFit, with_change};
 ghost use Rattle.zs_core.specs.Groups.{company_at, querier_shared, joined_by, left_found, joins_first, sends_if, last_sends, leaving, querier_end};
-ghost use Rattle.zs_core.specs.Queriers.{querier_at, querier_event, querier_declaration};
+ghost use Rattle.zs_core.specs.Queriers.{querier_at, querier_declaration};
 
 use super::SessionState;
 use super::ended_gets::{Ender, push_cut_gets};
@@ -18,12 +18,13 @@ use super::groups::{join_group, joins_first, last_number, leave_group};
 use super::keys::into_owned;
 use super::publishers::prefix_of;
 use super::recipients::has_network;
+use super::wires::push_send;
 use crate::change::{Change, Decision, EntityChange};
 use crate::key_list::{KeyList, copy_of};
-use crate::querier::{QuerierRow, QuerierSettings};
+use crate::querier::QuerierRow;
 use crate::querier_table::QuerierTable;
 use std::alloc::{AllocError, Global};
-use zs_events::{Effect, Effects, EntityKind, Event, KeyArg, Refusal};
+use zs_events::{Effects, EntityKind, Event, KeyArg, QuerySettings, Refusal};
 use zs_keys::{Declared, KeyExpr};
 use zs_sample::Locality;
 use zs_tables::{GroupKind, Groups};
@@ -33,9 +34,9 @@ impl SessionState {
     pub(super) fn decide_querier(
         &self,
         key: &KeyArg,
-        settings: QuerierSettings,
+        settings: QuerySettings,
     ) -> Result<Decision, AllocError>
-        ensures { IfOk result (λ made. made ≡ open_decision self.now (querier_event key.now settings)) }
+        ensures { IfOk result (λ made. made ≡ open_decision self.now (Event.Querier key.now settings)) }
     {
         let resolved = match self.resolve(key)? {
             Ok(key) => key,
@@ -46,9 +47,10 @@ impl SessionState {
         }
         let id = self.next_entity;
         let prefix = prefix_of(key, &resolved)?;
+        let owned = into_owned(self.alloc, resolved)?;
         let row = QuerierRow {
             id,
-            key: into_owned(self.alloc, resolved)?,
+            key: owned,
             prefix,
             settings,
         };
@@ -93,12 +95,13 @@ impl SessionState {
         ) {
             let declared = self.declared_by(key, resolved.as_str())?;
             let wire = self.wire_form(resolved.as_str(), declared)?;
-            effects.push(Effect::Send(Message::Interest {
+            let interest = Message::Interest {
                 id,
                 mode: InterestMode::CurrentFuture,
                 what: InterestWhat::Queryables,
                 wire: Some(wire),
-            }))?;
+            };
+            push_send(self.alloc, &mut effects, interest)?;
         }
         Ok(effects)
     }
@@ -109,12 +112,13 @@ impl SessionState {
     {
         let mut effects = Effects::new(self.alloc);
         if let Some(number) = self.last_number_of_querier(id) {
-            effects.push(Effect::Send(Message::Interest {
+            let end = Message::Interest {
                 id: number,
                 mode: InterestMode::Final,
                 what: InterestWhat::Nothing,
                 wire: None,
-            }))?;
+            };
+            push_send(self.alloc, &mut effects, end)?;
         }
         Ok(effects)
     }

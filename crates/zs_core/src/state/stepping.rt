@@ -2,6 +2,7 @@ ghost use Rattle.std.specs.Prelude.{◌≡◌, [], true, IsTrue, IfOk, OnErr};
 ghost use Rattle.zs_core.specs.Settings.{is_valid};
 ghost use Rattle.zs_events.specs.Turn.{was_refused};
 ghost use Rattle.zs_core.specs.Stands.{world_after, Steps, Previews};
+ghost use Rattle.zs_core.specs.Plans.{Plans};
 
 use super::SessionState;
 use crate::change::Decision;
@@ -46,12 +47,21 @@ impl SessionState {
         })
     }
 
+    /// What `step` would make of the event: the turn that it would give, and what it would change. Whoever has to find room
+    /// of its own for a turn does so between this and `apply`.
+    pub fn plan(&self, event: &Event) -> Result<Decision, AllocError>
+        ensures { IfOk result (λ made. Plans self.now event.now made) }
+    {
+        self.decide(event)
+    }
+
     /// The turn that `step` would give for the event.
     pub fn preview(&self, event: &Event) -> Result<Turn, AllocError>
         ensures { IfOk result (λ turn. Previews self.now event.now turn) }
     {
-        let made = self.decide(event)?;
-        Ok(made.into_turn())
+        let (turn, change) = self.plan(event)?.into_parts();
+        drop(change);
+        Ok(turn)
     }
 
     /// Takes one event: gives its turn, and changes the session as the event says. What takes memory comes
@@ -61,7 +71,7 @@ impl SessionState {
         ensures refused { IfOk result (λ turn. was_refused turn.answer ≡ true → self.new ≡ self.old) }
         ensures err { OnErr result (self.new ≡ self.old) }
     {
-        let Decision { turn, change } = self.decide(event)?;
+        let (turn, change) = self.plan(event)?.into_parts();
         self.apply(change)?;
         Ok(turn)
     }

@@ -1,4 +1,5 @@
 ghost use Rattle.std.specs.Prelude.{◌≡◌, ◌≢◌, ◌<◌, ◌++◌, ◌∷◌, [], Some, None, All, IfOk, OnOk, OnErr};
+ghost use Rattle.zs_events.specs.declared.chan.Chan.{Chan};
 ghost use Rattle.zs_core.specs.Turns.{known_at, open_decision};
 ghost use Rattle.zs_core.specs.Effects.{entity_sends};
 ghost use Rattle.zs_core.specs.Changes.{EntitiesFit, with_change};
@@ -17,6 +18,7 @@ use super::keys::into_owned;
 use super::queryables::push_queryable_ends;
 use super::recipients::has_network;
 use super::tokens::{push_asking_ends, push_lsub_ends};
+use super::wires::push_send;
 use crate::change::{Change, Decision, EntityChange};
 use crate::key_list::{KeyList, copy_of};
 use std::alloc::{AllocError, Global};
@@ -28,7 +30,7 @@ use zs_wire::Message;
 
 impl SessionState {
     pub(super) fn decide_sub(&self, origin: Locality, key: &KeyArg) -> Result<Decision, AllocError>
-        ensures { IfOk result (λ made. made ≡ open_decision self.now (Event.Sub origin key.now)) }
+        ensures { IfOk result (λ made. made ≡ open_decision self.now (Event.Sub origin key.now Chan.Print)) }
     {
         let resolved = match self.resolve(key)? {
             Ok(key) => key,
@@ -70,7 +72,7 @@ impl SessionState {
         key: &KeyArg,
         resolved: &KeyExpr<'_>,
     ) -> Result<Effects, AllocError>
-        ensures { IfOk result (λ effects. effects ≡ entity_sends (known_at self.now) (Event.Sub origin key.now) (Some id) (Some resolved.now.text) ++ []) }
+        ensures { IfOk result (λ effects. effects ≡ entity_sends (known_at self.now) (Event.Sub origin key.now Chan.Print) (Some id) (Some resolved.now.text) ++ []) }
     {
         let mut effects = Effects::new(self.alloc);
         let aggregates = &self.settings.aggregated_subscribers;
@@ -82,7 +84,11 @@ impl SessionState {
             resolved,
         ) {
             let wire = self.group_wire(aggregates, key, resolved)?;
-            effects.push(Effect::Send(Message::DeclareSubscriber { id, wire }))?;
+            push_send(
+                self.alloc,
+                &mut effects,
+                Message::DeclareSubscriber { id, wire },
+            )?;
         }
         Ok(effects)
     }
@@ -93,7 +99,11 @@ impl SessionState {
     {
         let mut effects = Effects::new(self.alloc);
         if let Some(number) = self.last_number_of_sub(id) {
-            effects.push(Effect::Send(Message::UndeclareSubscriber { id: number }))?;
+            push_send(
+                self.alloc,
+                &mut effects,
+                Message::UndeclareSubscriber { id: number },
+            )?;
         }
         Ok(effects)
     }
@@ -129,7 +139,7 @@ impl SessionState {
         let gets = self.asking.gets().numbers()?;
         let asking = self.liveliness.gets().numbers(self.alloc)?;
         let mut effects = Effects::new(self.alloc);
-        effects.push(Effect::Send(Message::Close))?;
+        push_send(self.alloc, &mut effects, Message::Close)?;
         push_queryable_ends(&mut effects, self.queryables.rows())?;
         push_ends(&mut effects, self.tables.rows())?;
         push_lsub_ends(&mut effects, self.liveliness.subs().rows())?;

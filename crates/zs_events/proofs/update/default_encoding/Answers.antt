@@ -1,6 +1,6 @@
 use Rattle.std.proofs.Common.{◌≡◌, ◌∙◌, refl, codes}
 use Rattle.std.specs.Str.{chars}
-use Rattle.zs_core.proofs.state.content.default_encoding.Goals as goal
+use Rattle.zs_events.proofs.update.default_encoding.Goals as goal
 
 -- the name is its own characters
 own_chars : chars (codes "zenoh/bytes") ≡ codes "zenoh/bytes"
