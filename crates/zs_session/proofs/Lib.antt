@@ -12,6 +12,6 @@ pub mod ReadsTold
 pub mod Scripts
 pub mod Soaking
 pub mod Lines
-pub mod Driven
+pub mod Retelling
 pub mod WordExamples
 pub mod PlainWords

@@ -4,7 +4,6 @@ use Rattle.std.proofs.lemmas.List.{append-nil}
 use Rattle.zs_driving.specs.Tasks.{Rules, lines_text, closed_text}
 use Rattle.zs_driving.specs.Languages.{rules_of, events_behind, events_text}
 use Rattle.zs_driving.proofs.Languages.{texts_are}
-use Rattle.zs_events.specs.declared.chan.Chan.TheVariants.{Print}
 use Rattle.zs_events.specs.declared.event.Event.TheVariants.{Close}
 use Rattle.zs_events.specs.declared.script_event.ScriptEvent.{ScriptEvent}
 use Rattle.zs_events.specs.declared.script_event.ScriptEvent.TheVariants.{Core}
@@ -29,12 +28,12 @@ text_push s h (first ∷ es) e =
 pub lines_are : (s : Settings) (rows : List (List ℕ)) → lines_text (rules_of (language s)) rows ≡ text s (events_of rows)
 lines_are s rows = (texts_are (language s) rows).0 ∙ text_is s [] (events_of rows)
 
-pub all_are : (s : Settings) (rows : List (List ℕ)) → closed_text (rules_of (language s)) rows ≡ text s (events_of rows ++ Core Close Print ∷ [])
+pub all_are : (s : Settings) (rows : List (List ℕ)) → closed_text (rules_of (language s)) rows ≡ text s (events_of rows ++ Core Close ∷ [])
 all_are s rows =
     let h = events_behind [] (events_of rows) in
     (texts_are (language s) rows).1
-    ∙ (ap (λ more. more ++ event_text s h (length h + 1) (Core Close Print)) (text_is s [] (events_of rows))
-    ∙ sym (text_push s [] (events_of rows) (Core Close Print)))
+    ∙ (ap (λ more. more ++ event_text s h (length h + 1) (Core Close)) (text_is s [] (events_of rows))
+    ∙ sym (text_push s [] (events_of rows) (Core Close)))
 
 -- what is put out for one line more, which is an event
 pub line_is : (s : Settings) (r : Rules) (h : List (List ℕ)) (row : List ℕ) (number : ℕ) (e : ScriptEvent) → r ≡ rules_of (language s) → length (events_of h) ≡ length h
@@ -44,6 +43,6 @@ line_is s r h row number e rules each place found =
 
 -- and at the end
 pub end_is : (s : Settings) (r : Rules) (h : List (List ℕ)) (number : ℕ) → r ≡ rules_of (language s) → length (events_of h) ≡ length h
-    → number ≡ length h + 1 → r.end_text h ≡ event_text s (events_of h) number (Core Close Print)
+    → number ≡ length h + 1 → r.end_text h ≡ event_text s (events_of h) number (Core Close)
 end_is s r h number rules each place =
-    rw rules (ap (λ n. event_text s (events_of h) n (Core Close Print)) (omega (arith, each, place)))
+    rw rules (ap (λ n. event_text s (events_of h) n (Core Close)) (omega (arith, each, place)))

@@ -21,9 +21,9 @@ use Rattle.zs_keys.specs.Key.{Key as a_key}
 use Rattle.zs_keys.specs.Matching.{includes}
 use Rattle.zs_events.specs.declared.event.Event.{Event}
 use Rattle.zs_events.specs.declared.event.Event.TheVariants.{Key, UndeclareKey, Sub, Pub, Queryable, Querier, Token, Lsub, LivelinessGet, Undeclare, Close}
-use Rattle.zs_events.specs.declared.event.EntityKind.TheVariants.{Sub as sub_kind, Pub as pub_kind, Queryable as queryable_kind, Querier as querier_kind, Token as token_kind, Lsub as lsub_kind}
-use Rattle.zs_events.specs.declared.event.KeyArg.{KeyArg}
-use Rattle.zs_events.specs.declared.event.KeyArg.TheVariants.{Text, Number, Declared as declared_text}
+use Rattle.zs_events.specs.declared.entity_kind.EntityKind.TheVariants.{Sub as sub_kind, Pub as pub_kind, Queryable as queryable_kind, Querier as querier_kind, Token as token_kind, Lsub as lsub_kind}
+use Rattle.zs_events.specs.declared.key_arg.KeyArg.{KeyArg}
+use Rattle.zs_events.specs.declared.key_arg.KeyArg.TheVariants.{Text, Number, Declared as declared_text}
 use Rattle.zs_events.specs.declared.turn.Effect.{Effect}
 use Rattle.zs_events.specs.declared.turn.Effect.TheVariants.{Send, Hand, End, Matching}
 use Rattle.zs_events.specs.declared.turn.HandOver.TheVariants.{Sample, Reply, Query}
@@ -41,7 +41,7 @@ use Rattle.zs_script.specs.Pieces.{written}
 use Rattle.zs_script.specs.Printing.{hand_pieces, replied_pieces, queried_pieces, effect_fields}
 use Rattle.zs_script.specs.Plain.{is_plain, is_plain_text, is_plain_sample, is_plain_outcome, is_plain_query, is_plain_effect, message_texts}
 use Rattle.zs_session.specs.Telling.{are_plain_keys, tells}
-use Rattle.zs_session.proofs.Cutting.{all_append}
+use Rattle.zs_driving.proofs.Progress.{all_append}
 use Rattle.zs_session.proofs.PlainKeys.{IsText, PlainContent, found_all}
 
 -- an effect that hands no sample out but to a subscriber to liveliness, with plain texts
@@ -232,16 +232,16 @@ queryable_left (Some row) = sent_if (has_network row.origin) (UndeclareQueryable
 
 entity_sent : (known : Known) (e : Event) (number : Option ℕ) (text : Option (List ℕ)) → AreTexts known.keys → ArePlainGroups known.company → IfSome text IsText
     → AreQuiet (entity_sends known e number text)
-entity_sent known (Sub origin key) (Some id) (Some text) all shared named =
+entity_sent known (Sub origin key to) (Some id) (Some text) all shared named =
     let own = key_wire known.keys text key in
     let wire = group_wire (known.company Subscribers).aggregates text own in
     sent_if (joins_first (known.company Subscribers) (record { id = id; told = has_network origin; text = text })) (DeclareSubscriber id wire)
     (and_from (is_plain_text wire.suffix) true
     (group_plain (known.company Subscribers).aggregates text own (shared Subscribers) (wire_plain known.keys text (declared_by known.keys text key) all named)) refl)
-entity_sent known (Pub destination key encoding qos reliable) (Some id) (Some text) all shared named =
+entity_sent known (Pub key settings) (Some id) (Some text) all shared named =
     let own = key_wire known.keys text key in
     let wire = group_wire (known.company Publishers).aggregates text own in
-    sent_if (joins_first (known.company Publishers) (record { id = id; told = has_network destination; text = text }))
+    sent_if (joins_first (known.company Publishers) (record { id = id; told = has_network settings.destination; text = text }))
     (Interest id CurrentFuture of_subscribers (Some wire))
     (and_from (is_plain_text wire.suffix) true
     (group_plain (known.company Publishers).aggregates text own (shared Publishers) (wire_plain known.keys text (declared_by known.keys text key) all named)) refl)
@@ -254,9 +254,9 @@ entity_sent known (Queryable origin complete key) (Some id) (Some text) all shar
     sent_if (has_network origin) (DeclareQueryable id complete wire)
     (and_from (is_plain_text wire.suffix) true (wire_plain known.keys text (declared_by known.keys text key) all named) refl)
 entity_sent known (Undeclare queryable_kind id) number text all shared named = queryable_left (queryable_at id known.queryables)
-entity_sent known (Querier destination key target consolidation timeout qos any_key) (Some id) (Some text) all shared named =
+entity_sent known (Querier key settings) (Some id) (Some text) all shared named =
     let wire = key_wire known.keys text key in
-    sent_if (joins_first (known.company Queriers) (record { id = id; told = has_network destination; text = text }))
+    sent_if (joins_first (known.company Queriers) (record { id = id; told = has_network settings.destination; text = text }))
     (Interest id CurrentFuture of_queryables (Some wire))
     (and_from (is_plain_text wire.suffix) true (wire_plain known.keys text (declared_by known.keys text key) all named) refl)
 entity_sent known (Undeclare querier_kind id) number text all shared named =
@@ -266,7 +266,7 @@ entity_sent known (Undeclare token_kind id) number text all shared named = (refl
 entity_sent known (Lsub history key) number text all shared named =
     declared_sent (token_interest (lsub_mode history)) known.keys number text key (λ id wire. refl) all named
 entity_sent known (Undeclare lsub_kind id) number text all shared named = (refl, tt)
-entity_sent known (LivelinessGet key timeout token) number text all shared named =
+entity_sent known (LivelinessGet key timeout token to) number text all shared named =
     declared_sent (token_interest Current) known.keys number text key (λ id wire. refl) all named
 entity_sent known e number text all shared named = tt
 

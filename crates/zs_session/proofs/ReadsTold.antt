@@ -18,6 +18,7 @@ use Rattle.zs_events.specs.declared.turn.HandOver.{HandOver}
 use Rattle.zs_events.specs.declared.turn.HandOver.TheVariants.{Sample, Reply, Query}
 use Rattle.zs_events.specs.declared.turn.Kind.{Kind}
 use Rattle.zs_events.specs.declared.turn.Refusal.TheVariants.{NotFound}
+use Rattle.zs_events.specs.Kinds.{row_of}
 use Rattle.zs_events.specs.Turn.{answered}
 use Rattle.zs_core.specs.declared.settings.Settings.{Settings}
 use Rattle.zs_core.specs.Entry.{is_closed}
@@ -25,7 +26,7 @@ use Rattle.zs_core.specs.Past.{past_of}
 use Rattle.zs_core.specs.Effects.{effects}
 use Rattle.zs_channels.specs.Channel.{nothing_in, first_or, received}
 use Rattle.zs_channels.specs.Told.{ChannelNews, Opens, Hears, Handed, Read, Ended, Declared, has_ended, held, state, channel_of, items_in, all_handed}
-use Rattle.zs_channels.specs.Heard.{declares, opening, news_of_item, news_of_effect, news_of_effects, news_of_turn}
+use Rattle.zs_channels.specs.Heard.{opening, news_of_item, news_of_effect, news_of_effects, news_of_turn}
 use Rattle.zs_channels.proofs.Giving.{holds}
 use Rattle.zs_script.specs.Pieces.{written}
 use Rattle.zs_script.specs.Printing.{received_fields}
@@ -46,7 +47,7 @@ PlainScript es = AllByRecursion (λ e. is_plain_script_event e ≡ true) es
 -- so it is with those of the session
 plain_core : (h : List ScriptEvent) → PlainScript h → PlainEvents (core_of h)
 plain_core [] all = tt
-plain_core (Core e to ∷ h) all = (all.0, plain_core h all.1)
+plain_core (Core e ∷ h) all = (all.0, plain_core h all.1)
 plain_core (Recv kind id ∷ h) all = plain_core h all.1
 
 -- what is handed over has no such text
@@ -92,12 +93,12 @@ plain_opening (Some kind) to (Refused refusal) = refl
 -- all that channels hear of plain events is plain
 plain_heard : (s : Settings) → has_plain_aggregates s ≡ true → (h : List ScriptEvent) → PlainScript h → PlainNews (heard s h)
 plain_heard s shared [] all = refl
-plain_heard s shared (Core e to ∷ h) all =
+plain_heard s shared (Core e ∷ h) all =
     let turn = effects s (core_of h) e in
-    news_both (news_of_turn e to turn) (heard s h)
-    (news_both (news_of_effects turn.effects) (opening (declares e) to turn.answer)
+    news_both (news_of_turn e turn) (heard s h)
+    (news_both (news_of_effects turn.effects) (opening (row_of e).handled (row_of e).channel turn.answer)
     (plain_news_of_effects turn.effects (plain_turn_effects s shared (past_of s (core_of h)) e (past_plain s (core_of h) (plain_core h all.1)) all.0))
-    (plain_opening (declares e) to turn.answer))
+    (plain_opening (row_of e).handled (row_of e).channel turn.answer))
     (plain_heard s shared h all.1)
 plain_heard s shared (Recv kind id ∷ h) all = plain_heard s shared h all.1
 
@@ -145,14 +146,14 @@ read_told n None false rest plain = told_turn n (answered (Some NotFound) None [
 pub text_told : (s : Settings) → has_plain_aggregates s ≡ true → (h es : List ScriptEvent) → PlainScript h → PlainScript es
     → told (text_after s h es) ≡ lines_after s h es
 text_told s shared h [] past all = refl
-text_told s shared h (Core e to ∷ es) past all =
+text_told s shared h (Core e ∷ es) past all =
     let n = length h + 1 in
     let c = core_of h in
     let plain = past_plain s c (plain_core h past) in
-    told_turn n (effects s c e) (text_after s (Core e to ∷ h) es) (plain_turn s shared (past_of s c) e plain all.0)
-    ∙ ap (λ (here : List (List ℕ)). here ++ told (text_after s (Core e to ∷ h) es))
+    told_turn n (effects s c e) (text_after s (Core e ∷ h) es) (plain_turn s shared (past_of s c) e plain all.0)
+    ∙ ap (λ (here : List (List ℕ)). here ++ told (text_after s (Core e ∷ h) es))
     (event_told s (past_of s c) n e (quiet_but s shared (past_of s c) e plain all.0))
-    ∙ ap (λ (later : List (List ℕ)). event_lines s (past_of s c) n e ++ later) (text_told s shared (Core e to ∷ h) es (all.0, past) all.1)
+    ∙ ap (λ (later : List (List ℕ)). event_lines s (past_of s c) n e ++ later) (text_told s shared (Core e ∷ h) es (all.0, past) all.1)
 text_told s shared h (Recv kind id ∷ es) past all =
     let n = length h + 1 in
     let answer = answer_of s h kind id in

@@ -1,6 +1,5 @@
 use Rattle.std.proofs.Common.{◌≡◌, ℕ, List, [], ◌∷◌, true, Option, Some, None, refl}
 use Rattle.std.specs.List.{list_all}
-use Rattle.zs_events.specs.declared.chan.Chan.TheVariants.{Print}
 use Rattle.zs_events.specs.declared.script_event.ScriptEvent.{ScriptEvent}
 use Rattle.zs_events.specs.declared.script_event.ScriptEvent.TheVariants.{Core}
 use Rattle.zs_core.specs.declared.settings.Settings.{Settings}
@@ -31,7 +30,7 @@ plain_events (row ∷ rows) all =
 -- the events of a script have no text with a tab or a line feed
 plain_script : (input : List ℕ) → PlainScript (script input)
 plain_script input =
-    all_append (λ e. is_plain_script_event e ≡ true) (events_of (lines input)) (Core Close Print ∷ []) (plain_events (lines input) (lines-no-feed input)) (refl, tt)
+    all_append (λ e. is_plain_script_event e ≡ true) (events_of (lines input)) (Core Close ∷ []) (plain_events (lines input) (lines-no-feed input)) (refl, tt)
 
 -- the text of every script tells it
 pub script_told : (s : Settings) (input : List ℕ) → has_plain_aggregates s ≡ true → Told s (script input) (told (text s (script input)))

@@ -6,8 +6,8 @@ use Rattle.std.proofs.lemmas.Bool.{and_parts, and_from}
 use Rattle.std.proofs.lemmas.List.{append-nil, map-append}
 use Rattle.std.proofs.lemmas.List.Elements.{filter-append}
 use Rattle.zs_events.specs.declared.event.Event.{Event}
-use Rattle.zs_events.specs.declared.event.Event.TheVariants.{Undeclare, Put, Delete, PublisherPut, PublisherDelete, Close, Net}
-use Rattle.zs_events.specs.declared.event.EntityKind.TheVariants.{Sub as sub_kind, Pub as pub_kind, Queryable as queryable_kind, Querier as querier_kind, Listener as listener_kind, Token as token_kind, Lsub as lsub_kind}
+use Rattle.zs_events.specs.declared.event.Event.TheVariants.{Undeclare, Publish, PublishBy, Close, Net}
+use Rattle.zs_events.specs.declared.entity_kind.EntityKind.TheVariants.{Sub as sub_kind, Pub as pub_kind, Queryable as queryable_kind, Querier as querier_kind, Listener as listener_kind, Token as token_kind, Lsub as lsub_kind}
 use Rattle.zs_tables.specs.declared.group_kind.GroupKind.TheVariants.{Subscribers, Publishers, Queriers}
 use Rattle.zs_wire.specs.declared.message.Message.TheVariants.{Push}
 use Rattle.zs_core.specs.declared.settings.Settings.{Settings}
@@ -218,10 +218,8 @@ has_values (GivesBack value) = true
 
 -- publishes nothing
 values_quiet : (past : List Entry) (n : ℕ) (e : Event) → has_values (row_of e).to_values ≡ true → hand_lines past n (published past e) ≡ []
-values_quiet past n (Put destination key payload encoding timestamp qos reliable source attachment) h = cc
-values_quiet past n (Delete destination key timestamp qos reliable source attachment) h = cc
-values_quiet past n (PublisherPut id payload encoding timestamp source attachment) h = cc
-values_quiet past n (PublisherDelete id timestamp source attachment) h = cc
+values_quiet past n (Publish destination key update quality) h = cc
+values_quiet past n (PublishBy id update) h = cc
 values_quiet past n (Net (Push push)) h = cc
 values_quiet past n e h = refl
 
@@ -255,10 +253,8 @@ is_for_gets EndsAll = false
 
 -- publishes nothing
 gets_quiet : (past : List Entry) (n : ℕ) (e : Event) → is_for_gets (to_gets_of past e) ≡ true → hand_lines past n (published past e) ≡ []
-gets_quiet past n (Put destination key payload encoding timestamp qos reliable source attachment) h = cc
-gets_quiet past n (Delete destination key timestamp qos reliable source attachment) h = cc
-gets_quiet past n (PublisherPut id payload encoding timestamp source attachment) h = cc
-gets_quiet past n (PublisherDelete id timestamp source attachment) h = cc
+gets_quiet past n (Publish destination key update quality) h = cc
+gets_quiet past n (PublishBy id update) h = cc
 gets_quiet past n (Net (Push push)) h = cc
 gets_quiet past n e h = refl
 
@@ -292,10 +288,8 @@ effects_told s past n number e quiet =
 
 -- a closed session that accepts an event publishes nothing
 shut_quiet : (past : List Entry) (n : ℕ) (seen : Sight) (e : Event) → first_that (holds true (row_of e) seen) in_order ≡ None → hand_lines past n (published past e) ≡ []
-shut_quiet past n seen (Put destination key payload encoding timestamp qos reliable source attachment) c = cc
-shut_quiet past n seen (Delete destination key timestamp qos reliable source attachment) c = cc
-shut_quiet past n seen (PublisherPut id payload encoding timestamp source attachment) c = cc
-shut_quiet past n seen (PublisherDelete id timestamp source attachment) c = cc
+shut_quiet past n seen (Publish destination key update quality) c = cc
+shut_quiet past n seen (PublishBy id update) c = cc
 shut_quiet past n seen (Net (Push push)) c = cc
 shut_quiet past n seen e c = refl
 

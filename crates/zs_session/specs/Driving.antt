@@ -7,7 +7,6 @@ use Rattle.zs_driving.specs.declared.driving.Driven.{Driven}
 use Rattle.zs_driving.specs.declared.errors.DriveError.{DriveError}
 use Rattle.zs_driving.specs.Tasks.{Task}
 use Rattle.zs_driving.specs.Driving.{AreGood, DrivesTo, Outlet, Supply, Completes as CompletesTask}
-use Rattle.zs_events.specs.declared.chan.Chan.TheVariants.{Print}
 use Rattle.zs_events.specs.declared.event.Event.TheVariants.{Close}
 use Rattle.zs_events.specs.declared.script_event.ScriptEvent.TheVariants.{Core}
 use Rattle.zs_core.specs.declared.settings.Settings.{Settings}
@@ -20,7 +19,7 @@ abbrev pub task : Settings → Task
 task s = record {
   is_line = λ row. is_some (event_of row);
   text = λ rows. text s (events_of rows);
-  whole = λ rows. text s (events_of rows ++ Core Close Print ∷ []);
+  whole = λ rows. text s (events_of rows ++ Core Close ∷ []);
   line_max = s.line_max;
   turns = s.turns;
 }

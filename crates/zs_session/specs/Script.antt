@@ -1,7 +1,6 @@
 -- What a script is, and its whole text.
 use Rattle.std.specs.Prelude.{ℕ, ◌+◌, Bool, true, false, List, [], ◌∷◌, ◌++◌, length, Option, Some, None}
 use Rattle.std.specs.List.{filter_map}
-use Rattle.zs_events.specs.declared.chan.Chan.TheVariants.{Print}
 use Rattle.zs_events.specs.declared.event.Event.TheVariants.{Close}
 use Rattle.zs_events.specs.declared.received.Received.{Received}
 use Rattle.zs_events.specs.declared.script_event.ScriptEvent.{ScriptEvent}
@@ -26,7 +25,7 @@ events_of rows = filter_map event_of rows
 
 -- the script that bytes are: the event of each line, and the close at the end of input
 abbrev pub script : List ℕ → List ScriptEvent
-script input = events_of (lines input) ++ Core Close Print ∷ []
+script input = events_of (lines input) ++ Core Close ∷ []
 
 -- why a read is refused, given what it is answered and whether the session is closed: while the session is open there
 -- has to be a channel
@@ -43,7 +42,7 @@ read_text number None closed = turn_text number (answered (read_refusal None clo
 
 -- what is printed for an event behind a history
 abbrev pub event_text : Settings → List ScriptEvent → ℕ → ScriptEvent → List ℕ
-event_text s h number (Core e to) = turn_text number (effects s (core_of h) e)
+event_text s h number (Core e) = turn_text number (effects s (core_of h) e)
 event_text s h number (Recv kind id) = read_text number (answer_of s h kind id) (is_closed (past_of s (core_of h)))
 
 -- what is printed for events behind a history: the lines of each one, under its number from 1
@@ -60,5 +59,5 @@ abbrev pub language : Settings → Language ScriptEvent
 language s = record {
   event_of = event_of;
   event_text = λ h e. event_text s h (length h + 1) e;
-  end_text = λ h. event_text s h (length h + 1) (Core Close Print);
+  end_text = λ h. event_text s h (length h + 1) (Core Close);
 }

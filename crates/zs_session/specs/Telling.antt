@@ -81,7 +81,7 @@ event_lines s past number e = refusal_or number (refusal_of s past e) (hand_line
 
 -- the lines that tell an event of a script behind a history: of a read its refusal alone
 abbrev pub script_lines : Settings → List ScriptEvent → ℕ → ScriptEvent → List (List ℕ)
-script_lines s h number (Core e to) = event_lines s (past_of s (core_of h)) number e
+script_lines s h number (Core e) = event_lines s (past_of s (core_of h)) number e
 script_lines s h number (Recv kind id) = refusal_or number (read_refusal (answer_of s h kind id) (is_closed (past_of s (core_of h)))) []
 
 -- the lines that tell events behind a history, one event after the other

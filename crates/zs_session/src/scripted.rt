@@ -3,7 +3,6 @@
 ghost use Rattle.std.specs.Prelude.{◌≡◌, ℕ, ◌+◌, Bool, true, false, is_some, ◌++◌, List, [], ◌∷◌, length, None, Ok, IsTrue, IfOk, OnOk, OnErr};
 ghost use Rattle.zs_driving.specs.Tasks.{Rules};
 ghost use Rattle.zs_driving.specs.Languages.{rules_of};
-ghost use Rattle.zs_events.specs.declared.chan.Chan.TheVariants.{Print};
 ghost use Rattle.zs_events.specs.declared.event.Event.TheVariants.{Close};
 ghost use Rattle.zs_events.specs.declared.script_event.ScriptEvent.{ScriptEvent};
 ghost use Rattle.zs_events.specs.declared.script_event.ScriptEvent.TheVariants.{Core, Recv};
@@ -19,7 +18,7 @@ use std::alloc::{AllocError, Global};
 use zs_channels::Channels;
 use zs_core::{Event, HandOver, Kind, Refusal, SessionState, Settings, Turn};
 use zs_driving::{LineMachine, Transcript};
-use zs_events::{Chan, Received, ScriptEvent};
+use zs_events::{Received, ScriptEvent};
 use zs_lines::Line;
 use zs_script::parse_event;
 
@@ -65,7 +64,7 @@ impl ScriptedSession {
         ensures err { OnErr result (transcript.new ≡ transcript.old) }
     {
         match event {
-            ScriptEvent::Core { event, to } => self.take_own(event, to, number, transcript),
+            ScriptEvent::Core(event) => self.take_own(event, number, transcript),
             ScriptEvent::Recv { kind, number: id } => self.read(kind, id, number, transcript),
         }
     }
@@ -74,16 +73,15 @@ impl ScriptedSession {
     fn take_own(
         &mut self,
         event: Event,
-        to: Chan,
         number: u64,
         transcript: &mut Transcript,
     ) -> Result<(), AllocError>
         ensures text { OnOk result ((s : Settings) (h : List ScriptEvent) → StandsFor self.old s h
-            → transcript.new ≡ transcript.old ++ event_text s h number (Core event to)) }
-        ensures stands { OnOk result ((s : Settings) (h : List ScriptEvent) → StandsFor self.old s h → StandsFor self.new s (Core event to ∷ h)) }
+            → transcript.new ≡ transcript.old ++ event_text s h number (Core event)) }
+        ensures stands { OnOk result ((s : Settings) (h : List ScriptEvent) → StandsFor self.old s h → StandsFor self.new s (Core event ∷ h)) }
         ensures err { OnErr result (transcript.new ≡ transcript.old) }
     {
-        let taken = self.step(&event, to, number, transcript);
+        let taken = self.step(&event, number, transcript);
         drop(event);
         taken
     }
@@ -93,17 +91,16 @@ impl ScriptedSession {
     fn step(
         &mut self,
         event: &Event,
-        to: Chan,
         number: u64,
         transcript: &mut Transcript,
     ) -> Result<(), AllocError>
         ensures text { OnOk result ((s : Settings) (h : List ScriptEvent) → StandsFor self.old s h
-            → transcript.new ≡ transcript.old ++ event_text s h number (Core event.now to)) }
-        ensures stands { OnOk result ((s : Settings) (h : List ScriptEvent) → StandsFor self.old s h → StandsFor self.new s (Core event.now to ∷ h)) }
+            → transcript.new ≡ transcript.old ++ event_text s h number (Core event.now)) }
+        ensures stands { OnOk result ((s : Settings) (h : List ScriptEvent) → StandsFor self.old s h → StandsFor self.new s (Core event.now ∷ h)) }
         ensures err { OnErr result (transcript.new ≡ transcript.old) }
     {
         let turn = self.state.step(event)?;
-        self.channels.hear_turn(self.alloc, event, to, &turn)?;
+        self.channels.hear_turn(event, &turn)?;
         add_turn(&mut self.printed, transcript, number, &turn)
     }
 
@@ -159,12 +156,9 @@ impl LineMachine for ScriptedSession {
 
 /// The close that the end of input is.
 fn end_of_input() -> ScriptEvent
-    ensures { result ≡ Core Close Print }
+    ensures { result ≡ Core Close }
 {
-    ScriptEvent::Core {
-        event: Event::Close,
-        to: Chan::Print,
-    }
+    ScriptEvent::Core(Event::Close)
 }
 
 /// Adds the text of a read, given what the channel answered, if there is one, and whether the session is closed.

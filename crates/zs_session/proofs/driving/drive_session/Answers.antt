@@ -1,4 +1,4 @@
-use Rattle.zs_session.proofs.Driven.{rules_are, behind_none, drives_script}
+use Rattle.zs_session.proofs.Retelling.{rules_are, behind_none, drives_script}
 use Rattle.zs_session.proofs.driving.drive_session.Goals as goal
 
 pub requires_of-drive_lines : goal.requires_of-drive_lines
