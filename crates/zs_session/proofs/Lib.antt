@@ -2,6 +2,7 @@ pub mod Cutting
 pub mod ChannelsHeard
 pub mod PlainKeys
 pub mod PlainParameters
+pub mod PlainIncluding
 pub mod PlainSends
 pub mod PlainValues
 pub mod PlainGets
@@ -14,4 +15,3 @@ pub mod Soaking
 pub mod Lines
 pub mod Retelling
 pub mod WordExamples
-pub mod PlainWords

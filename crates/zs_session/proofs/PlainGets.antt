@@ -28,8 +28,8 @@ use Rattle.zs_query.proofs.Keeping.{all_firsts}
 use Rattle.zs_wire.specs.declared.request.ConsolidationMode.{ConsolidationMode}
 use Rattle.zs_wire.specs.declared.request.ConsolidationMode.TheVariants as by
 use Rattle.zs_events.specs.declared.turn.Effect.TheVariants.{Send}
-use Rattle.zs_events.specs.declared.publication.ReplyQuality.{ReplyQuality}
 use Rattle.zs_events.specs.Kinds.{NamedKey, Question, ToGets, NoGet, Asks, AsksBy, Answers, EndsSide, Reaches, EndsQuerier, Cancels, EndsAll, ToValues, AnswersBy, GivesBack, value_texts, response_texts, row_of}
+use Rattle.zs_events.specs.declared.publication.ReplyQuality.{ReplyQuality}
 use Rattle.zs_core.specs.declared.settings.Settings.{Settings}
 use Rattle.zs_core.specs.Entry.{Entry}
 use Rattle.zs_core.specs.Live.{appended}

@@ -16,14 +16,14 @@ use Rattle.zs_sample.specs.Encoding.{encoding_of}
 use Rattle.zs_wire.specs.declared.message.Message.TheVariants.{Push}
 use Rattle.zs_wire.specs.declared.sample_kind.SampleKind.{SampleKind}
 use Rattle.zs_wire.specs.declared.sample_kind.SampleKind.TheVariants.{Put as put_kind, Delete as delete_kind}
-use Rattle.zs_events.specs.declared.update.PushBody.{PushBody}
-use Rattle.zs_events.specs.declared.update.PushBody.TheVariants.{Put as put_body, Delete as delete_body}
-use Rattle.zs_events.specs.declared.update.Update.{Update}
-use Rattle.zs_events.specs.Updates.{default_encoding, body_by, texts_by}
 use Rattle.zs_wire.specs.declared.wire_expr.Mapping.{Mapping}
 use Rattle.zs_wire.specs.declared.wire_expr.Mapping.TheVariants.{Sender, Receiver}
 use Rattle.zs_wire.specs.declared.wire_expr.WireExpr.{WireExpr}
 use Rattle.zs_events.specs.Kinds.{NamedKey, NoKey, OwnKey, PublisherKey, QuerierKey, WireKey, Publishes, NoContent, OwnContent, ByPublisher, row_of}
+use Rattle.zs_events.specs.declared.update.Update.{Update}
+use Rattle.zs_events.specs.declared.update.PushBody.{PushBody}
+use Rattle.zs_events.specs.declared.update.PushBody.TheVariants.{Put, Delete}
+use Rattle.zs_events.specs.Updates.{default_encoding, body_by, texts_by}
 use Rattle.zs_core.specs.Entry.{Entry, is_closed}
 use Rattle.std.specs.Option.{option_or}
 use Rattle.zs_core.specs.Held.{declares_number, tells_number, is_held, drawn_text, held_text, key_text, told_text, mapped_text, wire_text, text_named, named_text}
@@ -80,12 +80,12 @@ unfolding lib.Utf8.encode
 plain_encoding [] plain = refl
 plain_encoding (c ∷ cs) plain = plain
 
--- and what an update says has a plain encoding, where it names a plain one or that which stands in its place is plain
-pub body_plain : (body : PushBody) (unnamed : List ℕ) (update : Update) → AllPlain (texts_by body) → is_plain_text unnamed ≡ true
+-- the encoding of an update is the one that it names, or that which it has where it names none
+pub body_plain : (body : PushBody) (unnamed : List ℕ) (update : Update) → list_all is_field_text (texts_by body) ≡ true → is_plain_text (encoding_of unnamed) ≡ true
     → is_plain_text (body_by body unnamed update).encoding ≡ true
-body_plain (put_body payload (Some encoding)) unnamed update named plain = plain_encoding encoding named.0
-body_plain (put_body payload None) unnamed update named plain = plain_encoding unnamed plain
-body_plain delete_body unnamed update named plain = default_plain
+body_plain (Put payload None) unnamed update plain other = other
+body_plain (Put payload (Some encoding)) unnamed update plain other = plain_encoding encoding (field_plain encoding (and_parts (is_field_text encoding) true plain).0)
+body_plain Delete unnamed update plain other = default_plain
 
 -- and so is the one that is handed out
 pub plain_handed : (kind : SampleKind) (encoding : List ℕ) → is_plain_text encoding ≡ true → is_plain_text (handed_encoding kind encoding) ≡ true
@@ -238,15 +238,13 @@ PlainContent (OwnContent c) = is_plain_text c.body.encoding ≡ true
 PlainContent (ByPublisher id c) = Unit {0}
 
 -- what a publisher publishes names its own encoding, or another plain one
-published_plain : (update : Update) (o : Option PubRow) → AllPlain (texts_by update.body) → IfSome o PlainPub → PlainContent (content_of update o)
+published_plain : (update : Update) (o : Option PubRow) → list_all is_field_text (texts_by update.body) ≡ true → IfSome o PlainPub → PlainContent (content_of update o)
 published_plain update None named row = tt
-published_plain update (Some row) named found = body_plain update.body row.settings.encoding update named found.1
+published_plain update (Some row) named found = body_plain update.body row.settings.encoding update named (plain_encoding row.settings.encoding found.1)
 
 pub content_plain : (pubs : List PubRow) (e : Event) → PlainPubs pubs → is_plain_event e ≡ true → PlainContent (resolved pubs (row_of e).publishes)
 content_plain pubs (Publish destination key update quality) all plain =
-    let texts = and_parts (is_plain_key key) (list_all is_field_text (texts_by update.body)) plain in
-    body_plain update.body [] update (texts_plain (texts_by update.body) texts.1) refl
-content_plain pubs (PublishBy id update) all plain =
-    published_plain update (pub_at id pubs) (texts_plain (texts_by update.body) plain) (found_all PlainPub (λ row. row.id == id) pubs all)
+    body_plain update.body [] update (and_parts (is_plain_key key) (list_all is_field_text (texts_by update.body)) plain).1 default_plain
+content_plain pubs (PublishBy id update) all plain = published_plain update (pub_at id pubs) plain (found_all PlainPub (λ row. row.id == id) pubs all)
 content_plain pubs (Net (Push push)) all plain = last_plain (is_field_text push.wire.suffix) push.body.encoding plain
 content_plain pubs e all plain = tt

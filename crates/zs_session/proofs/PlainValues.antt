@@ -19,9 +19,8 @@ use Rattle.zs_events.specs.declared.event.Event.{Event}
 use Rattle.zs_events.specs.declared.event.Event.TheVariants.{Get, QuerierGet, Undeclare, Net, Reply as reply_event, ReplyErr}
 use Rattle.zs_events.specs.declared.entity_kind.EntityKind.{EntityKind}
 use Rattle.zs_events.specs.declared.entity_kind.EntityKind.TheVariants.{Sub as sub_kind, Pub as pub_kind, Queryable as queryable_kind, Querier as querier_kind, Listener as listener_kind, Token as token_kind, Lsub as lsub_kind}
+use Rattle.zs_events.specs.Kinds.{Question, ToGets, NoGet, Asks, AsksBy, Answers, gets_ended, ToValues, Requested, AnswersBy, AnswersError, SharesValue, GivesBack, text_if, value_texts, response_key, response_texts, row_of}
 use Rattle.zs_events.specs.declared.inquiry.Inquiry.{Inquiry}
-use Rattle.zs_events.specs.Updates.{body_of, texts_by}
-use Rattle.zs_events.specs.Kinds.{Question, ToGets, NoGet, Asks, AsksBy, Answers, gets_ended, ToValues, Requested, AnswersBy, AnswersError, SharesValue, GivesBack, value_texts, response_key, response_texts, row_of}
 use Rattle.zs_core.specs.Entry.{Entry}
 use Rattle.zs_core.specs.declared.querier.QuerierRow.{QuerierRow}
 use Rattle.zs_core.specs.Queriers.{querier_at, asks_of, to_gets_by}
@@ -29,20 +28,16 @@ use Rattle.zs_core.specs.Live.{live_queryables, live_queriers, to_gets_of}
 use Rattle.zs_core.specs.Questions.{parameters_of, sent_value}
 use Rattle.zs_core.specs.Values.{met_by_get, met_by_request, get_request, network_request, share_of, drawn_by, news_by_draw, times_handed, handing_by, value_news, values_now}
 use Rattle.zs_core.specs.GetEffects.{hand_query}
-use Rattle.zs_script.specs.Plain.{is_plain, is_plain_text, is_field_text, is_plain_key, is_plain_named, is_plain_event, text_if}
+use Rattle.zs_script.specs.Plain.{is_plain, is_plain_text, is_field_text, is_plain_key, is_plain_named, is_plain_event}
 use Rattle.zs_driving.proofs.Progress.{all_append}
-use Rattle.zs_session.proofs.PlainKeys.{IsText, AllPlain, PlainPast, field_text, last_plain, texts_plain, plain_encoding, body_plain, filter_all, found_all}
+use Rattle.zs_session.proofs.PlainKeys.{IsText, AllPlain, PlainPast, body_plain, field_text, last_plain, texts_plain, plain_encoding, default_plain, filter_all, found_all}
 use Rattle.zs_session.proofs.PlainParameters.{all_map, trimmed, parameters_text}
 use Rattle.zs_session.proofs.PlainSends.{IsQuiet, AreQuiet}
 
--- what a get asks, with plain texts
-abbrev pub PlainInquiry : Inquiry → Type 0
-PlainInquiry inquiry = (is_field_text inquiry.parameters ≡ true) × AllPlain (value_texts inquiry.value)
-
 -- what an event is to gets, with plain texts
 abbrev pub PlainToGets : ToGets → Type 0
-PlainToGets (Asks q) = PlainInquiry q.inquiry
-PlainToGets (AsksBy id inquiry) = PlainInquiry inquiry
+PlainToGets (Asks q) = (is_field_text q.inquiry.parameters ≡ true) × AllPlain (value_texts q.inquiry.value)
+PlainToGets (AsksBy id q) = (is_field_text q.parameters ≡ true) × AllPlain (value_texts q.value)
 PlainToGets (Answers response) = AllPlain (response_texts response.answered)
 PlainToGets to = Unit {0}
 
@@ -55,15 +50,14 @@ ended_plain listener_kind id = tt
 ended_plain token_kind id = tt
 ended_plain lsub_kind id = tt
 
-inquiry_plain : (inquiry : Inquiry) → (is_field_text inquiry.parameters && list_all is_field_text (value_texts inquiry.value)) ≡ true → PlainInquiry inquiry
-inquiry_plain inquiry plain =
-    let parts = and_parts (is_field_text inquiry.parameters) (list_all is_field_text (value_texts inquiry.value)) plain in
-    (parts.0, texts_plain (value_texts inquiry.value) parts.1)
-
 gets_plain : (e : Event) → is_plain_event e ≡ true → PlainToGets (row_of e).to_gets
 gets_plain (Get key settings inquiry to) plain =
-    inquiry_plain inquiry (and_parts (is_plain_key key) (is_field_text inquiry.parameters && list_all is_field_text (value_texts inquiry.value)) plain).1
-gets_plain (QuerierGet id inquiry to) plain = inquiry_plain inquiry plain
+    let texts = (and_parts (is_plain_key key) (is_field_text inquiry.parameters && list_all is_field_text (value_texts inquiry.value)) plain).1 in
+    let parts = and_parts (is_field_text inquiry.parameters) (list_all is_field_text (value_texts inquiry.value)) texts in
+    (parts.0, texts_plain (value_texts inquiry.value) parts.1)
+gets_plain (QuerierGet id inquiry to) plain =
+    let parts = and_parts (is_field_text inquiry.parameters) (list_all is_field_text (value_texts inquiry.value)) plain in
+    (parts.0, texts_plain (value_texts inquiry.value) parts.1)
 gets_plain (Undeclare kind id) plain = ended_plain kind id
 gets_plain (Net (response_message response)) plain =
     let named = is_plain_named (response_key response.answered response.wire) in
@@ -71,12 +65,12 @@ gets_plain (Net (response_message response)) plain =
 gets_plain e plain = tt
 
 -- a get of a querier has no text but its own
-asked_by_querier : (inquiry : Inquiry) (o : Option QuerierRow) → PlainInquiry inquiry → PlainToGets (asks_of inquiry o)
-asked_by_querier inquiry None plain = tt
-asked_by_querier inquiry (Some row) plain = plain
+asked_by_querier : (q : Inquiry) (o : Option QuerierRow) → (is_field_text q.parameters ≡ true) × AllPlain (value_texts q.value) → PlainToGets (asks_of q o)
+asked_by_querier q None plain = tt
+asked_by_querier q (Some row) plain = plain
 
 by_plain : (rows : List QuerierRow) (to : ToGets) → PlainToGets to → PlainToGets (to_gets_by rows to)
-by_plain rows (AsksBy id inquiry) plain = asked_by_querier inquiry (querier_at id rows) plain
+by_plain rows (AsksBy id q) plain = asked_by_querier q (querier_at id rows) plain
 by_plain rows to plain = plain
 
 -- so all is plain that a plain event is to gets
@@ -96,8 +90,7 @@ does_plain (Net (request_message request)) plain =
     let parts = and_parts (is_field_text request.parameters) (list_all is_field_text (value_texts request.value)) texts in
     (parts.0, texts_plain (value_texts request.value) parts.1)
 does_plain (reply_event value key update quality) plain =
-    let texts = and_parts (is_plain_key key) (list_all is_field_text (texts_by update.body)) plain in
-    body_plain update.body [] update (texts_plain (texts_by update.body) texts.1) refl
+    body_plain update.body [] update (and_parts (is_plain_key key) (list_all is_field_text (texts_by update.body)) plain).1 default_plain
 does_plain (ReplyErr value error) plain = plain_encoding error.encoding (last_plain true error.encoding plain)
 does_plain e plain = tt
 

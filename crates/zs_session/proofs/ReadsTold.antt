@@ -18,10 +18,11 @@ use Rattle.zs_events.specs.declared.turn.HandOver.{HandOver}
 use Rattle.zs_events.specs.declared.turn.HandOver.TheVariants.{Sample, Reply, Query}
 use Rattle.zs_events.specs.declared.turn.Kind.{Kind}
 use Rattle.zs_events.specs.declared.turn.Refusal.TheVariants.{NotFound}
-use Rattle.zs_events.specs.Kinds.{row_of}
 use Rattle.zs_events.specs.Turn.{answered}
+use Rattle.zs_events.specs.Kinds.{row_of}
 use Rattle.zs_core.specs.declared.settings.Settings.{Settings}
 use Rattle.zs_core.specs.Entry.{is_closed}
+use Rattle.zs_core.specs.Received.{AreSpelled}
 use Rattle.zs_core.specs.Past.{past_of}
 use Rattle.zs_core.specs.Effects.{effects}
 use Rattle.zs_channels.specs.Channel.{nothing_in, first_or, received}
@@ -35,7 +36,7 @@ use Rattle.zs_script.proofs.PlainTexts.{lines-found, fields-found}
 use Rattle.zs_script.proofs.PlainEffects.{answers-plain, received-plain}
 use Rattle.zs_session.specs.Heard.{core_of, heard, answer_of}
 use Rattle.zs_session.specs.Script.{read_refusal, read_text, text_after}
-use Rattle.zs_session.specs.Telling.{has_plain_aggregates, plain_line, tells, tells_behind, is_telling, told, refusal_or, event_lines, lines_after}
+use Rattle.zs_session.specs.Telling.{plain_line, tells, tells_behind, is_telling, told, refusal_or, event_lines, lines_after}
 use Rattle.zs_session.proofs.Cutting.{ArePlain}
 use Rattle.zs_session.proofs.PlainKeys.{PlainEvents, past_plain}
 use Rattle.zs_session.proofs.Telling.{PlainEffects, plain_turn, plain_turn_effects, event_told, quiet_but, told_turn}
@@ -91,7 +92,7 @@ plain_opening (Some kind) to (accepted None) = refl
 plain_opening (Some kind) to (Refused refusal) = refl
 
 -- all that channels hear of plain events is plain
-plain_heard : (s : Settings) → has_plain_aggregates s ≡ true → (h : List ScriptEvent) → PlainScript h → PlainNews (heard s h)
+plain_heard : (s : Settings) → AreSpelled s → (h : List ScriptEvent) → PlainScript h → PlainNews (heard s h)
 plain_heard s shared [] all = refl
 plain_heard s shared (Core e ∷ h) all =
     let turn = effects s (core_of h) e in
@@ -115,7 +116,7 @@ plain_first nothing [] none all = none
 plain_first nothing (item ∷ items) none all = (and_parts (plain_item item) (list_all plain_item items) all).0
 
 -- so what a read is answered is plain
-plain_answer : (s : Settings) → has_plain_aggregates s ≡ true → (h : List ScriptEvent) → PlainScript h → (kind : Kind) (id : ℕ)
+plain_answer : (s : Settings) → AreSpelled s → (h : List ScriptEvent) → PlainScript h → (kind : Kind) (id : ℕ)
     → IfSome (answer_of s h kind id) (λ answer. is_plain_received answer ≡ true)
 plain_answer s shared h all kind id = go (channel_of kind id (heard s h)) (holds plain_item (heard s h) kind id (plain_heard s shared h all))
   where
@@ -143,7 +144,7 @@ read_told n None true rest plain = told_turn n (answered None None []) rest (ans
 read_told n None false rest plain = told_turn n (answered (Some NotFound) None []) rest (answers-plain (Refused NotFound), tt)
 
 -- the whole text of plain events tells them
-pub text_told : (s : Settings) → has_plain_aggregates s ≡ true → (h es : List ScriptEvent) → PlainScript h → PlainScript es
+pub text_told : (s : Settings) → AreSpelled s → (h es : List ScriptEvent) → PlainScript h → PlainScript es
     → told (text_after s h es) ≡ lines_after s h es
 text_told s shared h [] past all = refl
 text_told s shared h (Core e ∷ es) past all =

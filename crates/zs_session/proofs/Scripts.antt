@@ -12,7 +12,8 @@ use Rattle.zs_script.proofs.PlainEvents.{events-plain}
 use Rattle.zs_driving.proofs.Progress.{all_append}
 use Rattle.zs_session.proofs.Cutting.{both}
 use Rattle.zs_session.specs.Script.{events_of, script, text}
-use Rattle.zs_session.specs.Telling.{has_plain_aggregates, Told, told}
+use Rattle.zs_core.specs.Received.{AreSpelled}
+use Rattle.zs_session.specs.Telling.{Told, told}
 use Rattle.zs_session.proofs.ReadsTold.{PlainScript, text_told}
 
 -- the events of lines without line feeds are plain
@@ -33,5 +34,5 @@ plain_script input =
     all_append (λ e. is_plain_script_event e ≡ true) (events_of (lines input)) (Core Close ∷ []) (plain_events (lines input) (lines-no-feed input)) (refl, tt)
 
 -- the text of every script tells it
-pub script_told : (s : Settings) (input : List ℕ) → has_plain_aggregates s ≡ true → Told s (script input) (told (text s (script input)))
-script_told s input plain = text_told s plain [] (script input) tt (plain_script input)
+pub script_told : (s : Settings) (input : List ℕ) → AreSpelled s → Told s (script input) (told (text s (script input)))
+script_told s input spelled = text_told s spelled [] (script input) tt (plain_script input)

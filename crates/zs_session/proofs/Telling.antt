@@ -23,7 +23,8 @@ use Rattle.zs_tables.specs.declared.queryable.QueryableRow.{QueryableRow}
 use Rattle.zs_tables.specs.declared.listener.ListenerRow.{ListenerRow}
 use Rattle.zs_tables.specs.MatchingLaws.{differ}
 use Rattle.zs_events.specs.Turn.{answered}
-use Rattle.zs_events.specs.Kinds.{Content, Publishes, NoContent, OwnContent, ByPublisher, ToGets, NoGet, Asks, AsksBy, Answers, EndsSide, Reaches, EndsQuerier, Cancels, EndsAll, ToValues, NoValue, Requested, AnswersBy, AnswersError, SharesValue, GivesBack, row_of}
+use Rattle.zs_events.specs.Kinds.{Publishes, NoContent, OwnContent, ByPublisher, ToGets, NoGet, Asks, AsksBy, Answers, EndsSide, Reaches, EndsQuerier, Cancels, EndsAll, ToValues, NoValue, Requested, AnswersBy, AnswersError, SharesValue, GivesBack, row_of}
+use Rattle.zs_events.specs.declared.publication.Content.{Content}
 use Rattle.zs_core.specs.Entry.{Entry, is_closed}
 use Rattle.zs_core.specs.Held.{named_text}
 use Rattle.zs_core.specs.Live.{live_subs, live_pubs, live_queryables, live_lsubs, live_listeners, to_gets_of}
@@ -36,6 +37,7 @@ use Rattle.zs_core.specs.Subscribers.{sub_ends}
 use Rattle.zs_core.specs.Queryables.{queryable_ends}
 use Rattle.zs_core.specs.Publications.{Publication, allows, sample_on}
 use Rattle.zs_core.specs.Seen.{Sight}
+use Rattle.zs_core.specs.Received.{AreSpelled}
 use Rattle.zs_core.specs.Causes.{past_sight, holds, in_order, first_that, refusal_of}
 use Rattle.zs_core.specs.Past.{entry_of}
 use Rattle.zs_core.specs.Groups.{company_of}
@@ -51,9 +53,9 @@ use Rattle.zs_script.specs.Printing.{hand_pieces, line, turn_text, answer_fields
 use Rattle.zs_script.specs.Plain.{is_plain, is_plain_text, is_plain_event, is_plain_effect}
 use Rattle.zs_script.proofs.PlainTexts.{fields-found}
 use Rattle.zs_script.proofs.PlainEffects.{answers-plain, effects-plain}
-use Rattle.zs_session.specs.Telling.{are_plain_keys, has_plain_aggregates, plain_line, tells, tells_behind, is_telling, told, published, hand_lines, refusal_or, event_lines}
+use Rattle.zs_session.specs.Telling.{plain_line, tells, tells_behind, is_telling, told, published, hand_lines, refusal_or, event_lines}
 use Rattle.zs_session.proofs.PlainKeys.{IsText, PlainPast, PlainContent, plain_handed, content_plain, pubs_plain, held_plain, text_plain}
-use Rattle.zs_session.proofs.PlainSends.{IsQuiet, AreQuiet, ArePlainGroups, sent_by, quiet_tell, all_plain, all_sent}
+use Rattle.zs_session.proofs.PlainSends.{IsQuiet, AreQuiet, AreSpelledGroups, sent_by, quiet_tell, all_plain, all_sent}
 use Rattle.zs_session.proofs.PlainValues.{to_plain, does_plain, drawn_plain, values_plain}
 use Rattle.zs_session.proofs.PlainGets.{open_plain, told_quiet, request_quiet}
 use Rattle.zs_session.proofs.PlainAnswers.{value_quiet}
@@ -356,13 +358,13 @@ plain_publication rows (Some text) (OwnContent c) key plain =
     plain_hands (on_text text c) (filter (allows (on_text text c)) rows) key.0 (plain_handed c.body.kind c.body.encoding plain)
 
 -- the aggregates that groups see are those of the settings
-shared_plain : (s : Settings) (past : List Entry) → has_plain_aggregates s ≡ true → ArePlainGroups (λ kind. company_of s kind past)
-shared_plain s past shared Subscribers = (and_parts (are_plain_keys s.aggregated_subscribers) (are_plain_keys s.aggregated_publishers) shared).0
-shared_plain s past shared Publishers = (and_parts (are_plain_keys s.aggregated_subscribers) (are_plain_keys s.aggregated_publishers) shared).1
-shared_plain s past shared Queriers = refl
+shared_spelled : (s : Settings) (past : List Entry) → AreSpelled s → AreSpelledGroups (λ kind. company_of s kind past)
+shared_spelled s past spelled Subscribers = spelled.0
+shared_spelled s past spelled Publishers = spelled.1
+shared_spelled s past spelled Queriers = tt
 
 -- what a plain event brings about is quiet, and plain
-pub quiet_but : (s : Settings) → has_plain_aggregates s ≡ true → (past : List Entry) (e : Event) → PlainPast past → is_plain_event e ≡ true → (number : Option ℕ)
+pub quiet_but : (s : Settings) → AreSpelled s → (past : List Entry) (e : Event) → PlainPast past → is_plain_event e ≡ true → (number : Option ℕ)
     → IsQuietBut s past number e
 quiet_but s shared past e all plain number =
     let named = text_plain past e all plain in
@@ -373,7 +375,7 @@ quiet_but s shared past e all plain number =
     let values = values_plain past all in
     let drew = drawn_plain known.queryables known.handing (to_gets_of past e) (row_of e).to_values number (named_text past e) values named to does in
     record {
-      sends = all_sent (known_of s past) number (named_text past e) e (λ n. held_plain n past all) (shared_plain s past shared) named
+      sends = all_sent (known_of s past) number (named_text past e) e (λ n. held_plain n past all) (shared_spelled s past shared) named
           (content_plain (live_pubs past) e (pubs_plain past all) plain);
       watches = watch_quiet known.watch number (named_text past e) (row_of e).to_liveliness (ends_of (live_queryables past) (live_subs past) (live_lsubs past) e) (tokens_plain s past all)
           named (ends_quiet (live_queryables past) (live_subs past) (live_lsubs past) e);
@@ -403,7 +405,7 @@ plain_with_values (AnswersError value error) rest values r v = v
 plain_with_values (SharesValue value) rest values r v = v
 plain_with_values (GivesBack value) rest values r v = v
 
-plain_effects : (s : Settings) → has_plain_aggregates s ≡ true → (past : List Entry) (number : Option ℕ) (e : Event) → PlainPast past → is_plain_event e ≡ true
+plain_effects : (s : Settings) → AreSpelled s → (past : List Entry) (number : Option ℕ) (e : Event) → PlainPast past → is_plain_event e ≡ true
     → PlainEffects (brought_whole s past number e)
 plain_effects s shared past number e all plain =
     let P : Effect → Type 0 = λ f. is_plain_effect f ≡ true in
@@ -425,7 +427,7 @@ plain_effects s shared past number e all plain =
     (all_plain listeners (listeners_quiet past (entry_of s past e)))
 
 -- so are the effects of its turn
-pub plain_turn_effects : (s : Settings) → has_plain_aggregates s ≡ true → (past : List Entry) (e : Event) → PlainPast past → is_plain_event e ≡ true → PlainEffects (turn_of s past e).effects
+pub plain_turn_effects : (s : Settings) → AreSpelled s → (past : List Entry) (e : Event) → PlainPast past → is_plain_event e ≡ true → PlainEffects (turn_of s past e).effects
 plain_turn_effects s shared past e all plain = go (is_closed past)
   where
     effects_of : (o : Option Refusal) (number : Option ℕ) (fx : List Effect) → PlainEffects fx → PlainEffects (answered o number fx).effects
@@ -439,7 +441,7 @@ plain_turn_effects s shared past e all plain = go (is_closed past)
     go false = effects_of (refusal_of s past e) (entry_of s past e).number (brought_whole s past (entry_of s past e).number e) (plain_effects s shared past (entry_of s past e).number e all plain)
 
 -- and the texts of all its lines
-pub plain_turn : (s : Settings) → has_plain_aggregates s ≡ true → (past : List Entry) (e : Event) → PlainPast past → is_plain_event e ≡ true → AllByRecursion ArePlain (turn_rows (turn_of s past e))
+pub plain_turn : (s : Settings) → AreSpelled s → (past : List Entry) (e : Event) → PlainPast past → is_plain_event e ≡ true → AllByRecursion ArePlain (turn_rows (turn_of s past e))
 plain_turn s shared past e all plain = go (is_closed past)
   where
     answer : (o : Option Refusal) (number : Option ℕ) (fx : List Effect) → PlainEffects fx → AllByRecursion ArePlain (turn_rows (answered o number fx))

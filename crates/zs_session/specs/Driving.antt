@@ -1,5 +1,5 @@
 -- What one run over a script says of its source, its sink and its answer.
-use Rattle.std.specs.Prelude.{◌≡◌, ℕ, ◌+◌, true, is_some, List, [], ◌∷◌, ◌++◌, length, Option, Result}
+use Rattle.std.specs.Prelude.{◌≡◌, ℕ, ◌+◌, is_some, List, [], ◌∷◌, ◌++◌, length, Option, Result}
 use Rattle.zs_keys.specs.Stream.{TakesOff}
 use Rattle.zs_lines.specs.Lines.{lines}
 use Rattle.zs_lines.specs.Reading.{IsSpent}
@@ -12,7 +12,7 @@ use Rattle.zs_events.specs.declared.script_event.ScriptEvent.TheVariants.{Core}
 use Rattle.zs_core.specs.declared.settings.Settings.{Settings}
 use Rattle.zs_script.specs.Grammar.{event_of}
 use Rattle.zs_session.specs.Script.{events_of, script, text}
-use Rattle.zs_session.specs.Telling.{has_plain_aggregates, Told, told}
+use Rattle.zs_session.specs.Telling.{Told, told}
 
 -- what a run over a script is to do: its lines are events, and what it puts out is the text of those that it took
 abbrev pub task : Settings → Task
@@ -25,7 +25,7 @@ task s = record {
 }
 
 -- The run came to its end: `input` is what the source gave, which holds nothing now. Each line was an event, and what
--- was put out is the text of the script, which tells the script where no aggregate of the settings could break a line.
+-- was put out is the text of the script, which tells the script.
 pub record IsDone (s : Settings) (left left' : Option (List ℕ)) (Puts : List ℕ → Type 0) (count : ℕ) : Type 0 where
   pub input : List ℕ
   pub output : List ℕ
@@ -34,7 +34,7 @@ pub record IsDone (s : Settings) (left left' : Option (List ℕ)) (Puts : List �
   pub good : AreGood (task s) (lines input)
   pub sink : Puts output
   pub whole : output ≡ text s (script input)
-  pub tells : has_plain_aggregates s ≡ true → Told s (script input) (told output)
+  pub tells : Told s (script input) (told output)
   pub events : count ≡ length (lines input) + 1
 
 -- What every run says: of its end, of what was put out at whatever exit, and the cause of each error.

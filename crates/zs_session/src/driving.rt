@@ -5,6 +5,7 @@ ghost use Rattle.zs_session.specs.Driving.{Drives, Completes};
 ghost use Rattle.zs_session.specs.Scripted.{StandsFor};
 
 use crate::scripted::ScriptedSession;
+use crate::spelling::spell_aggregates;
 use std::alloc::Global;
 use zs_core::Settings;
 use zs_driving::{DriveError, Driven, drive_lines};
@@ -65,6 +66,7 @@ fn drive_session<S: Source, K: Sink>(
         (record { written = K.written sink.old; faults = K.faults sink.old })
         (record { written = K.written sink.new; faults = K.faults sink.new }) }
 {
+    spell_aggregates(settings);
     drive_lines(
         alloc,
         source,

@@ -2,7 +2,7 @@
 #![tactic(auto)]
 
 pub use driving::drive;
-pub use laws::{aggregates_are_plain, text_tells};
+pub use laws::text_tells;
 pub use running::run;
 pub use words::settings_of;
 pub use zs_core::{KeyList, Settings};
@@ -14,4 +14,5 @@ mod printing;
 mod running;
 mod scripted;
 mod soak;
+mod spelling;
 mod words;
