@@ -15,7 +15,7 @@ use Rattle.zs_driving.specs.declared.driving.Driven.{Driven}
 use Rattle.zs_driving.specs.declared.errors.DriveError.{DriveError}
 use Rattle.zs_driving.specs.declared.errors.DriveError.TheVariants.{ReadFault, WriteFault, BadLine, LineTooLong, OutOfTurns, NoMemory}
 use Rattle.zs_driving.specs.Tasks.{Task}
-use Rattle.zs_driving.specs.Driving.{Drives, DrivesTo, HasRead, HasSpentTurns, IsDone, IsFront, StopsAt, IsNoLine, IsLong, PutsWaiting, Supply, Outlet, read_text}
+use Rattle.zs_driving.specs.Driving.{Drives, DrivesTo, HasRead, HasReadAll, HasSpentTurns, IsDone, IsFront, StopsAt, IsNoLine, IsLong, PutsWaiting, Supply, Outlet, read_text}
 use Rattle.zs_driving.specs.Errors.{drive_error}
 use Rattle.zs_driving.proofs.Progress.{Progress, fresh, front_none, front_read}
 
@@ -44,6 +44,7 @@ stops t IsEnd e before after from to Puts left cause =
     let P : DriveError → Type 0 = λ x. CauseOf t x before after from to Puts in
     record {
       done = tt;
+      all_read = tt;
       front = left.front;
       bad_line = λ number same. subst P (same_error (Err e) e (BadLine number) refl same) cause;
       long_line = λ number same. subst P (same_error (Err e) e (LineTooLong number) refl same) cause;
@@ -96,17 +97,38 @@ pub record Counted (t : Task) (before now : Supply) (reader : Reading) : Type 0 
   pub turns : reader.turns ≤ t.turns
   pub pieces : now.pieces ≡ count_after before.pieces (t.turns - reader.turns)
   pub reads : reader.ended ≡ false → now.reads ≡ count_after before.reads (t.turns - reader.turns)
+  pub seen : reader.ended ≡ true → now.reads ≡ count_after before.reads (t.turns - reader.turns + 1)
 
 pub counted_same : (t : Task) (before now : Supply) (reader reader' : Reading) → reader' ≡ reader → Counted t before now reader → Counted t before now reader'
 counted_same t before now reader reader' same c = let P : Reading → Type 0 = λ r. Counted t before now r in subst P (sym same) c
 
+-- the end was seen before, or now
+seen_on : (first count new turns mid left : ℕ) → count ≡ count_after first (turns - mid) → new ≡ count_after count (mid - left + 1)
+    → mid ≤ turns → left ≤ mid → new ≡ count_after first (turns - left + 1)
+seen_on first count new turns mid left one two low lower =
+    two ∙ ap (λ c. count_after c (mid - left + 1)) one ∙ count-two first (turns - mid) (mid - left + 1) ∙ ap (λ n. count_after first n) (omega arith)
+
+seen_next : (t : Task) (before mid after : Supply) (old new : Reading) (given : List ℕ) → Counted t before mid old → Reads old new given
+    → (old.ended ≡ true → after.reads ≡ mid.reads) → (old.ended ≡ false → new.ended ≡ true → after.reads ≡ count_after mid.reads (old.turns - new.turns + 1))
+    → new.ended ≡ true → after.reads ≡ count_after before.reads (t.turns - new.turns + 1)
+seen_next t before mid after old new given c read still seen ended = go old.ended refl
+  where
+    go : (b : Bool) → old.ended ≡ b → after.reads ≡ count_after before.reads (t.turns - new.turns + 1)
+    go true was =
+        let none = (read.behind was).0 in
+        let same : old.turns ≡ new.turns = omega (arith, read.turns, read.bytes, ap length none) in
+        still was ∙ c.seen was ∙ ap (λ n. count_after before.reads (t.turns - n + 1)) same
+    go false was = seen_on before.reads mid.reads after.reads t.turns old.turns new.turns (c.reads was) (seen was ended) c.turns read.turns
+
 pub counted_next : (t : Task) (before mid after : Supply) (old new : Reading) (given : List ℕ) → Counted t before mid old → Reads old new given
     → after.pieces ≡ count_after mid.pieces (old.turns - new.turns)
-    → (new.ended ≡ false → after.reads ≡ count_after mid.reads (old.turns - new.turns)) → Counted t before after new
-counted_next t before mid after old new given c read pieces reads = record {
+    → (new.ended ≡ false → after.reads ≡ count_after mid.reads (old.turns - new.turns)) → (old.ended ≡ true → after.reads ≡ mid.reads)
+    → (old.ended ≡ false → new.ended ≡ true → after.reads ≡ count_after mid.reads (old.turns - new.turns + 1)) → Counted t before after new
+counted_next t before mid after old new given c read pieces reads still seen = record {
   turns = omega (arith, c.turns, read.turns);
   pieces = counted_on before.pieces mid.pieces after.pieces t.turns old.turns new.turns c.pieces pieces c.turns read.turns;
   reads = λ ended. counted_on before.reads mid.reads after.reads t.turns old.turns new.turns (c.reads (not_before old new given read ended)) (reads ended) c.turns read.turns;
+  seen = λ ended. seen_next t before mid after old new given c read still seen ended;
 }
 
 pub few_read : (t : Task) (before now : Supply) (reader : Reading) → Counted t before now reader → now.pieces ≤ before.pieces + t.turns
@@ -128,6 +150,10 @@ spent_all t before after new c none unseen bytes =
       each = c.pieces ∙ ap (λ n. count_after before.pieces n) all;
       bytes = bytes;
     }
+
+-- all was read
+pub read_all : (t : Task) (before after : Supply) (new : Reading) → Counted t before after new → new.ended ≡ true → HasReadAll before after
+read_all t before after new c ended = record { count = t.turns - new.turns; made = c.seen ended; each = c.pieces }
 
 -- a fault of one read is one of the run
 pub risen_before : (old mid new : ℕ) → old ≤ mid → HasRisen mid new → HasRisen old new
@@ -187,6 +213,7 @@ module _ (t : Task) (text' whole' : List (List ℕ) → List ℕ) (Puts Puts' : 
       → DrivesTo t IsEnd r before after from to Puts → DrivesTo other IsEnd' r before after from to Puts'
   retold IsEnd IsEnd' r before after from to ends d = record {
     done = done_told IsEnd IsEnd' ends r d.done;
+    all_read = d.all_read;
     front = front_told before.left after.left d.front;
     bad_line = λ number same. stop_told before.left after.left number (IsNoLine t) (d.bad_line number same);
     long_line = λ number same. stop_told before.left after.left number (IsLong t) (d.long_line number same);
@@ -247,6 +274,7 @@ drives_out t Closed r before after from mid to waiting d put later =
     (done_out t before.left after.left Puts Puts' Closed puts) d in
     record {
       done = told.done;
+      all_read = d.all_read;
       front = told.front;
       bad_line = told.bad_line;
       long_line = told.long_line;
@@ -292,9 +320,10 @@ err_next t IsEnd e r before mid after from to Puts old new given Took number now
 
 -- a run that came to its end
 pub ends_well : (t : Task) (IsEnd : ℕ → Type 0) (driven : Driven) (before after : Supply) (from to : Outlet) (Puts : List ℕ → Type 0)
-    → IsEnd driven.events → IsLeft t before after from to Puts → DrivesTo t IsEnd (Ok driven) before after from to Puts
-ends_well t IsEnd driven before after from to Puts done left = record {
+    → IsEnd driven.events → HasReadAll before after → IsLeft t before after from to Puts → DrivesTo t IsEnd (Ok driven) before after from to Puts
+ends_well t IsEnd driven before after from to Puts done all left = record {
   done = done;
+  all_read = all;
   front = left.front;
   bad_line = λ number same. cc;
   long_line = λ number same. cc;
@@ -318,6 +347,7 @@ counted_fresh t before =
       turns = omega arith;
       pieces = sym (count-none before.pieces) ∙ ap (λ n. count_after before.pieces n) (sym none);
       reads = λ unseen. sym (count-none before.reads) ∙ ap (λ n. count_after before.reads n) (sym none);
+      seen = λ ended. cc;
     }
 
 -- an error of an inner call, known to be that of a write

@@ -99,10 +99,17 @@ pub record HasSpentTurns (turns : ℕ) (before after : Supply) : Type 0 where
   pub each : after.pieces ≡ count_after before.pieces turns
   pub bytes : (gave : List ℕ) × TakesOff before.left gave after.left × (turns ≤ length gave)
 
+-- each read but the last gave bytes, and the last one saw the end: so none failed
+pub record HasReadAll (before after : Supply) : Type 0 where
+  pub count : ℕ
+  pub made : after.reads ≡ count_after before.reads (count + 1)
+  pub each : after.pieces ≡ count_after before.pieces count
+
 -- What every run says, where that is what it says at its end: of what was put out at whatever exit, and the cause of
 -- each error.
 pub record DrivesTo (t : Task) (IsEnd : ℕ → Type 0) (r : Result Driven DriveError) (before after : Supply) (from to : Outlet) (Puts : List ℕ → Type 0) : Type 0 where
   pub done : IfOk r (λ driven. IsEnd driven.events)
+  pub all_read : IfOk r (λ driven. HasReadAll before after)
   pub front : IsFront t before.left after.left Puts
   pub bad_line : (number : ℕ) → r ≡ Err (BadLine number) → StopsAt t before.left after.left Puts number (IsNoLine t)
   pub long_line : (number : ℕ) → r ≡ Err (LineTooLong number) → StopsAt t before.left after.left Puts number (IsLong t)

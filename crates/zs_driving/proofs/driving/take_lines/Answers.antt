@@ -6,7 +6,7 @@ use Rattle.zs_driving.specs.Tasks.{Task, task_of, lines_behind, lines_text, clos
 use Rattle.zs_driving.specs.Driving.{IsDone, PutsWaiting}
 use Rattle.zs_driving.specs.Errors.{drive_error}
 use Rattle.zs_driving.specs.declared.errors.DriveError.TheVariants.{WriteFault, NoMemory, BadLine}
-use Rattle.zs_driving.proofs.Exits.{stops, handed_on, next_cause, counted_same, counted_next, few_read, few_next, spent_all, risen_before, err_next, ends_well, begun_empty, counted_fresh, handed_error}
+use Rattle.zs_driving.proofs.Exits.{stops, handed_on, next_cause, counted_same, counted_next, few_read, few_next, read_all, spent_all, risen_before, err_next, ends_well, begun_empty, counted_fresh, handed_error}
 use Rattle.zs_driving.proofs.Progress.{Progress, fresh, begun, due, front_written, is_next, stopped, stopped_long, spent_turns, went_on, end_is_next, closed, front_closed, waits_on, text_push}
 use Rattle.zs_driving.proofs.driving.take_lines.Goals as goal
 
@@ -62,7 +62,7 @@ returns-in_err-line g c =
     (λ place long. let at = subst A long a.3 in
     stopped_long t _ _ _ reader c.next.new.self _ _ c.lines.taken p a.0 a.1 a.2 e.at_end place at.0 at.1)
     (λ spent. let at = subst A spent a.3 in
-    spent_all t _ _ c.next.new.self (counted_next t _ _ _ reader c.next.new.self a.0 k a.2 e.pieces (λ unseen. e.reads (λ fault. cc) unseen)) at.0 at.1
+    spent_all t _ _ c.next.new.self (counted_next t _ _ _ reader c.next.new.self a.0 k a.2 e.pieces (λ unseen. e.reads (λ fault. cc) unseen) (λ ended. ap (λ source. g.S.Source.reads source) (e.still ended)) (e.seen (λ fault. cc))) at.0 at.1
     (spent_turns t _ _ _ reader c.next.new.self _ _ c.lines.taken p a.0 a.1 a.2 e.at_end at.0)))
 
 pub returns-in_err-is_line : goal.returns-in_err-is_line
@@ -124,7 +124,7 @@ lines-preserved g c =
           _ _ (sym c.in_ok-is_line.ensures.known ∙ known) (c.in_ok-is_line.ensures.goes_on taken r h p.stands next)
           (waits_on _ c.write_if_due.new.transcript c.take.new.transcript _ _ (r.line_text h bytes) _ (c.in_ok-is_line.ensures.text taken r h p.stands next)
           (text_push r p.read bytes) p.output);
-      counted = counted_next t _ _ _ reader c.next.new.self a.0 k a.2 e.pieces (λ unseen. e.reads (λ fault. cc) unseen);
+      counted = counted_next t _ _ _ reader c.next.new.self a.0 k a.2 e.pieces (λ unseen. e.reads (λ fault. cc) unseen) (λ ended. ap (λ source. g.S.Source.reads source) (e.still ended)) (e.seen (λ fault. cc));
       source_later = omega (arith, inv.source_later, e.later);
       sink_later = omega (arith, inv.sink_later, c.write_if_due.ensures.later);
     }
@@ -179,7 +179,8 @@ returns g c =
     let put = waits_on _ c.write_if_due.new.transcript c.end.new.transcript _ _ (r.end_text h) _ (c.in_ok-end.ensures.text r h p.stands next) refl p.output in
     ends_well t _ _ _ _ _ _ _
     (closed t _ _ _ reader c.next.new.self _ _ c.lines.taken p a.0 a.1 a.2 e.at_end _ _ end.0 end.2 put
-    (c.in_ok-end.ensures.closes r h p.stands next) number same_number) (record {
+    (c.in_ok-end.ensures.closes r h p.stands next) number same_number)
+    (read_all t _ _ c.next.new.self (counted_next t _ _ _ reader c.next.new.self a.0 k a.2 e.pieces (λ unseen. e.reads (λ fault. cc) unseen) (λ ended. ap (λ source. g.S.Source.reads source) (e.still ended)) (e.seen (λ fault. cc))) end.2) (record {
       front = front_closed t _ _ _ reader c.next.new.self _ _ c.lines.taken p a.0 a.1 a.2 e.at_end _ (λ rows. Unit {0}) end.0 end.2 put;
       few_reads = few_next t _ (record {
         left = g.S.Source.left c.lines.source;
