@@ -5,27 +5,38 @@ use Rattle.std.proofs.lemmas.Bool.Decides.{nat_tests}
 use Rattle.std.specs.Result.{IsErrAnd}
 use Rattle.zs_keys.specs.Stream.{TakesOff, count_after, HoldsNothing}
 use Rattle.zs_lines.specs.Lines.{lines}
-use Rattle.zs_lines.specs.Reading.{Reading, Reads, IsTooLong, IsSpent, Answers}
+use Rattle.zs_lines.specs.Reading.{Reading, Reads, IsTooLong, IsSpent, Keeps, Answers}
 use Rattle.zs_lines.specs.declared.reader.Line.{Line}
 use Rattle.zs_lines.specs.declared.reader.LineError.{LineError}
 use Rattle.zs_lines.specs.declared.reader.LineError.TheVariants.{ReadFault, LineTooLong, OutOfTurns, NoMemory}
+
+-- a reader that is as it was keeps all
+pub keeps_same : (old new : Reading) → new ≡ old → Keeps old new []
+keeps_same old new same = (ap (λ r. r.held) same ∙ sym (append-nil old.held), ap (λ r. r.given) same)
+
+-- what is kept of what was kept before
+keeps_before : (old mid new : Reading) (gave : List ℕ) → mid.held ≡ old.held ++ gave → mid.given ≡ old.given → Keeps mid new [] → Keeps old new gave
+keeps_before old mid new gave held given kept = (kept.0 ∙ append-nil mid.held ∙ held, kept.1 ∙ given)
 
 -- a `?` hands an error of a line on
 pub answers-error : (old new : Reading) (given : Result Line LineError) (result : Result (Option Line) LineError) (e : LineError)
     → given ≡ Err e → IsErrAnd result (λ y. y ≡ e)
     → ((n : ℕ) → given ≡ Err (LineTooLong n) → (n ≡ old.given + 1) × IsTooLong old [])
-    → (given ≡ Err OutOfTurns → ⊥) → Answers old new [] result
-answers-error old new given result e was now long never =
+    → (given ≡ Err OutOfTurns → ⊥) → new ≡ old → Answers old new [] result
+answers-error old new given result e was now long never unmoved =
     let p = err_from_is_err_and result now in
     let P : Result (Option Line) LineError → Type 0 = λ r. Answers old new [] r in
     let same : given ≡ Err p.0 = cc (was, p.2) in
     subst P (sym p.1) (go p.0 same)
   where
+    kept : Keeps old new []
+    kept = keeps_same old new unmoved
+
     go : (y : LineError) → given ≡ Err y → Answers old new [] (Err y)
-    go (LineTooLong n) same = long n same
+    go (LineTooLong n) same = let at = long n same in (at.0, at.1, kept)
     go OutOfTurns same = absurd (never same)
-    go ReadFault same = tt
-    go NoMemory same = tt
+    go ReadFault same = kept
+    go NoMemory same = kept
 
 -- what a call answers that began with what was read before
 pub answers-before : (old mid new : Reading) (gave : List ℕ) (r : Result (Option Line) LineError) → mid.held ≡ old.held ++ gave
@@ -46,10 +57,11 @@ answers-before old mid new gave (Err (LineTooLong n)) held given max a = (
     ap lines (sym (append_assoc old.held gave more) ∙ ap (λ (bytes : List ℕ). bytes ++ more) (sym held)) ∙ long.2,
     omega (arith, long.3, max),
   ),
+  keeps_before old mid new gave held given a.2,
 )
-answers-before old mid new gave (Err OutOfTurns) held given max a = a
-answers-before old mid new gave (Err ReadFault) held given max a = tt
-answers-before old mid new gave (Err NoMemory) held given max a = tt
+answers-before old mid new gave (Err OutOfTurns) held given max a = (a.0, a.1, keeps_before old mid new gave held given a.2)
+answers-before old mid new gave (Err ReadFault) held given max a = keeps_before old mid new gave held given a
+answers-before old mid new gave (Err NoMemory) held given max a = keeps_before old mid new gave held given a
 
 -- two calls after each other read what both read
 pub reads-two : (old mid new : Reading) (gave next : List ℕ) → Reads old mid gave → Reads mid new next → Reads old new (gave ++ next)

@@ -45,14 +45,19 @@ abbrev pub IsTooLong : Reading → List ℕ → Type 0
 IsTooLong old gave = (more : List ℕ) → (bytes : List ℕ) × (rest : List (List ℕ))
     × (lines (old.held ++ (gave ++ more)) ≡ bytes ∷ rest) × (old.line_max < length bytes)
 
--- what a call answers, where it read these bytes: the next line, the end of all lines, or an error with its cause
+-- what was held and what was read is held, and no line more was given
+abbrev pub Keeps : Reading → Reading → List ℕ → Type 0
+Keeps old new gave = (new.held ≡ old.held ++ gave) × (new.given ≡ old.given)
+
+-- what a call answers, where it read these bytes: the next line, the end of all lines, or an error with its cause, at which
+-- no byte is lost
 abbrev pub Answers : Reading → Reading → List ℕ → Result (Option Line) LineError → Type 0
 Answers old new gave (Ok (Some line)) = GivesLine old new gave line.number line.bytes.items
 Answers old new gave (Ok None) = (old.held ++ gave ≡ []) × (new.held ≡ []) × (new.ended ≡ true)
-Answers old new gave (Err (LineTooLong number)) = (number ≡ old.given + 1) × IsTooLong old gave
-Answers old new gave (Err OutOfTurns) = (new.turns ≡ 0) × (new.ended ≡ false)
-Answers old new gave (Err ReadFault) = Unit {0}
-Answers old new gave (Err NoMemory) = Unit {0}
+Answers old new gave (Err (LineTooLong number)) = (number ≡ old.given + 1) × IsTooLong old gave × Keeps old new gave
+Answers old new gave (Err OutOfTurns) = (new.turns ≡ 0) × (new.ended ≡ false) × Keeps old new gave
+Answers old new gave (Err ReadFault) = Keeps old new gave
+Answers old new gave (Err NoMemory) = Keeps old new gave
 
 -- one read gave as many bytes as it says, and none where it failed
 abbrev pub GivesCount : List ℕ → Result ℕ LineError → Type 0

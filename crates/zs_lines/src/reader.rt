@@ -183,6 +183,7 @@ impl LineReader {
         ensures work { OnOk result (work self.new < work self.old) }
         ensures pieces { S.pieces source.new ≡ count_after (S.pieces source.old) (self.old.turns - self.new.turns) }
         ensures reads { OnOk result (self.new.ended ≡ false → S.reads source.new ≡ count_after (S.reads source.old) (self.old.turns - self.new.turns)) }
+        ensures seen { OnOk result (self.new.ended ≡ true → S.reads source.new ≡ count_after (S.reads source.old) (self.old.turns - self.new.turns + 1)) }
         ensures out_of_turns { result ≡ Err LineError.OutOfTurns → self.old.turns ≡ 0 }
         ensures err { OnErr result (self.new ≡ self.old) }
         ensures unread { result ≢ Err LineError.ReadFault → OnErr result (source.new ≡ source.old) }
@@ -217,6 +218,8 @@ impl LineReader {
         ensures pieces { S.pieces source.new ≡ count_after (S.pieces source.old) (self.old.turns - self.new.turns) }
         ensures reads { result ≢ Err LineError.ReadFault → self.new.ended ≡ false
             → S.reads source.new ≡ count_after (S.reads source.old) (self.old.turns - self.new.turns) }
+        ensures seen { result ≢ Err LineError.ReadFault → self.old.ended ≡ false → self.new.ended ≡ true
+            → S.reads source.new ≡ count_after (S.reads source.old) (self.old.turns - self.new.turns + 1) }
         ensures read_fault { result ≡ Err LineError.ReadFault → HasRisen (S.faults source.old) (S.faults source.new) }
         ensures later { S.faults source.old ≤ S.faults source.new }
         ensures work { IfOk result (λ found. OnSome found (work self.new < work self.old)) }

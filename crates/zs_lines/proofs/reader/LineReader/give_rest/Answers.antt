@@ -8,7 +8,7 @@ returns-in_err-give-clause-answer c =
     let given = c.give.ensures in
     let is = c.held_len-count.ensures in
     answers-error c.args.self.now c.give.new.self c.give.result c.from_residual.result _ c.in_err-give.was c.from_residual.ensures.1
-    (λ n same. let long = given.too_long n same in (long.0, long-rest c.args.self.now c.requires.whole (omega (arith, long.1)))) given.other.0
+    (λ n same. let long = given.too_long n same in (long.0, long-rest c.args.self.now c.requires.whole (omega (arith, long.1)))) given.other.0 c.in_err-give.ensures.err
 
 pub returns-clause-answer : goal.returns-clause-answer
 returns-clause-answer c =

@@ -1,4 +1,4 @@
-use Rattle.std.proofs.Common.{◌≡◌, ℕ, ◌≤◌, ◌-◌, ◌++◌, ◌==◌, List, true, false}
+use Rattle.std.proofs.Common.{◌≡◌, ℕ, ◌≤◌, ◌+◌, ◌-◌, ◌++◌, ◌==◌, List, true, false}
 use Rattle.std.specs.Prelude.{is_some}
 use Rattle.std.specs.List.{position}
 use Rattle.zs_keys.specs.Stream.{TakesOff, count_after}
@@ -18,6 +18,8 @@ invariant-reads g l = record {
   pieces : g.S.Source.pieces l.source ≡ count_after (g.S.Source.pieces l.fn.source) (l.fn.self.turns - l.self.turns);
   reads : l.self.ended ≡ false
       → g.S.Source.reads l.source ≡ count_after (g.S.Source.reads l.fn.source) (l.fn.self.turns - l.self.turns);
+  seen : l.fn.self.ended ≡ false → l.self.ended ≡ true
+      → g.S.Source.reads l.source ≡ count_after (g.S.Source.reads l.fn.source) (l.fn.self.turns - l.self.turns + 1);
   less : work l.self ≤ work l.fn.self;
   later : g.S.Source.faults l.fn.source ≤ g.S.Source.faults l.source;
 }

@@ -1,27 +1,23 @@
-//! The text of events on its way to a sink.
+//! The text of lines on its way to a sink.
 
 ghost use Rattle.std.specs.Prelude.{◌≡◌, ◌≤◌, [], ◌++◌, OnOk, OnErr};
 ghost use Rattle.zs_keys.specs.Stream.{HasRisen, PutsOn};
-ghost use Rattle.zs_script.specs.Printing.{line, turn_text, received_fields};
 ghost use Rattle.zs_lines.specs.Writing.{PutsFrontOn};
 
 use std::alloc::{AllocError, Global};
 use std::marker::Model;
-use zs_core::{HandOver, Turn};
-use zs_events::Received;
 use zs_keys::Sink;
-use zs_script::{WriteFault, append_received, append_turn, write_whole};
+use zs_lines::{WriteFault, write_whole};
 
 /// How much text waits before it is written.
 const FULL: usize = 65536;
 
-/// What came of events, printed and not written yet. Contracts see the text.
+/// What was put out and is not written yet. Contracts see the text.
 ///
-/// The memory of both texts outlives the events.
+/// Its memory outlives the lines.
 #[derive(Drop)]
-pub(crate) struct Transcript {
+pub struct Transcript {
     waiting: String,
-    event: String,
 }
 
 impl Model for Transcript {
@@ -39,32 +35,15 @@ impl Transcript {
     {
         Transcript {
             waiting: String::new(alloc),
-            event: String::new(alloc),
         }
     }
 
-    /// Puts the lines of a turn behind those that wait.
-    pub(crate) fn add_turn(&mut self, number: u64, turn: &Turn) -> Result<(), AllocError>
-        ensures ok { OnOk result (self.new ≡ self.old ++ turn_text number turn.now) }
+    /// Puts a text behind those that wait.
+    pub fn add(&mut self, text: &str) -> Result<(), AllocError>
+        ensures ok { OnOk result (self.new ≡ self.old ++ text.now) }
         ensures err { OnErr result (self.new ≡ self.old) }
     {
-        self.event.clear();
-        append_turn(&mut self.event, number, turn)?;
-        self.waiting.push_str(self.event.as_str())
-    }
-
-    /// Puts the line of what a read was answered behind those that wait.
-    pub(crate) fn add_received(
-        &mut self,
-        number: u64,
-        received: &Received<HandOver>,
-    ) -> Result<(), AllocError>
-        ensures ok { OnOk result (self.new ≡ self.old ++ line number (received_fields received.now)) }
-        ensures err { OnErr result (self.new ≡ self.old) }
-    {
-        self.event.clear();
-        append_received(&mut self.event, number, received)?;
-        self.waiting.push_str(self.event.as_str())
+        self.waiting.push_str(text)
     }
 
     /// Whether so much waits that it is to be written.

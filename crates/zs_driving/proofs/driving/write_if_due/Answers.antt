@@ -1,6 +1,6 @@
 use Rattle.std.proofs.Common.{◌++◌, ◌∙◌, sym, ap, append-nil}
-use Rattle.zs_session.proofs.Exits.{puts_out}
-use Rattle.zs_session.proofs.driving.write_if_due.Goals as goal
+use Rattle.zs_driving.proofs.Exits.{puts_out}
+use Rattle.zs_driving.proofs.driving.write_if_due.Goals as goal
 
 pub returns-clause-ok : goal.returns-clause-ok
 returns-clause-ok g c = λ output old put.

@@ -2,9 +2,9 @@ ghost use Rattle.std.specs.Prelude.{◌≡◌};
 
 use std::alloc::AllocError;
 use thiserror::Error;
-use zs_script::{LineError, WriteFault};
+use zs_lines::{LineError, WriteFault};
 
-/// Why a run over a script stopped before its end.
+/// Why a run over lines stopped before its end.
 #[derive(Clone, Copy, Debug, PartialEq, Eq, Error)]
 pub enum DriveError {
     /// The source failed.
@@ -13,13 +13,13 @@ pub enum DriveError {
     /// The sink failed.
     #[error("WriteFault")]
     WriteFault,
-    /// The line of this number, from 1, is no event.
+    /// The line of this number, from 1, was not taken.
     #[error("BadLine {0}")]
     BadLine(u64),
-    /// The line of this number, from 1, has more bytes than the settings allow.
+    /// The line of this number, from 1, has more bytes than a line may have.
     #[error("LineTooLong {0}")]
     LineTooLong(u64),
-    /// As many reads as the settings allow gave bytes, and none saw the end.
+    /// As many reads as there may be gave bytes, and none saw the end.
     #[error("OutOfTurns")]
     OutOfTurns,
     /// There was no memory.
@@ -28,7 +28,7 @@ pub enum DriveError {
 }
 
 impl From<LineError> for DriveError {
-    ghost use Rattle.zs_session.specs.Errors.{drive_error};
+    ghost use Rattle.zs_driving.specs.Errors.{drive_error};
 
     ghost from_gives = { λ line error. error ≡ drive_error line };
 
@@ -43,7 +43,7 @@ impl From<LineError> for DriveError {
 }
 
 impl From<WriteFault> for DriveError {
-    ghost use Rattle.zs_session.specs.declared.errors.DriveError.{DriveError};
+    ghost use Rattle.zs_driving.specs.declared.errors.DriveError.{DriveError};
 
     ghost from_gives = { λ _ error. error ≡ DriveError.WriteFault };
 
@@ -53,7 +53,7 @@ impl From<WriteFault> for DriveError {
 }
 
 impl From<AllocError> for DriveError {
-    ghost use Rattle.zs_session.specs.declared.errors.DriveError.{DriveError};
+    ghost use Rattle.zs_driving.specs.declared.errors.DriveError.{DriveError};
 
     ghost from_gives = { λ _ error. error ≡ DriveError.NoMemory };
 

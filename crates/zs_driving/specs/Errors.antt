@@ -2,8 +2,8 @@
 use Rattle.std.specs.Prelude.{ℕ, List, codes, decimal, ◌++◌, [], ◌∷◌}
 use Rattle.zs_lines.specs.declared.reader.LineError.{LineError}
 use Rattle.zs_lines.specs.declared.reader.LineError.TheVariants.{ReadFault as read_fault, LineTooLong as long_line, OutOfTurns as out_of_turns, NoMemory as no_memory}
-use Rattle.zs_session.specs.declared.errors.DriveError.{DriveError}
-use Rattle.zs_session.specs.declared.errors.DriveError.TheVariants.{ReadFault, WriteFault, BadLine, LineTooLong, OutOfTurns, NoMemory}
+use Rattle.zs_driving.specs.declared.errors.DriveError.{DriveError}
+use Rattle.zs_driving.specs.declared.errors.DriveError.TheVariants.{ReadFault, WriteFault, BadLine, LineTooLong, OutOfTurns, NoMemory}
 
 -- a reader's error as that of the run
 abbrev pub drive_error : LineError → DriveError

@@ -1,19 +1,56 @@
-//! The line that the program writes where a run did not come to its end.
+//! What a program says where a run ends: its exit status, and the line that it writes where the run did not come to its end.
 
-ghost use Rattle.std.specs.Prelude.{◌≡◌, ◌≤◌, ◌+◌, ◌++◌, ◌∷◌, [], length, take, decimal, codes};
-ghost use Rattle.zs_session.specs.Errors.{complaint_of};
-ghost use Rattle.zs_session.specs.Running.{Complains};
+ghost use Rattle.std.specs.Prelude.{◌≡◌, ◌≢◌, ◌≤◌, ◌+◌, ◌++◌, ◌∷◌, [], length, take, decimal, codes};
+ghost use Rattle.zs_driving.specs.Errors.{complaint_of, status_of};
+ghost use Rattle.zs_driving.specs.Statuses.{Complains, ComplainsOf, status_for};
 
+use crate::driving::Driven;
 use crate::errors::DriveError;
 use itoa::Buffer;
 use zs_keys::Sink;
-use zs_script::write_whole;
+use zs_lines::write_whole;
 
 /// Room for the longest name, a space, a number and a line feed.
 const LINE_LEN: usize = 40;
 
+/// The exit status for an answer of a run. Where it stopped, a line that says why goes to `complaints`, whose own faults
+/// change nothing.
+///
+/// The status is 0 at the end of input. 3 says that a line was not taken, 4 that a line is too long, 5 that there were too
+/// many reads, 6 that the source failed, 7 that the sink did, and 8 that there was no memory. 2 is left to the program,
+/// for its own words.
+pub fn conclude<C: Sink>(complaints: &mut C, answer: Result<Driven, DriveError>) -> u8
+    ensures status { result ≡ status_for answer }
+    ensures complains { ComplainsOf answer (record { written = C.written complaints.old; faults = C.faults complaints.old })
+        (record { written = C.written complaints.new; faults = C.faults complaints.new }) }
+    ensures not_words { result ≢ 2 }
+    ensures quiet { result ≡ 0 → complaints.new ≡ complaints.old }
+{
+    match answer {
+        Ok(_) => 0,
+        Err(error) => {
+            complain_of(complaints, error);
+            status_of(error)
+        }
+    }
+}
+
+/// The exit status for an error.
+fn status_of(error: DriveError) -> u8
+    ensures { result ≡ status_of error }
+{
+    match error {
+        DriveError::BadLine(_) => 3,
+        DriveError::LineTooLong(_) => 4,
+        DriveError::OutOfTurns => 5,
+        DriveError::ReadFault => 6,
+        DriveError::WriteFault => 7,
+        DriveError::NoMemory => 8,
+    }
+}
+
 /// Writes one line. A fault of the sink changes nothing else.
-pub(crate) fn complain<C: Sink>(complaints: &mut C, line: &[u8])
+pub fn complain<C: Sink>(complaints: &mut C, line: &[u8])
     ensures { Complains (record { written = C.written complaints.old; faults = C.faults complaints.old })
         (record { written = C.written complaints.new; faults = C.faults complaints.new }) line.now }
 {
@@ -21,7 +58,7 @@ pub(crate) fn complain<C: Sink>(complaints: &mut C, line: &[u8])
 }
 
 /// Writes the line for an error, in no memory.
-pub(crate) fn complain_of<C: Sink>(complaints: &mut C, error: DriveError)
+fn complain_of<C: Sink>(complaints: &mut C, error: DriveError)
     ensures { Complains (record { written = C.written complaints.old; faults = C.faults complaints.old })
         (record { written = C.written complaints.new; faults = C.faults complaints.new }) (complaint_of error) }
 {
