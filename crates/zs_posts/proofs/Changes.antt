@@ -14,7 +14,7 @@ use Rattle.zs_posts.specs.Posts.{PostSeen, MapSeen, Rows, post_at, changed, rais
 use Rattle.zs_posts.specs.Lending.{lent_of, lents_for, lend, returned, with_post, is_full, is_overdrawn, IsLent}
 
 module _ {V : Type 0} where
-  none_some : {v : V} → None ≡ Some v → ⊥
+  pub none_some : {v : V} → None ≡ Some v → ⊥
   none_some e = cc
 
   pub out : {v w : V} → Some v ≡ Some w → v ≡ w

@@ -1,3 +1,4 @@
 mod Changes
-mod Lends
+mod InTheTurn
+mod InTurn
 mod Rooms

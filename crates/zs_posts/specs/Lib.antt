@@ -5,3 +5,4 @@ pub mod Passes
 pub mod Posts
 pub mod Lending
 pub mod Calls
+pub mod Turns

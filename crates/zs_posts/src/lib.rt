@@ -11,6 +11,7 @@ mod passes;
 mod post;
 mod post_map;
 mod tag;
+mod turn_calls;
 
 pub use key::{Key, Name};
 pub use kind::Kind;

@@ -5,9 +5,9 @@ use Rattle.std.specs.List.{AllByRecursion}
 use Rattle.atomic_table.specs.Seated.{TableId}
 use Rattle.zs_posts.specs.declared.key.Key.{Key}
 use Rattle.zs_posts.specs.Passes.{LentSeen}
-use Rattle.zs_posts.specs.Posts.{PostSeen, Rows, post_at, raised}
+use Rattle.zs_posts.specs.Posts.{PostSeen, MapSeen, Rows, post_at, raised}
 use Rattle.zs_posts.specs.Lending.{lents_for, lend, lend_all, lents_of, is_full, is_overdrawn, returned, returned_all, IsLent}
-use Rattle.zs_posts.proofs.Changes.{unchanged_none, lent_back}
+use Rattle.zs_posts.proofs.Changes.{unchanged_none, lent_back, map_seen}
 
 or_assoc : (a b c : Bool) → a || (b || c) ≡ (a || b) || c
 or_assoc true b c = refl
@@ -71,3 +71,9 @@ module _ {H : Type 0} where
   -- the first list of keys can't
   pub drawn_first : (keys more : List Key) (old : Rows H) → is_overdrawn keys old ≡ true → is_overdrawn (keys ++ more) old ≡ true
   drawn_first keys more old full = drawn_append keys more old ∙ ap (λ b. b || is_overdrawn more (lend_all keys old)) full
+
+module _ {H : Type 0} where
+  -- a map whose passes came back is as it was
+  pub map_undone : (old mid now new : MapSeen H) (keys : List Key) (lents : List LentSeen) → IsLent old.room keys old.rows lents mid.rows → mid.room ≡ old.room → now ≡ mid → new ≡ map_seen now.room (returned_all lents now.rows) → new ≡ old
+  map_undone old mid now new keys lents lent room same is =
+      is ∙ (ap (λ (m : MapSeen H). map_seen m.room (returned_all lents m.rows)) same ∙ (λ i. map_seen (room i) (undone lent i)))
