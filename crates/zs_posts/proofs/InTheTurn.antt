@@ -1,16 +1,17 @@
 -- The calls of a turn, as far as they have been lent their passes.
-use Rattle.std.proofs.Common.{◌≡◌, ℕ, Bool, true, false, List, [], ◌∷◌, ◌++◌, Option, Some, None, refl, sym, ap, ◌∙◌, subst, append_assoc, append-nil}
+use Rattle.std.proofs.Common.{◌≡◌, ℕ, Bool, true, false, List, [], ◌∷◌, ◌++◌, map, Option, Some, None, refl, sym, ap, ◌∙◌, subst, append_assoc, append-nil}
 use Rattle.std.specs.Prelude.{◌||◌}
 use Rattle.std.specs.List.{AllByRecursion}
 use Rattle.atomic_table.specs.Seated.{TableId}
 use Rattle.zs_posts.specs.declared.key.Key.{Key}
+use Rattle.zs_posts.specs.declared.call.Call.{Call}
 use Rattle.zs_posts.specs.declared.call.Wanted.{Wanted}
 use Rattle.zs_posts.specs.Passes.{LentSeen}
 use Rattle.zs_posts.specs.Posts.{PostSeen, Rows, post_at}
 use Rattle.zs_posts.specs.Lending.{lend_all, lents_of, is_overdrawn, returned_all, IsLent}
 use Rattle.zs_posts.specs.Turns.{Underway}
-use Rattle.zs_posts.specs.Calls.{CallSeen, handler_of, handler_at, keys_under, keys_for, call_keys, all_lents, turn_keys, call_for, calls_of}
-use Rattle.zs_posts.proofs.InTurn.{all_append, lend_append, drawn_append, returned_append, undone}
+use Rattle.zs_posts.specs.Calls.{CallSeen, handler_of, handler_at, keys_under, keys_for, call_keys, passes_lents, call_seen, all_lents, turn_keys, call_for, calls_of}
+use Rattle.zs_posts.proofs.InTurn.{all_append, all_parts, lend_append, drawn_append, returned_append, undone}
 
 module _ {H T : Type 0} where
   pub begun : (room : TableId) (wanted : List (Wanted T)) (first : Rows H) → Underway room wanted first wanted [] first
@@ -54,3 +55,21 @@ module _ {H T : Type 0} where
         let keys = call_keys w.key now in
         let then = turn_keys left (lend_all keys now) in
         sym underway.drawn ∙ (drawn_append keys then now ∙ ap (λ b. b || is_overdrawn then (lend_all keys now)) full)
+
+  -- the last call's passes come back
+  popped_lents : (rest : List (Call H T)) (call : Call H T) → all_lents (map call_seen (rest ++ call ∷ [])) ≡ all_lents (map call_seen rest) ++ passes_lents call.passes
+  popped_lents [] call = append-nil (passes_lents call.passes)
+  popped_lents (c ∷ rest) call =
+      ap (λ ls. passes_lents c.passes ++ ls) (popped_lents rest call) ∙ sym (append_assoc (passes_lents c.passes) (all_lents (map call_seen rest)) (passes_lents call.passes))
+
+  pub popped_rows : (calls rest : List (Call H T)) (call : Call H T) (rows : Rows H) → calls ≡ rest ++ call ∷ []
+      → returned_all (all_lents (map call_seen calls)) rows ≡ returned_all (all_lents (map call_seen rest)) (returned_all (passes_lents call.passes) rows)
+  popped_rows calls rest call rows is =
+      ap (λ (cs : List (Call H T)). returned_all (all_lents (map call_seen cs)) rows) is
+      ∙ (ap (λ ls. returned_all ls rows) (popped_lents rest call) ∙ returned_append (all_lents (map call_seen rest)) (passes_lents call.passes) rows)
+
+  pub popped_rooms : (room : TableId) (calls rest : List (Call H T)) (call : Call H T) → calls ≡ rest ++ call ∷ [] → AllByRecursion (λ l. l.room ≡ room) (all_lents (map call_seen calls))
+      → AllByRecursion (λ l. l.room ≡ room) (all_lents (map call_seen rest)) × AllByRecursion (λ l. l.room ≡ room) (passes_lents call.passes)
+  popped_rooms room calls rest call is all =
+      all_parts (λ l. l.room ≡ room) (all_lents (map call_seen rest)) (passes_lents call.passes)
+      (subst (AllByRecursion (λ l. l.room ≡ room)) (popped_lents rest call) (subst (λ (cs : List (Call H T)). AllByRecursion (λ l. l.room ≡ room) (all_lents (map call_seen cs))) is all))

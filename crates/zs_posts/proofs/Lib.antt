@@ -2,3 +2,4 @@ mod Changes
 mod InTheTurn
 mod InTurn
 mod Rooms
+mod Settling

@@ -6,3 +6,4 @@ pub mod Posts
 pub mod Lending
 pub mod Calls
 pub mod Turns
+pub mod Settled

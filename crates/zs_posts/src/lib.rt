@@ -10,6 +10,7 @@ mod pass;
 mod passes;
 mod post;
 mod post_map;
+mod posts;
 mod tag;
 mod turn_calls;
 
@@ -19,4 +20,6 @@ pub use call::{Call, Wanted};
 pub use passes::Passes;
 pub use pass::{Lent, Within};
 pub use post::Post;
+pub use post_map::NotOpened;
+pub use posts::Posts;
 pub use tag::{Maker, Room, Tag};

@@ -1,6 +1,8 @@
 //! One gate with what is behind it.
 ghost use Rattle.std.specs.Prelude.{◌≡◌, ◌<◌, false, option_map, IfOk, OnErr};
 ghost use Rattle.std.specs.Arc.{arc_value};
+ghost use Rattle.std.specs.Option.{is_some};
+ghost use Rattle.zs_posts.specs.Keys.{is_key};
 ghost use Rattle.zs_posts.specs.Posts.{raised, lowered_by, flagged, is_spent};
 ghost use Rattle.zs_posts.specs.Passes.{LentSeen};
 
@@ -142,6 +144,20 @@ impl<H> Post<H> {
             })),
             None => Ok(None),
         }
+    }
+
+    /// Whether its name has this key.
+    pub(crate) fn is_of(&self, key: Key) -> bool
+        ensures { result ≡ is_key key self.now.name.key }
+    {
+        key.cmp(&self.name.key).is_eq()
+    }
+
+    /// Whether it has a handler.
+    pub(crate) fn has_handler(&self) -> bool
+        ensures { result ≡ is_some self.now.handler }
+    {
+        self.handler.is_some()
     }
 
     /// Its name.

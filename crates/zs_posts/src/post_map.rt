@@ -10,7 +10,7 @@ use crate::call::Target;
 use crate::key::{Key, Name};
 use crate::pass::Lent;
 use crate::post::Post;
-use crate::tag::Maker;
+use crate::tag::{Maker, Room};
 use std::alloc::{AllocError, Global};
 use std::collections::BTreeMap;
 use std::marker::Model;
@@ -55,6 +55,13 @@ impl<H> PostMap<H> {
             maker,
             posts: BTreeMap::new(alloc),
         })
+    }
+
+    // The room of all tags.
+    pub(crate) fn room(&self) -> Result<Room, AllocError>
+        ensures { IfOk result (λ room. room ≡ self.now.room) }
+    {
+        self.maker.room()
     }
 
     // How many there are.
