@@ -12,7 +12,6 @@ pub mod Telling
 pub mod ReadsTold
 pub mod Scripts
 pub mod Soaking
-pub mod Progress
-pub mod Exits
-pub mod Completing
+pub mod Lines
+pub mod Retelling
 pub mod WordExamples

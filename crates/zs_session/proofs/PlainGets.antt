@@ -54,7 +54,7 @@ use Rattle.zs_tables.specs.declared.queryable.QueryableRow.{QueryableRow}
 use Rattle.zs_wire.specs.declared.origin.EntityGlobalId.{EntityGlobalId}
 use Rattle.zs_wire.specs.declared.quality.QoSType.{QoSType}
 use Rattle.zs_script.specs.Plain.{is_plain, is_plain_text, is_plain_outcome, message_texts}
-use Rattle.zs_session.proofs.Cutting.{all_append}
+use Rattle.zs_driving.proofs.Progress.{all_append}
 use Rattle.zs_session.proofs.PlainKeys.{IsText, AllPlain, PlainPast, plain_encoding, plain_handed, filter_all, found_all}
 use Rattle.zs_session.proofs.PlainValues.{PlainToGets, PlainToValues, PlainValue, to_plain, does_plain, queries_quiet}
 use Rattle.zs_session.proofs.PlainParameters.{all_map, parameters_text}

@@ -34,7 +34,7 @@ use Rattle.zs_core.specs.Live.{appended, declared, is_live, live_pubs, live_quer
 use Rattle.zs_core.specs.Publications.{handed_encoding}
 use Rattle.zs_core.specs.Publishers.{pub_row, pub_at, content_of, resolved}
 use Rattle.zs_core.specs.Queriers.{querier_row, querier_at}
-use Rattle.zs_session.proofs.Cutting.{all_append}
+use Rattle.zs_driving.proofs.Progress.{all_append}
 use Rattle.zs_core.specs.Past.{entry_of, with_entry, past_of}
 use Rattle.zs_script.specs.Plain.{is_plain, is_plain_text, is_field_text, is_plain_key, is_plain_named, is_plain_event}
 use Rattle.zs_script.proofs.PlainTexts.{plain-append}

@@ -15,7 +15,7 @@ use Rattle.zs_wire.proofs.Trimming.{sign_more, sign_none, boundary_before}
 use Rattle.zs_events.specs.Kinds.{Question}
 use Rattle.zs_core.specs.Questions.{given_parameters, parameters_of}
 use Rattle.zs_script.specs.Plain.{is_plain, is_field_text}
-use Rattle.zs_session.proofs.Cutting.{all_append}
+use Rattle.zs_driving.proofs.Progress.{all_append}
 use Rattle.zs_session.proofs.PlainKeys.{IsText, field_text, joined_text, filter_all}
 
 abbrev plain_byte : ℕ → Bool

@@ -41,7 +41,7 @@ use Rattle.zs_script.specs.Pieces.{written}
 use Rattle.zs_script.specs.Printing.{hand_pieces, replied_pieces, queried_pieces, effect_fields}
 use Rattle.zs_script.specs.Plain.{is_plain, is_plain_text, is_plain_sample, is_plain_outcome, is_plain_query, is_plain_effect, message_texts}
 use Rattle.zs_session.specs.Telling.{tells}
-use Rattle.zs_session.proofs.Cutting.{all_append}
+use Rattle.zs_driving.proofs.Progress.{all_append}
 use Rattle.zs_session.proofs.PlainIncluding.{included_plain}
 use Rattle.zs_session.proofs.PlainKeys.{IsText, PlainContent, found_all}
 

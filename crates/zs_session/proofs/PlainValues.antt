@@ -29,7 +29,7 @@ use Rattle.zs_core.specs.Questions.{parameters_of, sent_value}
 use Rattle.zs_core.specs.Values.{met_by_get, met_by_request, get_request, network_request, share_of, drawn_by, news_by_draw, times_handed, handing_by, value_news, values_now}
 use Rattle.zs_core.specs.GetEffects.{hand_query}
 use Rattle.zs_script.specs.Plain.{is_plain, is_plain_text, is_field_text, is_plain_key, is_plain_named, is_plain_event}
-use Rattle.zs_session.proofs.Cutting.{all_append}
+use Rattle.zs_driving.proofs.Progress.{all_append}
 use Rattle.zs_session.proofs.PlainKeys.{IsText, AllPlain, PlainPast, body_plain, field_text, last_plain, texts_plain, plain_encoding, default_plain, filter_all, found_all}
 use Rattle.zs_session.proofs.PlainParameters.{all_map, trimmed, parameters_text}
 use Rattle.zs_session.proofs.PlainSends.{IsQuiet, AreQuiet}

@@ -1,5 +1,5 @@
 -- What a script is, and its whole text.
-use Rattle.std.specs.Prelude.{ℕ, ◌+◌, Bool, true, false, nat_le, ◌&&◌, is_some, List, [], ◌∷◌, ◌++◌, length, Option, Some, None}
+use Rattle.std.specs.Prelude.{ℕ, ◌+◌, Bool, true, false, List, [], ◌∷◌, ◌++◌, length, Option, Some, None}
 use Rattle.std.specs.List.{filter_map}
 use Rattle.zs_events.specs.declared.event.Event.TheVariants.{Close}
 use Rattle.zs_events.specs.declared.received.Received.{Received}
@@ -13,14 +13,11 @@ use Rattle.zs_core.specs.declared.settings.Settings.{Settings}
 use Rattle.zs_core.specs.Entry.{is_closed}
 use Rattle.zs_core.specs.Past.{past_of}
 use Rattle.zs_core.specs.Effects.{effects}
-use Rattle.zs_script.specs.Lines.{lines}
+use Rattle.zs_lines.specs.Lines.{lines}
+use Rattle.zs_driving.specs.Languages.{Language}
 use Rattle.zs_script.specs.Grammar.{event_of}
 use Rattle.zs_script.specs.Printing.{line, turn_text, received_fields}
 use Rattle.zs_session.specs.Heard.{core_of, answer_of}
-
--- a line that is an event, and is short enough
-abbrev pub is_good : ℕ → List ℕ → Bool
-is_good line_max line = is_some (event_of line) && nat_le (length line) line_max
 
 -- the events of lines, in their order
 abbrev pub events_of : List (List ℕ) → List ScriptEvent
@@ -56,3 +53,11 @@ text_after s h (e ∷ es) = event_text s h (length h + 1) e ++ text_after s (e �
 -- what is printed for events from the first one on
 abbrev pub text : Settings → List ScriptEvent → List ℕ
 text s es = text_after s [] es
+
+-- the language of scripts: the event of each line, and what is printed for it and for the close behind the events before
+abbrev pub language : Settings → Language ScriptEvent
+language s = record {
+  event_of = event_of;
+  event_text = λ h e. event_text s h (length h + 1) e;
+  end_text = λ h. event_text s h (length h + 1) (Core Close);
+}

@@ -16,7 +16,7 @@ use Rattle.zs_core.specs.Live.{live_subs, live_pubs}
 use Rattle.zs_core.specs.Causes.{refusal_of}
 use Rattle.zs_core.specs.Past.{past_of}
 use Rattle.zs_core.specs.Effects.{publication_of}
-use Rattle.zs_script.specs.Lines.{lines, fields}
+use Rattle.zs_lines.specs.Lines.{lines, fields}
 use Rattle.zs_script.specs.Printing.{answer_fields, effect_fields}
 use Rattle.zs_script.specs.Laws.{row}
 use Rattle.zs_session.specs.Heard.{core_of, answer_of}
