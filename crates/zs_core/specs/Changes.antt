@@ -16,7 +16,7 @@ use Rattle.zs_events.specs.declared.key_arg.KeyArg.TheVariants.{Number, Declared
 use Rattle.zs_wire.specs.declared.message.Message.{Message}
 use Rattle.zs_wire.specs.declared.message.Message.TheVariants.{DeclareKeyExpr, Request as request_message, Response as response_message, ResponseFinal, DeclareToken as token_message, UndeclareToken as token_end_message, DeclareFinal, DeclareSubscriber, UndeclareSubscriber, DeclareQueryable, UndeclareQueryable}
 use Rattle.zs_core.specs.declared.change.Change.{Change}
-use Rattle.zs_core.specs.declared.change.Change.TheVariants.{Nothing, OfKeys, OfEntities, OfNetwork, OfGets, OfValues, OfTokens, Shut, OfLiveliness, OfMatching}
+use Rattle.zs_core.specs.declared.change.Change.TheVariants.{Nothing, OfKeys, OfEntities, OfNetwork, OfGets, OfValues, OfCancellation, Shut, OfLiveliness, OfMatching}
 use Rattle.zs_core.specs.declared.change.KeyChange.{KeyChange}
 use Rattle.zs_core.specs.declared.change.KeyChange.TheVariants.{Declare, Hold, Release}
 use Rattle.zs_core.specs.declared.change.EntityChange.{EntityChange}
@@ -27,8 +27,8 @@ use Rattle.zs_core.specs.declared.change.LivelinessChange.TheVariants.{DeclareTo
 use Rattle.zs_core.specs.declared.change.MatchingChange.TheVariants.{EndListener, LeaveListener, ForgetSub, ForgetQueryable}
 use Rattle.zs_core.specs.declared.change.ValueChange.{ValueChange}
 use Rattle.zs_core.specs.declared.change.ValueChange.TheVariants.{HandOut, AskHere, ShareOf, GiveBack}
-use Rattle.zs_core.specs.declared.change.TokenChange.{TokenChange}
-use Rattle.zs_core.specs.declared.change.TokenChange.TheVariants.{Draw, Take as TakeToken}
+use Rattle.zs_core.specs.declared.change.CancellationChange.{CancellationChange}
+use Rattle.zs_core.specs.declared.change.CancellationChange.TheVariants.{Draw, Take as TakeCancellationToken}
 use Rattle.zs_core.specs.declared.change.GetChange.{GetChange}
 use Rattle.zs_core.specs.declared.change.GetChange.TheVariants.{Ask, Take, Final, Advance}
 use Rattle.zs_wire.specs.declared.request.ConsolidationMode.TheVariants.{Auto}
@@ -67,7 +67,7 @@ use Rattle.zs_core.specs.Publishers.{pub_on, pub_at}
 use Rattle.zs_events.specs.declared.inquiry.QuerySettings.{QuerySettings}
 use Rattle.zs_core.specs.declared.querier.QuerierRow.{QuerierRow}
 use Rattle.zs_core.specs.Queriers.{querier_on, querier_at, question_of}
-use Rattle.zs_core.specs.Cancelling.{last_token, cancelling_after, asking_cancelled}
+use Rattle.zs_core.specs.Cancelling.{last_cancellation_token, cancelling_after, asking_cancelled}
 use Rattle.zs_core.specs.Groups.{sub_shared, pub_shared, querier_shared, joined_by, left_found, no_groups}
 use Rattle.zs_core.specs.Liveliness.{shut_liveliness}
 use Rattle.zs_core.specs.LivelinessChanges.{lsub_change, asking_change, told_change, answered_change, liveliness_after, liveliness_by, liveliness_cancelled, next_behind, LivelinessFits}
@@ -191,8 +191,8 @@ change_for w (Background background_sub id) = OfEntities (LeaveSub id)
 change_for w (Background background_queryable id) = OfEntities (LeaveQueryable id)
 change_for w (Get key settings inquiry to) = get_change w (record { settings = settings; inquiry = inquiry; querier = None }) (key_of w key)
 change_for w (QuerierGet id inquiry to) = querier_get_change w inquiry (querier_at id w.entities.queriers)
-change_for w CancelToken = OfTokens Draw
-change_for w (Cancel token) = OfTokens (TakeToken token)
+change_for w CancelToken = OfCancellation Draw
+change_for w (Cancel token) = OfCancellation (TakeCancellationToken token)
 change_for w (reply_event value key update quality) =
     answer_change w.settings.zid quality (body_of [] update) (value_at value w.handing.values) (key_of w key)
 change_for w (Listen parent id) = listen_change (listening w.entities.pubs w.entities.queriers w.counters.entity (parent_kind_of parent) id)
@@ -352,7 +352,7 @@ with_change (OfValues change) w = record w {
   asking = asking_beside change w.handing.values w.asking;
   handing = handing_after change w.handing;
 }
-with_change (OfTokens change) w = record w {
+with_change (OfCancellation change) w = record w {
   asking = asking_cancelled change w.asking;
   liveliness = liveliness_cancelled change w.liveliness;
   cancelling = cancelling_after change w.cancelling;
@@ -398,9 +398,9 @@ ValuesFit w (AskHere get row met) =
 ValuesFit w (ShareOf value) = is_spent last_value w.handing.next ≡ false
 ValuesFit w (GiveBack value) = Unit {0}
 
-abbrev pub TokensFit : World → TokenChange → Type 0
-TokensFit w Draw = is_spent last_token w.cancelling.next ≡ false
-TokensFit w (TakeToken token) = Unit {0}
+abbrev pub CancellationFits : World → CancellationChange → Type 0
+CancellationFits w Draw = is_spent last_cancellation_token w.cancelling.next ≡ false
+CancellationFits w (TakeCancellationToken token) = Unit {0}
 
 abbrev pub Fits : World → Change → Type 0
 Fits w (OfKeys change) = KeysFit w change
@@ -408,6 +408,6 @@ Fits w (OfEntities change) = EntitiesFit w change
 Fits w (OfGets change) = GetsFit w change
 Fits w (OfLiveliness change) = LivelinessFits w.counters.entity change
 Fits w (OfValues change) = ValuesFit w change
-Fits w (OfTokens change) = TokensFit w change
+Fits w (OfCancellation change) = CancellationFits w change
 Fits w (OfMatching change) = MatchingFits w.counters.entity change
 Fits w change = Unit {0}

@@ -25,7 +25,7 @@ use Rattle.zs_core.specs.Counters.{next_entity, next_key, drawn_number, next_que
 use Rattle.zs_core.specs.Gets.{moment_of, open_now}
 use Rattle.zs_core.specs.Causes.{has_cause, refusal_of}
 use Rattle.zs_core.specs.Values.{handing_of}
-use Rattle.zs_core.specs.Cancelling.{next_token, is_among, is_taken}
+use Rattle.zs_core.specs.Cancelling.{next_cancellation_token, is_among, is_taken}
 use Rattle.zs_core.specs.Finals.{finals_among, finals_due, times_ended, is_over}
 use Rattle.zs_core.specs.Past.{past_of, entry_of}
 use Rattle.zs_core.specs.GetEffects.{ended_numbers}
@@ -150,12 +150,12 @@ RequestsEndOnce =
 abbrev pub CancellationsAreTold : Type 0
 CancellationsAreTold =
     (s : Settings) (h : List Event)
-    → ((world_after s h).cancelling.next ≡ next_token (past_of s h))
+    → ((world_after s h).cancelling.next ≡ next_cancellation_token (past_of s h))
     × ((token : ℕ) → is_among (world_after s h).cancelling.taken token ≡ is_taken token (past_of s h))
 
 -- no open get has a cancellation token that was taken: so a token that is cancelled again ends no get
-abbrev pub TakenTokensEndNothing : Type 0
-TakenTokensEndNothing =
+abbrev pub TakenCancellationTokensEndNothing : Type 0
+TakenCancellationTokensEndNothing =
     (s : Settings) (h : List Event) (token : ℕ)
     → is_taken token (past_of s h) ≡ true → ended_numbers (CancelledBy token) (open_now s (past_of s h)) ≡ []
 

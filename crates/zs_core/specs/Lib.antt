@@ -24,6 +24,7 @@ pub mod ValueEffects
 pub mod Past
 pub mod Effects
 pub mod Received
+pub mod Exchanges
 pub mod Finals
 pub mod Covered
 pub mod Bounds

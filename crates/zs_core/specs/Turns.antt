@@ -32,7 +32,7 @@ use Rattle.std.specs.List.{list_any}
 use Rattle.zs_core.specs.Subscribers.{is_sub}
 use Rattle.zs_core.specs.Publishers.{is_pub, pub_at, resolved}
 use Rattle.zs_core.specs.Queriers.{is_querier, querier_at, querier_declaration, to_gets_by}
-use Rattle.zs_core.specs.Cancelling.{last_token, is_drawn, is_any, is_among}
+use Rattle.zs_core.specs.Cancelling.{last_cancellation_token, is_drawn, is_any, is_among}
 use Rattle.zs_core.specs.Tokens.{is_spared, is_pointless}
 use Rattle.zs_core.specs.Live.{is_subscriber, is_queryable}
 use Rattle.zs_core.specs.Sends.{OwnKeys, wire_form, declaration_of, prefix_declaration, publication_sends}
@@ -107,7 +107,7 @@ has_run_out w NoNumber text = false
 has_run_out w EntityNumber text = is_spent last_entity w.counters.entity
 has_run_out w QueryNumber text = is_spent last_query w.asking.next
 has_run_out w ValueNumber text = is_spent last_value w.handing.next
-has_run_out w CancellationNumber text = is_spent last_token w.cancelling.next
+has_run_out w CancellationNumber text = is_spent last_cancellation_token w.cancelling.next
 has_run_out w (StatusOf kind id) text = false
 has_run_out w KeyNumber None = false
 has_run_out w KeyNumber (Some text) = not (is_some (number_at text w.keys.own)) && is_spent last_key w.counters.key

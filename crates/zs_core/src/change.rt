@@ -119,7 +119,7 @@ pub enum ValueChange {
 
 /// What an accepted event makes of the cancellation tokens.
 #[derive(Drop)]
-pub enum TokenChange {
+pub enum CancellationChange {
     /// A token is made: it draws a number.
     Draw,
     /// A token is taken, and its gets end.
@@ -156,7 +156,7 @@ pub enum Change {
     OfGets(GetChange),
     OfLiveliness(LivelinessChange),
     OfValues(ValueChange),
-    OfTokens(TokenChange),
+    OfCancellation(CancellationChange),
     OfMatching(MatchingChange),
     /// The session is closed.
     Shut,

@@ -1,14 +1,16 @@
-ghost use Rattle.std.specs.Prelude.{◌≡◌, None, [], IfOk, OnOk, OnErr};
+ghost use Rattle.std.specs.Prelude.{◌≡◌, None, [], true, IfOk, OnOk, OnErr};
 ghost use Rattle.zs_core.specs.Turns.{decision_of, decision, open_decision, with_listeners, closed_cause};
 ghost use Rattle.zs_core.specs.Changes.{Fits, with_change};
+ghost use Rattle.zs_core.specs.Exchanges.{is_exchange};
 
 use crate::change::{Change, Decision};
+use crate::entity_table::EntityTable;
 use crate::id_set::IdSet;
 use crate::key_holders::KeyHolderCounts;
 use crate::liveliness::Liveliness;
 use crate::matching::Matching;
-use crate::pub_table::PubTable;
-use crate::querier_table::QuerierTable;
+use crate::publisher::PubRow;
+use crate::querier::QuerierRow;
 use crate::settings::Settings;
 use std::alloc::{AllocError, Global};
 use std::marker::Model;
@@ -54,9 +56,9 @@ pub struct SessionState {
     next_key: u16,
     tables: Tables,
     holders: KeyHolderCounts,
-    publishers: PubTable,
+    publishers: EntityTable<PubRow>,
     queryables: QueryableTable,
-    queriers: QuerierTable,
+    queriers: EntityTable<QuerierRow>,
     left_subs: IdSet,
     left_queryables: IdSet,
     groups: Groups,
@@ -64,8 +66,8 @@ pub struct SessionState {
     liveliness: Liveliness,
     matching: Matching,
     handing: RequestTable,
-    next_token: u32,
-    taken_tokens: IdSet,
+    next_cancellation_token: u32,
+    taken_cancellation_tokens: IdSet,
 }
 
 impl Model for SessionState {
@@ -92,7 +94,7 @@ impl Model for SessionState {
       liveliness = s.liveliness;
       matching = shown s.matching;
       handing = s.handing;
-      cancelling = record { next = s.next_token; taken = s.taken_tokens };
+      cancelling = record { next = s.next_cancellation_token; taken = s.taken_cancellation_tokens };
     } };
 
     ghost use Rattle.zs_core.specs.Bounds.{AreBelow};
@@ -140,7 +142,7 @@ impl SessionState {
                 origin,
                 complete,
                 key,
-            } => { self.decide_queryable(*origin, *complete, key) }
+            } => self.decide_queryable(*origin, *complete, key),
             Event::Querier { key, settings } => self.decide_querier(key, *settings),
             Event::Listen { parent, id } => self.decide_listen(*parent, *id),
             Event::Status { parent, id } => self.decide_status(*parent, *id),
@@ -148,40 +150,51 @@ impl SessionState {
             Event::Lsub { history, key } => self.decide_lsub(*history, key),
             Event::Undeclare { kind, id } => self.decide_undeclare(*kind, *id),
             Event::Background { kind, id } => self.decide_background(*kind, *id),
+            Event::CancelToken => self.decide_cancel_token(),
+            Event::Cancel { token } => self.decide_cancel(*token),
+            Event::Share { value } => self.decide_share(*value),
+            Event::Finish { value } => self.decide_finish(*value),
+            Event::Tick { now } => self.decide_tick(*now),
+            Event::Close => self.decide_close(),
+            Event::Net(message) => self.decide_message(message.get()),
+            _ => self.decide_exchange(event),
+        }
+    }
+
+    /// What it makes of one by which the application says values, asks for them or answers.
+    fn decide_exchange(&self, event: &Event) -> Result<Decision, AllocError>
+        requires { is_exchange event.now ≡ true }
+        ensures { IfOk result (λ made. made ≡ open_decision self.now event.now) }
+    {
+        match event {
             Event::Publish {
                 destination,
                 key,
                 update,
                 quality,
-            } => { self.decide_publish(*destination, key, update.get(), *quality) }
+            } => self.decide_publish(*destination, key, update.get(), *quality),
             Event::PublishBy { id, update } => self.decide_published(*id, update.get()),
-            Event::CancelToken => self.decide_cancel_token(),
-            Event::Cancel { token } => self.decide_cancel(*token),
             Event::Get {
                 key,
                 settings,
                 inquiry,
                 ..
-            } => { self.decide_get(key, *settings, inquiry.get()) }
+            } => self.decide_get(key, *settings, inquiry.get()),
             Event::QuerierGet { id, inquiry, .. } => self.decide_querier_get(*id, inquiry.get()),
             Event::LivelinessGet {
                 key,
                 timeout,
                 cancellation_token,
                 ..
-            } => { self.decide_liveliness_get(key, *timeout, *cancellation_token) }
+            } => self.decide_liveliness_get(key, *timeout, *cancellation_token),
             Event::Reply {
                 value,
                 key,
                 update,
                 quality,
-            } => { self.decide_reply_to(*value, key, update.get(), *quality) }
+            } => self.decide_reply_to(*value, key, update.get(), *quality),
             Event::ReplyErr { value, error } => self.decide_error_to(*value, error.get()),
-            Event::Share { value } => self.decide_share(*value),
-            Event::Finish { value } => self.decide_finish(*value),
-            Event::Tick { now } => self.decide_tick(*now),
-            Event::Close => self.decide_close(),
-            Event::Net(message) => self.decide_message(message.get()),
+            _ => unreachable!(),
         }
     }
 
@@ -226,7 +239,7 @@ impl SessionState {
             Change::OfGets(change) => self.change_gets(change),
             Change::OfLiveliness(change) => self.change_liveliness(change),
             Change::OfValues(change) => self.change_values(change),
-            Change::OfTokens(change) => self.change_tokens(change),
+            Change::OfCancellation(change) => self.change_cancellation(change),
             Change::OfMatching(change) => self.change_matching(change),
             Change::Shut => {
                 self.shut();

@@ -42,7 +42,7 @@ pub enum Answer {
 }
 
 /// What a number is of.
-#[derive(Clone, Copy, Debug, PartialEq, Eq, Hash)]
+#[derive(Clone, Copy, Debug, PartialEq, Eq, PartialOrd, Ord, Hash)]
 pub enum Kind {
     Subscriber,
     LivelinessSubscriber,

@@ -7,6 +7,7 @@ pub use printing::{append_received, append_turn, print_turn};
 pub use symbols::after_prefix;
 pub use zs_lines::{Line, LineError, LineReader, WriteFault, write_whole};
 
+mod bodies;
 mod channels;
 mod declarations;
 mod digits;
@@ -21,6 +22,7 @@ mod options;
 mod parts;
 mod piece_printing;
 mod printing;
+mod publications;
 mod query_parts;
 mod repeats;
 mod replies;

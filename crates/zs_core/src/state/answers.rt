@@ -2,6 +2,7 @@
 
 ghost use Rattle.std.specs.Prelude.{◌≡◌, ◌∷◌, [], Some, None, true, IfOk, IsOk};
 ghost use Rattle.zs_keys.specs.Key.{undeclared};
+ghost use Rattle.zs_events.specs.declared.turn.Effect.{Effect};
 ghost use Rattle.zs_wire.specs.declared.message.Message.{Message};
 ghost use Rattle.zs_query.specs.Gets.{get_at};
 ghost use Rattle.zs_core.specs.Turns.{known_at, own_keys_at, decision_of, replied_by, answered_by, answer_decision, error_answer_decision};

@@ -6,12 +6,11 @@ ghost use Rattle.zs_core.specs.Plans.{Plans};
 
 use super::SessionState;
 use crate::change::Decision;
+use crate::entity_table::EntityTable;
 use crate::id_set::IdSet;
 use crate::key_holders::KeyHolderCounts;
 use crate::liveliness::Liveliness;
 use crate::matching::Matching;
-use crate::pub_table::PubTable;
-use crate::querier_table::QuerierTable;
 use crate::settings::Settings;
 use std::alloc::{AllocError, Global};
 use zs_events::{Event, Turn};
@@ -32,9 +31,9 @@ impl SessionState {
             next_key: settings.key_start,
             tables: Tables::new(alloc),
             holders: KeyHolderCounts::new(alloc),
-            publishers: PubTable::new(alloc),
+            publishers: EntityTable::new(alloc),
             queryables: QueryableTable::new(alloc),
-            queriers: QuerierTable::new(alloc),
+            queriers: EntityTable::new(alloc),
             left_subs: IdSet::new(alloc),
             left_queryables: IdSet::new(alloc),
             groups: Groups::new(alloc),
@@ -42,8 +41,8 @@ impl SessionState {
             liveliness: Liveliness::new(alloc),
             matching: Matching::new(alloc),
             handing: RequestTable::new(alloc),
-            next_token: 0,
-            taken_tokens: IdSet::new(alloc),
+            next_cancellation_token: 0,
+            taken_cancellation_tokens: IdSet::new(alloc),
         })
     }
 
@@ -59,7 +58,8 @@ impl SessionState {
     pub fn preview(&self, event: &Event) -> Result<Turn, AllocError>
         ensures { IfOk result (λ turn. Previews self.now event.now turn) }
     {
-        let (turn, change) = self.plan(event)?.into_parts();
+        let made = self.plan(event)?;
+        let (turn, change) = made.into_parts();
         drop(change);
         Ok(turn)
     }
@@ -71,7 +71,8 @@ impl SessionState {
         ensures refused { IfOk result (λ turn. was_refused turn.answer ≡ true → self.new ≡ self.old) }
         ensures err { OnErr result (self.new ≡ self.old) }
     {
-        let (turn, change) = self.plan(event)?.into_parts();
+        let made = self.plan(event)?;
+        let (turn, change) = made.into_parts();
         self.apply(change)?;
         Ok(turn)
     }

@@ -87,11 +87,8 @@ impl SessionState {
             return final_effects(self.alloc, row.rid, outcome);
         }
         let mut effects = Effects::new(self.alloc);
-        push_send(
-            self.alloc,
-            &mut effects,
-            Message::ResponseFinal { rid: row.rid },
-        )?;
+        let last = Message::ResponseFinal { rid: row.rid };
+        push_send(self.alloc, &mut effects, last)?;
         Ok(effects)
     }
 

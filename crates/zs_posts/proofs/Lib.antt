@@ -1,0 +1,5 @@
+mod Changes
+mod InTheTurn
+mod InTurn
+mod Rooms
+mod Settling

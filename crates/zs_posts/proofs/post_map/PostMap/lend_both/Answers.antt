@@ -1,0 +1,5 @@
+use Rattle.zs_posts.proofs.InTurn.{map_undone}
+use Rattle.zs_posts.proofs.post_map.PostMap.lend_both.Goals as goal
+
+pub returns-in-Err-lend-clause-err : goal.returns-in-Err-lend-clause-err
+returns-in-Err-lend-clause-err g c = map_undone c.args.self.now c.lend.new.self c.lend-2.new.self c.unlend.new.self _ _ c.in-Ok.ensures.ok c.in-Ok.ensures.room c.in-Err-lend.ensures.err c.unlend.ensures
