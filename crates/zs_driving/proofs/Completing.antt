@@ -1,6 +1,6 @@
-use Rattle.std.proofs.Common.{◌≡◌, ℕ, ◌<◌, List, [], ◌∷◌, ◌++◌, length, Bool, true, false, Option, Some, refl, ◌∙◌, ap, subst, arith, length-append}
+use Rattle.std.proofs.Common.{◌≡◌, ℕ, ◌<◌, List, [], ◌∷◌, ◌++◌, length, Bool, true, false, Option, Some, None, refl, ◌∙◌, ap, subst, arith, length-append}
 use Rattle.zs_keys.specs.Stream.{TakesOff}
-use Rattle.std.specs.Prelude.{◌&&◌, nat_le, Result, Ok, Err}
+use Rattle.std.specs.Prelude.{◌&&◌, is_some, nat_le, Result, Ok, Err}
 use Rattle.std.proofs.lemmas.Bool.Decides.{nat_tests}
 use Rattle.zs_lines.specs.Lines.{lines}
 use Rattle.zs_driving.specs.declared.driving.Driven.{Driven}

@@ -1,5 +1,5 @@
 -- What a program puts out for lines that are events is what it puts out for these.
-use Rattle.std.proofs.Common.{◌≡◌, ℕ, List, [], ◌∷◌, ◌++◌, Option, Some, None, refl, ◌∙◌, ap}
+use Rattle.std.proofs.Common.{◌≡◌, ℕ, List, [], ◌∷◌, ◌++◌, Option, Some, None, refl, sym, ◌∙◌, ap}
 use Rattle.zs_driving.specs.Tasks.{lines_behind, text_behind}
 use Rattle.zs_driving.specs.Languages.{Language, TextsAreOfEvents, rules_of, events_of, events_behind, events_text}
 

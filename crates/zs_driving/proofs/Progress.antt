@@ -1,5 +1,6 @@
 -- How far a run has come, and what each exit of its loop says.
 use Rattle.std.proofs.Common.{◌≡◌, ℕ, ◌+◌, ◌≤◌, List, [], ◌∷◌, ◌++◌, length, Bool, true, false, Option, Some, None, refl, sym, ◌∙◌, ap, subst, append_assoc, length-append, arith}
+use Rattle.std.specs.Prelude.{nat_le}
 use Rattle.std.specs.List.{AllByRecursion}
 use Rattle.std.proofs.lemmas.List.{append-nil}
 use Rattle.std.proofs.lemmas.Bool.Decides.{nat_tests}
@@ -9,8 +10,8 @@ use Rattle.zs_lines.specs.Reading.{Reading, Reads, IsAtEnd, IsSpent, GivesLine, 
 use Rattle.zs_lines.specs.Writing.{PutsFrontOn}
 use Rattle.zs_lines.proofs.Answering.{takes-two, takes-none}
 use Rattle.zs_lines.proofs.Pieces.{both-pieces}
-use Rattle.zs_driving.specs.Tasks.{Rules, Task, lines_behind, text_behind, lines_text, is_good}
-use Rattle.zs_driving.specs.Driving.{HasRead, IsDone, IsFront, StopsAt, IsNoLine, IsLong, PutsWaiting}
+use Rattle.zs_driving.specs.Tasks.{Rules, Task, lines_behind, text_behind, lines_text, closed_text, is_good}
+use Rattle.zs_driving.specs.Driving.{AreGood, HasRead, IsDone, IsFront, StopsAt, IsNoLine, IsLong, PutsWaiting}
 
 -- what holds of each element of two lists holds of both together
 pub all_append : {X : Type 0} (P : X → Type 0) (xs ys : List X) → AllByRecursion P xs → AllByRecursion P ys → AllByRecursion P (xs ++ ys)

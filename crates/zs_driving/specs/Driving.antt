@@ -1,5 +1,5 @@
 -- What one run over lines says of its source, its sink and its answer.
-use Rattle.std.specs.Prelude.{◌≡◌, ℕ, ◌+◌, ◌<◌, ◌≤◌, Bool, true, false, if◌then◌else◌, List, [], ◌∷◌, ◌++◌, length, Option, Some, Result, Err, IfOk}
+use Rattle.std.specs.Prelude.{◌≡◌, ℕ, ◌+◌, ◌<◌, ◌≤◌, Bool, true, false, if◌then◌else◌, List, [], ◌∷◌, ◌++◌, length, Option, Some, None, Result, Err, IfOk}
 use Rattle.std.specs.List.{AllByRecursion}
 use Rattle.std.specs.Result.{IsOkUnless}
 use Rattle.zs_keys.specs.Stream.{HasRisen, TakesOff, PutsOn, count_after}

@@ -1,5 +1,5 @@
 -- Programs whose lines are events: what they owe is told of the events.
-use Rattle.std.specs.Prelude.{ℕ, ◌≡◌, List, [], ◌∷◌, ◌++◌, Option, Some, None}
+use Rattle.std.specs.Prelude.{ℕ, ◌≡◌, Bool, is_some, List, [], ◌∷◌, ◌++◌, Option, Some, None}
 use Rattle.std.specs.List.{filter_map}
 use Rattle.zs_driving.specs.Tasks.{Rules, lines_text, closed_text}
 

@@ -1,9 +1,9 @@
-use Rattle.std.proofs.Common.{◌≡◌, ℕ, ◌+◌, [], Option, Ok, Err, refl, sym, ◌∙◌, ap, subst, arith, false, true, List}
+use Rattle.std.proofs.Common.{◌≡◌, ℕ, ◌+◌, ◌++◌, [], Option, Ok, Err, refl, sym, ◌∙◌, ap, subst, arith, false, true, Bool, List}
 use Rattle.zs_lines.specs.Reading.{Reading, Answers}
 use Rattle.zs_lines.specs.declared.reader.Line.{Line}
 use Rattle.zs_lines.specs.declared.reader.LineError.{LineError}
-use Rattle.zs_driving.specs.Tasks.{task_of, lines_behind}
-use Rattle.zs_driving.specs.Driving.{PutsWaiting}
+use Rattle.zs_driving.specs.Tasks.{Task, task_of, lines_behind, lines_text, closed_text}
+use Rattle.zs_driving.specs.Driving.{IsDone, PutsWaiting}
 use Rattle.zs_driving.specs.Errors.{drive_error}
 use Rattle.zs_driving.specs.declared.errors.DriveError.TheVariants.{WriteFault, NoMemory, BadLine}
 use Rattle.zs_driving.proofs.Exits.{stops, handed_on, next_cause, counted_same, counted_next, few_read, few_next, read_all, spent_all, risen_before, err_next, ends_well, begun_empty, counted_fresh, handed_error}
