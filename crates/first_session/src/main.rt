@@ -4,6 +4,7 @@
 use anyhow::Result;
 use std::alloc::{AllocError, Global};
 use zs_core::{Effect, Event, HandOver, KeyArg, SessionState, Settings};
+use zs_events::{Chan, PublicationQuality, PushBody, Shared, Update};
 use zs_sample::{CongestionControl, Locality, QoSType, Text, ZBytes};
 use zs_script::print_turn;
 
@@ -12,25 +13,34 @@ fn subscriber(alloc: Global, keys: &str) -> Result<Event, AllocError> {
     Ok(Event::Sub {
         origin: Locality::Any,
         key: KeyArg::Text(Text::of(alloc, keys)?),
+        to: Chan::Print,
     })
 }
 
 /// A put of a text on this key, for this session and the network.
 fn put(alloc: Global, key: &str, text: &str) -> Result<Event, AllocError> {
-    Ok(Event::Put {
-        destination: Locality::Any,
-        key: KeyArg::Text(Text::of(alloc, key)?),
-        payload: ZBytes::from_str(alloc, text)?,
-        encoding: Text::of(alloc, "text/plain")?,
+    let key = KeyArg::Text(Text::of(alloc, key)?);
+    let payload = ZBytes::from_str(alloc, text)?;
+    let encoding = Some(Text::of(alloc, "text/plain")?);
+    let update = Update {
+        body: PushBody::Put { payload, encoding },
         timestamp: None,
-        qos: QoSType {
-            priority: 5,
-            congestion: CongestionControl::Drop,
-            express: false,
-        },
-        reliable: true,
         source: None,
         attachment: None,
+    };
+    let qos = QoSType {
+        priority: 5,
+        congestion: CongestionControl::Drop,
+        express: false,
+    };
+    Ok(Event::Publish {
+        destination: Locality::Any,
+        key,
+        update: Shared::new(alloc, update)?,
+        quality: PublicationQuality {
+            qos,
+            reliable: true,
+        },
     })
 }
 
@@ -40,11 +50,12 @@ fn act(rt: &impl Print, effect: &Effect) -> Result<()> {
         // What it would send, the printed turn has told.
         Effect::Send(_) => {}
         Effect::Hand(HandOver::Sample { id, sample, .. }) => {
+            let sample = sample.get();
             let key = sample.key_expr().as_str();
             let size = sample.payload().len();
             println!(rt; "subscriber {id} is handed {size} bytes on {key}")?;
         }
-        Effect::Hand(HandOver::Reply { id, reply, .. }) => match reply.result() {
+        Effect::Hand(HandOver::Reply { id, reply, .. }) => match reply.get().result() {
             Ok(sample) => {
                 let key = sample.key_expr().as_str();
                 println!(rt; "get {id} has a value on {key}")?;
@@ -52,7 +63,7 @@ fn act(rt: &impl Print, effect: &Effect) -> Result<()> {
             Err(_) => println!(rt; "get {id} has an error")?,
         },
         Effect::Hand(HandOver::Query { id, query, .. }) => {
-            let key = query.key_expr().as_str();
+            let key = query.get().key_expr().as_str();
             println!(rt; "queryable {id} is asked for {key}")?;
         }
         Effect::End { id, .. } => println!(rt; "{id} has ended")?,

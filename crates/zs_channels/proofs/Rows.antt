@@ -3,11 +3,13 @@ use Rattle.std.proofs.Common.{◌≡◌, ℕ, Bool, true, false, List, [], ◌�
 use Rattle.std.specs.Prelude.{nat_eq, is_some, option_map, OnOk, OnErr, if◌then◌else◌}
 use Rattle.std.specs.Map.{lookup, set_value}
 use Rattle.indexmap.specs.IndexMap.{insert_entry}
-use Rattle.zs_channels.specs.Channel.{Channel}
+use Rattle.zs_events.specs.declared.chan.Chan.{Chan}
+use Rattle.zs_events.specs.declared.chan.Chan.TheVariants.{Print}
+use Rattle.zs_channels.specs.Channel.{Channel, opened}
 use Rattle.zs_events.specs.declared.turn.Kind.{Kind}
 use Rattle.zs_channels.specs.declared.shelf.Shelf.{Shelf}
 use Rattle.zs_channels.specs.declared.shelf.Shelf.TheVariants as at
-use Rattle.zs_channels.specs.Table.{Rows, Table, shelf_of, channel_in, with_channel, with_changed, rows_on, with_rows, channel_at, with_change}
+use Rattle.zs_channels.specs.Table.{Rows, Table, shelf_of, channel_in, with_channel, with_changed, rows_on, with_rows, channel_at, with_opened, with_change}
 
 module _ {V : Type 0} where
   none_some : {v : V} → None ≡ Some v → ⊥
@@ -52,6 +54,13 @@ module _ {T : Type 0} where
   rows_back (Some at.Subscribers) t = refl
   rows_back (Some at.Gets) t = refl
   rows_back (Some at.LivelinessGets) t = refl
+
+  -- no channel is opened for what is printed alone, nor for a kind that can have none
+  pub printed_alone : (kind : Kind) (id : ℕ) (t : Table T) → with_opened kind id Print t ≡ t
+  printed_alone kind id t = rows_back (shelf_of kind) t
+
+  pub of_others : (kind : Kind) (id : ℕ) (to : Chan) (t : Table T) → shelf_of kind ≡ None → with_opened kind id to t ≡ t
+  of_others kind id to t none = ap (λ (shelf : Option Shelf). with_rows shelf (with_channel id (opened to) (rows_on shelf t)) t) none
 
   -- what happens to a channel that isn't there changes nothing
   pub unheard : (kind : Kind) (id : ℕ) (change : Channel T → Channel T) (t : Table T) → is_some (channel_at kind id t) ≡ false → with_change kind id change t ≡ t

@@ -2,7 +2,6 @@
 use Rattle.std.specs.Prelude.{List, [], ◌∷◌, ◌++◌, Option, Some, None}
 use Rattle.zs_events.specs.declared.chan.Chan.{Chan}
 use Rattle.zs_events.specs.declared.event.Event.{Event}
-use Rattle.zs_events.specs.declared.event.Event.TheVariants.{Sub, Get, QuerierGet, LivelinessGet}
 use Rattle.zs_events.specs.declared.turn.Answer.{Answer}
 use Rattle.zs_events.specs.declared.turn.Answer.TheVariants.{Ok as accepted, Refused}
 use Rattle.zs_events.specs.declared.turn.Effect.{Effect}
@@ -10,19 +9,11 @@ use Rattle.zs_events.specs.declared.turn.Effect.TheVariants.{Send, Hand, End, Ma
 use Rattle.zs_events.specs.declared.turn.HandOver.{HandOver}
 use Rattle.zs_events.specs.declared.turn.HandOver.TheVariants.{Sample, Reply, Query}
 use Rattle.zs_events.specs.declared.turn.Kind.{Kind}
-use Rattle.zs_events.specs.declared.turn.Kind.TheVariants.{Subscriber, Get as get_kind, LivelinessGet as tokens_kind}
 use Rattle.zs_events.specs.declared.turn.Turn.{Turn}
+use Rattle.zs_events.specs.Kinds.{row_of}
 use Rattle.zs_channels.specs.Told.{ChannelNews, Opens, Hears, Handed, Ended}
 
--- what an event declares or asks for, if that can have a channel
-abbrev pub declares : Event → Option Kind
-declares (Sub origin key) = Some Subscriber
-declares (Get destination key parameters target consolidation timeout value qos source attachment any_key token) = Some get_kind
-declares (QuerierGet id parameters value source attachment token) = Some get_kind
-declares (LivelinessGet key timeout token) = Some tokens_kind
-declares e = None
-
--- its channel is opened under the number that it was answered
+-- the channel that an event names is opened under the number that it was answered
 abbrev pub opening_of : Kind → Chan → Answer → List (ChannelNews HandOver)
 opening_of kind to (accepted (Some number)) = Opens kind number to ∷ []
 opening_of kind to (accepted None) = []
@@ -50,6 +41,6 @@ abbrev pub news_of_effects : List Effect → List (ChannelNews HandOver)
 news_of_effects [] = []
 news_of_effects (f ∷ fx) = news_of_effects fx ++ news_of_effect f
 
--- of an event whose hand-overs go to this channel
-abbrev pub news_of_turn : Event → Chan → Turn → List (ChannelNews HandOver)
-news_of_turn e to turn = news_of_effects turn.effects ++ opening (declares e) to turn.answer
+-- and of the event that they came of
+abbrev pub news_of_turn : Event → Turn → List (ChannelNews HandOver)
+news_of_turn e turn = news_of_effects turn.effects ++ opening (row_of e).handled (row_of e).channel turn.answer

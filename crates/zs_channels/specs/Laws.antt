@@ -1,10 +1,11 @@
 -- Laws of the definitions, by which a reader may check them.
-use Rattle.std.specs.Prelude.{◌≡◌, ℕ, ◌≤◌, Bool, true, false, List, ◌++◌, length, option_map}
+use Rattle.std.specs.Prelude.{◌≡◌, ℕ, ◌≤◌, Bool, true, false, List, ◌++◌, length, None, option_map}
 use Rattle.std.specs.List.{list_all}
-use Rattle.zs_events.specs.declared.chan.Chan.TheVariants.{Fifo, Ring}
+use Rattle.zs_events.specs.declared.chan.Chan.{Chan}
+use Rattle.zs_events.specs.declared.chan.Chan.TheVariants.{Print, Fifo, Ring}
 use Rattle.zs_events.specs.declared.turn.Kind.{Kind}
 use Rattle.zs_channels.specs.Told.{Happening, ChannelNews, has_ended, held, state, channel_of, handed, read_of, items_in, all_handed}
-use Rattle.zs_channels.specs.Table.{channel_at, table_after}
+use Rattle.zs_channels.specs.Table.{Table, shelf_of, channel_at, with_opened, table_after}
 
 module _ (T : Type 0) where
   -- after any calls each channel is what has happened to it, whatever happened to others
@@ -27,3 +28,11 @@ module _ (T : Type 0) where
   HoldsHanded =
       (test : T → Bool) (heard : List (ChannelNews T)) (kind : Kind) (id : ℕ) → list_all test (all_handed heard) ≡ true
       → list_all test (items_in (channel_of kind id heard)) ≡ true
+
+  -- what is printed alone opens nothing
+  abbrev pub PrintOpensNothing : Type 0
+  PrintOpensNothing = (kind : Kind) (id : ℕ) (t : Table T) → with_opened kind id Print t ≡ t
+
+  -- nor does a kind that can have no channels, whichever it names
+  abbrev pub OthersOpenNothing : Type 0
+  OthersOpenNothing = (kind : Kind) (id : ℕ) (to : Chan) (t : Table T) → shelf_of kind ≡ None → with_opened kind id to t ≡ t

@@ -2,38 +2,33 @@
 ghost use Rattle.std.specs.Prelude.{◌≡◌, OnOk};
 ghost use Rattle.zs_channels.specs.Channel.{with_item};
 ghost use Rattle.zs_channels.specs.Table.{with_change, behind_all};
-ghost use Rattle.zs_channels.specs.Heard.{declares, opening, opening_of, news_of_item, news_of_effect, news_of_effects, news_of_turn};
+ghost use Rattle.zs_channels.specs.Heard.{opening, opening_of, news_of_item, news_of_effect, news_of_effects, news_of_turn};
+ghost use Rattle.zs_events.specs.Kinds.{row_of};
 
 use crate::channels::Channels;
-use std::alloc::{AllocError, Global};
+use std::alloc::AllocError;
 use zs_events::{Answer, Chan, Effect, Event, HandOver, Kind, Turn};
 
 impl Channels<HandOver> {
-    /// Hears what came of an event whose hand-overs go to a channel: that is opened under the number that the event was
-    /// answered, what is handed over goes into channels, and they end where those end whose they are. What goes into a
-    /// channel is a copy that shares its texts and payloads.
+    /// Hears what came of an event: the channel that it names is opened under the number that it was answered, what is
+    /// handed over goes into channels, and they end where those end whose they are. What goes into a channel shares its
+    /// memory with what was handed over.
     ///
     /// # Errors
     ///
     /// Want of memory alone. Then a part of the turn was heard.
-    pub fn hear_turn(
-        &mut self,
-        alloc: Global,
-        event: &Event,
-        to: Chan,
-        turn: &Turn,
-    ) -> Result<(), AllocError>
-        ensures { OnOk result (self.new ≡ behind_all (news_of_turn event.now to turn.now) self.old) }
+    pub fn hear_turn(&mut self, event: &Event, turn: &Turn) -> Result<(), AllocError>
+        ensures { OnOk result (self.new ≡ behind_all (news_of_turn event.now turn.now) self.old) }
     {
-        self.hear_declared(event, to, turn.answer)?;
-        self.hear_effects(alloc, turn.effects.as_slice())
+        self.hear_declared(event, turn.answer)?;
+        self.hear_effects(turn.effects.as_slice())
     }
 
-    fn hear_declared(&mut self, event: &Event, to: Chan, answer: Answer) -> Result<(), AllocError>
-        ensures { OnOk result (self.new ≡ behind_all (opening (declares event.now) to answer) self.old) }
+    fn hear_declared(&mut self, event: &Event, answer: Answer) -> Result<(), AllocError>
+        ensures { OnOk result (self.new ≡ behind_all (opening (row_of event.now).handled (row_of event.now).channel answer) self.old) }
     {
-        match declares(event) {
-            Some(kind) => self.hear_opening(kind, to, answer),
+        match event.handled() {
+            Some(kind) => self.hear_opening(kind, event.channel(), answer),
             None => Ok(()),
         }
     }
@@ -48,21 +43,21 @@ impl Channels<HandOver> {
         }
     }
 
-    fn hear_effects(&mut self, alloc: Global, effects: &[Effect]) -> Result<(), AllocError>
+    fn hear_effects(&mut self, effects: &[Effect]) -> Result<(), AllocError>
         ensures { OnOk result (self.new ≡ behind_all (news_of_effects effects.now) self.old) }
     {
         for effect in effects {
-            self.hear_effect(alloc, effect)?;
+            self.hear_effect(effect)?;
         }
         Ok(())
     }
 
-    fn hear_effect(&mut self, alloc: Global, effect: &Effect) -> Result<(), AllocError>
+    fn hear_effect(&mut self, effect: &Effect) -> Result<(), AllocError>
         ensures { OnOk result (self.new ≡ behind_all (news_of_effect effect.now) self.old) }
     {
         match effect {
             Effect::Send(_) => Ok(()),
-            Effect::Hand(item) => self.hear_item(alloc, item),
+            Effect::Hand(item) => self.hear_item(item),
             Effect::End { kind, id } => {
                 self.end(*kind, *id);
                 Ok(())
@@ -71,43 +66,24 @@ impl Channels<HandOver> {
         }
     }
 
-    fn hear_item(&mut self, alloc: Global, item: &HandOver) -> Result<(), AllocError>
+    fn hear_item(&mut self, item: &HandOver) -> Result<(), AllocError>
         ensures { OnOk result (self.new ≡ behind_all (news_of_item item.now) self.old) }
     {
         match item {
-            HandOver::Sample { kind, id, .. } => self.keep(alloc, *kind, *id, item),
-            HandOver::Reply { kind, id, .. } => self.keep(alloc, *kind, *id, item),
+            HandOver::Sample { kind, id, .. } => self.keep(*kind, *id, item),
+            HandOver::Reply { kind, id, .. } => self.keep(*kind, *id, item),
             HandOver::Query { .. } => Ok(()),
         }
     }
 
     /// Puts a copy of an item into a channel, if there is one.
-    fn keep(
-        &mut self,
-        alloc: Global,
-        kind: Kind,
-        id: u32,
-        item: &HandOver,
-    ) -> Result<(), AllocError>
+    fn keep(&mut self, kind: Kind, id: u32, item: &HandOver) -> Result<(), AllocError>
         ensures { OnOk result (self.new ≡ with_change kind id (with_item item.now) self.old) }
     {
         if !self.has(kind, id) {
             return Ok(());
         }
-        let copy = item.try_clone(alloc)?;
+        let copy = item.try_clone()?;
         self.hand(kind, id, copy)
-    }
-}
-
-/// What an event declares or asks for, if that can have a channel.
-fn declares(event: &Event) -> Option<Kind>
-    ensures { result ≡ declares event.now }
-{
-    match event {
-        Event::Sub { .. } => Some(Kind::Subscriber),
-        Event::Get { .. } => Some(Kind::Get),
-        Event::QuerierGet { .. } => Some(Kind::Get),
-        Event::LivelinessGet { .. } => Some(Kind::LivelinessGet),
-        _ => None,
     }
 }

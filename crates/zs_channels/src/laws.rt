@@ -1,6 +1,6 @@
 //! Laws over the definitions: each is the contract of a function that does nothing.
 
-ghost use Rattle.zs_channels.specs.Laws.{ChannelsAreTold, FifoGivesAll, RingKeepsNewest, HoldsHanded};
+ghost use Rattle.zs_channels.specs.Laws.{ChannelsAreTold, FifoGivesAll, RingKeepsNewest, HoldsHanded, PrintOpensNothing, OthersOpenNothing};
 
 /// After any calls each channel is what has happened to it since it was opened, whatever happened to others.
 pub fn channels_are_told<T>()
@@ -20,4 +20,10 @@ pub fn ring_keeps_newest<T>()
 /// Nothing is in a channel but what was handed over: what holds of all of that holds of each item.
 pub fn holds_handed<T>()
     ensures { HoldsHanded T }
+{}
+
+/// No channel is opened for what is printed alone, nor for a kind that can have none.
+pub fn opens_nothing<T>()
+    ensures printed { PrintOpensNothing T }
+    ensures others { OthersOpenNothing T }
 {}

@@ -3,7 +3,7 @@
 #![tactic(auto)]
 
 pub use channels::Channels;
-pub use laws::{channels_are_told, fifo_gives_all, holds_handed, ring_keeps_newest};
+pub use laws::{channels_are_told, fifo_gives_all, holds_handed, opens_nothing, ring_keeps_newest};
 
 mod channels;
 mod hearing;

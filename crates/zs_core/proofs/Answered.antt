@@ -11,9 +11,10 @@ use Rattle.zs_query.specs.declared.query_value.QueryValue.{QueryValue}
 use Rattle.zs_query.specs.declared.request_row.RequestRow.{RequestRow}
 use Rattle.zs_query.specs.Unfinished.{value_at, has_other, finished, IsFound}
 use Rattle.zs_events.specs.declared.event.Event.TheVariants.{Finish}
-use Rattle.zs_events.specs.declared.event.KeyArg.{KeyArg}
+use Rattle.zs_events.specs.declared.key_arg.KeyArg.{KeyArg}
 use Rattle.zs_events.specs.declared.turn.Refusal.TheVariants.{NotFound, BadKeyExpr, ReplyDisjoint}
-use Rattle.zs_events.specs.Kinds.{ReplyQuality, OwnKey}
+use Rattle.zs_events.specs.Kinds.{OwnKey}
+use Rattle.zs_events.specs.declared.publication.ReplyQuality.{ReplyQuality}
 use Rattle.zs_core.specs.declared.change.Change.TheVariants.{Nothing, OfValues}
 use Rattle.zs_core.specs.declared.change.ValueChange.TheVariants.{GiveBack}
 use Rattle.zs_core.specs.World.{World}

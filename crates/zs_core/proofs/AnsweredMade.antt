@@ -1,8 +1,8 @@
 -- What answers to gets and queries say, told by their changes.
 use Rattle.std.proofs.Common.{◌≡◌, ℕ, List, [], Bool, true, false, Option, Some, None, refl, sym, ◌∙◌, ap}
 use Rattle.std.specs.Prelude.{if◌then◌else◌}
-use Rattle.zs_events.specs.declared.event.Event.TheVariants.{Net, Reply as reply_event, ReplyDelete}
-use Rattle.zs_events.specs.declared.event.KeyArg.{KeyArg}
+use Rattle.zs_events.specs.declared.event.Event.TheVariants.{Net, Reply as reply_event}
+use Rattle.zs_events.specs.declared.key_arg.KeyArg.{KeyArg}
 use Rattle.zs_wire.specs.declared.message.Message.TheVariants.{Response as response_message}
 use Rattle.zs_core.specs.World.{World}
 use Rattle.zs_wire.specs.declared.response.Answered.{Answered}
@@ -20,7 +20,7 @@ use Rattle.zs_query.specs.GetTable.{Asking, with_local_final}
 use Rattle.zs_query.specs.Unfinished.{value_at}
 use Rattle.zs_core.specs.Answers.{local_reply, news_of_reply, news_of_finished}
 use Rattle.zs_core.specs.Gets.{response_news}
-use Rattle.zs_events.specs.Kinds.{put_body, delete_body}
+use Rattle.zs_events.specs.Updates.{body_of}
 use Rattle.zs_core.specs.Entry.{Entry}
 use Rattle.zs_core.specs.Live.{drew, ends}
 use Rattle.zs_core.specs.Changes.{response_change, replied_change, answer_change, with_ended}
@@ -39,17 +39,17 @@ ended_is (Last row) a = go row.local
 pub ended_next : (f : Finished) (a : Asking) → (with_ended f a).next ≡ a.next
 ended_next f a = ap (λ (b : Asking). b.next) (ended_is f a)
 
--- a reply with a value, and a deletion
-pub reply_made : (w : World) (value : ℕ) (key : KeyArg) (payload : List (List ℕ)) (encoding : List ℕ) (timestamp : Option Timestamp) (priority : Option ℕ) (congestion : Option CongestionControl) (express : Option Bool) (source : Option SourceInfo) (attachment : Option (List (List ℕ))) (text : Option (List ℕ)) → w.closed ≡ false
-    → IsMade w (record { number = None; text = text; event = reply_event value key payload encoding timestamp priority congestion express source attachment })
-    (answer_change w.settings.zid (record { priority = priority; congestion = congestion; express = express }) (put_body payload encoding timestamp source attachment) (value_at value w.handing.values) text)
-reply_made w value key payload encoding timestamp priority congestion express source attachment text o = go (value_at value w.handing.values) refl text
+-- a reply
+pub reply_made : (w : World) (value : ℕ) (key : KeyArg) (update : Update) (quality : ReplyQuality) (text : Option (List ℕ)) → w.closed ≡ false
+    → IsMade w (record { number = None; text = text; event = reply_event value key update quality })
+    (answer_change w.settings.zid quality (body_of [] update) (value_at value w.handing.values) text)
+reply_made w value key update quality text o = go (value_at value w.handing.values) refl text
   where
     x : Option (List ℕ) → Entry
-    x text = record { number = None; text = text; event = reply_event value key payload encoding timestamp priority congestion express source attachment }
+    x text = record { number = None; text = text; event = reply_event value key update quality }
 
     by : (v : QueryValue) (text : List ℕ) → value_at value w.handing.values ≡ Some v → (b : Bool) → v.row.local ≡ b
-        → IsMade w (x (Some text)) (replied_change b v.row.rid (local_reply w.settings.zid v.queryable v.row (record { priority = priority; congestion = congestion; express = express }) (put_body payload encoding timestamp source attachment) text))
+        → IsMade w (x (Some text)) (replied_change b v.row.rid (local_reply w.settings.zid v.queryable v.row quality (body_of [] update) text))
     by v text e true local = record {
       unclosed = o;
       fits = refl;
@@ -57,8 +57,8 @@ reply_made w value key payload encoding timestamp priority congestion express so
       keys = record { declares = λ n. refl; returns = λ n. refl; draws = refl; tells = λ n. refl; text = tt };
       entities = record { subs = record { row = refl; drew = λ id. refl; ended = λ id. refl }; pubs = record { row = refl; drew = λ id. refl; ended = λ id. refl }; queryables = record { row = refl; drew = λ id. refl; ended = λ id. refl }; queriers = record { row = refl; drew = λ id. refl; ended = λ id. refl }; left = λ kind id. refl; number = tt; draws = refl };
       gets = record {
-        asking = ap (λ (b : Bool). record w.asking { gets = gets_after (if b then ReplyTo v.row.rid (local_reply w.settings.zid v.queryable v.row (record { priority = priority; congestion = congestion; express = express }) (put_body payload encoding timestamp source attachment) text) else Quiet) w.asking.gets }) (sym local)
-            ∙ ap (λ (v : Option QueryValue). record w.asking { gets = gets_after (news_of_reply w.settings.zid (record { priority = priority; congestion = congestion; express = express }) (put_body payload encoding timestamp source attachment) v (Some text)) w.asking.gets }) (sym e);
+        asking = ap (λ (b : Bool). record w.asking { gets = gets_after (if b then ReplyTo v.row.rid (local_reply w.settings.zid v.queryable v.row quality (body_of [] update) text) else Quiet) w.asking.gets }) (sym local)
+            ∙ ap (λ (v : Option QueryValue). record w.asking { gets = gets_after (news_of_reply w.settings.zid quality (body_of [] update) v (Some text)) w.asking.gets }) (sym e);
         handing = refl;
         under = tt;
         counted = refl;
@@ -73,8 +73,8 @@ reply_made w value key payload encoding timestamp priority congestion express so
       keys = record { declares = λ n. refl; returns = λ n. refl; draws = refl; tells = λ n. refl; text = tt };
       entities = record { subs = record { row = refl; drew = λ id. refl; ended = λ id. refl }; pubs = record { row = refl; drew = λ id. refl; ended = λ id. refl }; queryables = record { row = refl; drew = λ id. refl; ended = λ id. refl }; queriers = record { row = refl; drew = λ id. refl; ended = λ id. refl }; left = λ kind id. refl; number = tt; draws = refl };
       gets = record {
-        asking = ap (λ (b : Bool). record w.asking { gets = gets_after (if b then ReplyTo v.row.rid (local_reply w.settings.zid v.queryable v.row (record { priority = priority; congestion = congestion; express = express }) (put_body payload encoding timestamp source attachment) text) else Quiet) w.asking.gets }) (sym local)
-            ∙ ap (λ (v : Option QueryValue). record w.asking { gets = gets_after (news_of_reply w.settings.zid (record { priority = priority; congestion = congestion; express = express }) (put_body payload encoding timestamp source attachment) v (Some text)) w.asking.gets }) (sym e);
+        asking = ap (λ (b : Bool). record w.asking { gets = gets_after (if b then ReplyTo v.row.rid (local_reply w.settings.zid v.queryable v.row quality (body_of [] update) text) else Quiet) w.asking.gets }) (sym local)
+            ∙ ap (λ (v : Option QueryValue). record w.asking { gets = gets_after (news_of_reply w.settings.zid quality (body_of [] update) v (Some text)) w.asking.gets }) (sym e);
         handing = refl;
         under = tt;
         counted = refl;
@@ -83,14 +83,14 @@ reply_made w value key payload encoding timestamp priority congestion express so
       liveliness = record { asks = refl; ends = λ g. refl; told = refl; tokens = record { row = refl; drew = λ id. refl; ended = λ id. refl }; lsubs = record { row = refl; drew = λ id. refl; ended = λ id. refl } };
     }
 
-    go : (v : Option QueryValue) → value_at value w.handing.values ≡ v → (text : Option (List ℕ)) → IsMade w (x text) (answer_change w.settings.zid (record { priority = priority; congestion = congestion; express = express }) (put_body payload encoding timestamp source attachment) v text)
+    go : (v : Option QueryValue) → value_at value w.handing.values ≡ v → (text : Option (List ℕ)) → IsMade w (x text) (answer_change w.settings.zid quality (body_of [] update) v text)
     go None e text = record {
       unclosed = o;
       fits = tt;
       closes = refl;
       keys = record { declares = λ n. refl; returns = λ n. refl; draws = refl; tells = λ n. refl; text = tt };
       entities = record { subs = record { row = refl; drew = λ id. refl; ended = λ id. refl }; pubs = record { row = refl; drew = λ id. refl; ended = λ id. refl }; queryables = record { row = refl; drew = λ id. refl; ended = λ id. refl }; queriers = record { row = refl; drew = λ id. refl; ended = λ id. refl }; left = λ kind id. refl; number = tt; draws = refl };
-      gets = record { asking = ap (λ (v : Option QueryValue). record w.asking { gets = gets_after (news_of_reply w.settings.zid (record { priority = priority; congestion = congestion; express = express }) (put_body payload encoding timestamp source attachment) v text) w.asking.gets }) (sym e); handing = refl; under = tt; counted = refl; cancelling = refl };
+      gets = record { asking = ap (λ (v : Option QueryValue). record w.asking { gets = gets_after (news_of_reply w.settings.zid quality (body_of [] update) v text) w.asking.gets }) (sym e); handing = refl; under = tt; counted = refl; cancelling = refl };
       liveliness = record { asks = refl; ends = λ g. refl; told = refl; tokens = record { row = refl; drew = λ id. refl; ended = λ id. refl }; lsubs = record { row = refl; drew = λ id. refl; ended = λ id. refl } };
     }
     go (Some v) e None = record {
@@ -99,71 +99,7 @@ reply_made w value key payload encoding timestamp priority congestion express so
       closes = refl;
       keys = record { declares = λ n. refl; returns = λ n. refl; draws = refl; tells = λ n. refl; text = tt };
       entities = record { subs = record { row = refl; drew = λ id. refl; ended = λ id. refl }; pubs = record { row = refl; drew = λ id. refl; ended = λ id. refl }; queryables = record { row = refl; drew = λ id. refl; ended = λ id. refl }; queriers = record { row = refl; drew = λ id. refl; ended = λ id. refl }; left = λ kind id. refl; number = tt; draws = refl };
-      gets = record { asking = ap (λ (v : Option QueryValue). record w.asking { gets = gets_after (news_of_reply w.settings.zid (record { priority = priority; congestion = congestion; express = express }) (put_body payload encoding timestamp source attachment) v None) w.asking.gets }) (sym e); handing = refl; under = tt; counted = refl; cancelling = refl };
-      liveliness = record { asks = refl; ends = λ g. refl; told = refl; tokens = record { row = refl; drew = λ id. refl; ended = λ id. refl }; lsubs = record { row = refl; drew = λ id. refl; ended = λ id. refl } };
-    }
-    go (Some v) e (Some text) = by v text e v.row.local refl
-
-pub deletion_made : (w : World) (value : ℕ) (key : KeyArg) (timestamp : Option Timestamp) (priority : Option ℕ) (congestion : Option CongestionControl) (express : Option Bool) (source : Option SourceInfo) (attachment : Option (List (List ℕ))) (text : Option (List ℕ)) → w.closed ≡ false
-    → IsMade w (record { number = None; text = text; event = ReplyDelete value key timestamp priority congestion express source attachment })
-    (answer_change w.settings.zid (record { priority = priority; congestion = congestion; express = express }) (delete_body timestamp source attachment) (value_at value w.handing.values) text)
-deletion_made w value key timestamp priority congestion express source attachment text o = go (value_at value w.handing.values) refl text
-  where
-    x : Option (List ℕ) → Entry
-    x text = record { number = None; text = text; event = ReplyDelete value key timestamp priority congestion express source attachment }
-
-    by : (v : QueryValue) (text : List ℕ) → value_at value w.handing.values ≡ Some v → (b : Bool) → v.row.local ≡ b
-        → IsMade w (x (Some text)) (replied_change b v.row.rid (local_reply w.settings.zid v.queryable v.row (record { priority = priority; congestion = congestion; express = express }) (delete_body timestamp source attachment) text))
-    by v text e true local = record {
-      unclosed = o;
-      fits = refl;
-      closes = refl;
-      keys = record { declares = λ n. refl; returns = λ n. refl; draws = refl; tells = λ n. refl; text = tt };
-      entities = record { subs = record { row = refl; drew = λ id. refl; ended = λ id. refl }; pubs = record { row = refl; drew = λ id. refl; ended = λ id. refl }; queryables = record { row = refl; drew = λ id. refl; ended = λ id. refl }; queriers = record { row = refl; drew = λ id. refl; ended = λ id. refl }; left = λ kind id. refl; number = tt; draws = refl };
-      gets = record {
-        asking = ap (λ (b : Bool). record w.asking { gets = gets_after (if b then ReplyTo v.row.rid (local_reply w.settings.zid v.queryable v.row (record { priority = priority; congestion = congestion; express = express }) (delete_body timestamp source attachment) text) else Quiet) w.asking.gets }) (sym local)
-            ∙ ap (λ (v : Option QueryValue). record w.asking { gets = gets_after (news_of_reply w.settings.zid (record { priority = priority; congestion = congestion; express = express }) (delete_body timestamp source attachment) v (Some text)) w.asking.gets }) (sym e);
-        handing = refl;
-        under = tt;
-        counted = refl;
-        cancelling = refl;
-      };
-      liveliness = record { asks = refl; ends = λ g. refl; told = refl; tokens = record { row = refl; drew = λ id. refl; ended = λ id. refl }; lsubs = record { row = refl; drew = λ id. refl; ended = λ id. refl } };
-    }
-    by v text e false local = record {
-      unclosed = o;
-      fits = tt;
-      closes = refl;
-      keys = record { declares = λ n. refl; returns = λ n. refl; draws = refl; tells = λ n. refl; text = tt };
-      entities = record { subs = record { row = refl; drew = λ id. refl; ended = λ id. refl }; pubs = record { row = refl; drew = λ id. refl; ended = λ id. refl }; queryables = record { row = refl; drew = λ id. refl; ended = λ id. refl }; queriers = record { row = refl; drew = λ id. refl; ended = λ id. refl }; left = λ kind id. refl; number = tt; draws = refl };
-      gets = record {
-        asking = ap (λ (b : Bool). record w.asking { gets = gets_after (if b then ReplyTo v.row.rid (local_reply w.settings.zid v.queryable v.row (record { priority = priority; congestion = congestion; express = express }) (delete_body timestamp source attachment) text) else Quiet) w.asking.gets }) (sym local)
-            ∙ ap (λ (v : Option QueryValue). record w.asking { gets = gets_after (news_of_reply w.settings.zid (record { priority = priority; congestion = congestion; express = express }) (delete_body timestamp source attachment) v (Some text)) w.asking.gets }) (sym e);
-        handing = refl;
-        under = tt;
-        counted = refl;
-        cancelling = refl;
-      };
-      liveliness = record { asks = refl; ends = λ g. refl; told = refl; tokens = record { row = refl; drew = λ id. refl; ended = λ id. refl }; lsubs = record { row = refl; drew = λ id. refl; ended = λ id. refl } };
-    }
-
-    go : (v : Option QueryValue) → value_at value w.handing.values ≡ v → (text : Option (List ℕ)) → IsMade w (x text) (answer_change w.settings.zid (record { priority = priority; congestion = congestion; express = express }) (delete_body timestamp source attachment) v text)
-    go None e text = record {
-      unclosed = o;
-      fits = tt;
-      closes = refl;
-      keys = record { declares = λ n. refl; returns = λ n. refl; draws = refl; tells = λ n. refl; text = tt };
-      entities = record { subs = record { row = refl; drew = λ id. refl; ended = λ id. refl }; pubs = record { row = refl; drew = λ id. refl; ended = λ id. refl }; queryables = record { row = refl; drew = λ id. refl; ended = λ id. refl }; queriers = record { row = refl; drew = λ id. refl; ended = λ id. refl }; left = λ kind id. refl; number = tt; draws = refl };
-      gets = record { asking = ap (λ (v : Option QueryValue). record w.asking { gets = gets_after (news_of_reply w.settings.zid (record { priority = priority; congestion = congestion; express = express }) (delete_body timestamp source attachment) v text) w.asking.gets }) (sym e); handing = refl; under = tt; counted = refl; cancelling = refl };
-      liveliness = record { asks = refl; ends = λ g. refl; told = refl; tokens = record { row = refl; drew = λ id. refl; ended = λ id. refl }; lsubs = record { row = refl; drew = λ id. refl; ended = λ id. refl } };
-    }
-    go (Some v) e None = record {
-      unclosed = o;
-      fits = tt;
-      closes = refl;
-      keys = record { declares = λ n. refl; returns = λ n. refl; draws = refl; tells = λ n. refl; text = tt };
-      entities = record { subs = record { row = refl; drew = λ id. refl; ended = λ id. refl }; pubs = record { row = refl; drew = λ id. refl; ended = λ id. refl }; queryables = record { row = refl; drew = λ id. refl; ended = λ id. refl }; queriers = record { row = refl; drew = λ id. refl; ended = λ id. refl }; left = λ kind id. refl; number = tt; draws = refl };
-      gets = record { asking = ap (λ (v : Option QueryValue). record w.asking { gets = gets_after (news_of_reply w.settings.zid (record { priority = priority; congestion = congestion; express = express }) (delete_body timestamp source attachment) v None) w.asking.gets }) (sym e); handing = refl; under = tt; counted = refl; cancelling = refl };
+      gets = record { asking = ap (λ (v : Option QueryValue). record w.asking { gets = gets_after (news_of_reply w.settings.zid quality (body_of [] update) v None) w.asking.gets }) (sym e); handing = refl; under = tt; counted = refl; cancelling = refl };
       liveliness = record { asks = refl; ends = λ g. refl; told = refl; tokens = record { row = refl; drew = λ id. refl; ended = λ id. refl }; lsubs = record { row = refl; drew = λ id. refl; ended = λ id. refl } };
     }
     go (Some v) e (Some text) = by v text e v.row.local refl

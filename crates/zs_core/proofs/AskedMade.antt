@@ -4,8 +4,9 @@ use Rattle.std.specs.Prelude.{◌&&◌, ◌||◌, not, option_map}
 use Rattle.zs_tables.specs.declared.subscriber.SubRow.{SubRow}
 use Rattle.zs_tables.specs.declared.queryable.QueryableRow.{QueryableRow}
 use Rattle.zs_events.specs.declared.event.Event.{Event}
-use Rattle.zs_events.specs.declared.event.Event.TheVariants.{Net}
-use Rattle.zs_events.specs.declared.event.KeyArg.{KeyArg}
+use Rattle.zs_events.specs.declared.event.Event.TheVariants.{Net, Get, QuerierGet}
+use Rattle.zs_events.specs.declared.chan.Chan.{Chan}
+use Rattle.zs_events.specs.declared.key_arg.KeyArg.{KeyArg}
 use Rattle.zs_wire.specs.declared.message.Message.TheVariants.{Request as request_message}
 use Rattle.zs_events.specs.declared.turn.Kind.{Kind}
 use Rattle.zs_events.specs.declared.turn.Kind.TheVariants.{Subscriber, Publisher, Queryable as queryable_kind, Querier as querier_kind, Token as token_kind, LivelinessSubscriber}
@@ -20,9 +21,11 @@ use Rattle.zs_query.specs.RequestTable.{with_handed}
 use Rattle.zs_core.specs.Values.{met_by_get, met_by_request, met_by, get_request, last_value, lacks_values}
 use Rattle.zs_core.proofs.Values.{handing_next}
 use Rattle.std.proofs.lemmas.Bool.Decides.{nat_tests}
-use Rattle.zs_core.specs.Questions.{given_parameters, row_waiting, get_event, querier_get_event}
+use Rattle.zs_core.specs.Questions.{given_parameters, row_waiting}
 use Rattle.zs_core.proofs.Gets.{asking_by, IsAskedUnder, mode_settled}
-use Rattle.zs_events.specs.Kinds.{Question, QuerierQuestion, Asks, QueryNumber, NoGet, NoValue, Requested, row_of}
+use Rattle.zs_events.specs.Kinds.{Question, Asks, QueryNumber, NoGet, NoValue, Requested, row_of}
+use Rattle.zs_events.specs.declared.inquiry.Inquiry.{Inquiry}
+use Rattle.zs_events.specs.declared.inquiry.QuerySettings.{QuerySettings}
 use Rattle.zs_core.specs.Entry.{Entry}
 use Rattle.zs_core.specs.Subscribers.{sub_row}
 use Rattle.zs_core.specs.Publishers.{pub_row}
@@ -65,13 +68,13 @@ pub asked_fits : (w : World) (q : Question) (text met : List ℕ) → met_by_get
 asked_fits w q text [] e lacks = (
   refl,
   (neither (lacks_values w.handing.next (met_by_get w.entities.queryables q text)) (is_spent last_query w.asking.next) lacks).1,
-  mode_settled q.consolidation (contains_name time_name (given_parameters q)),
+  mode_settled q.settings.consolidation (contains_name time_name (given_parameters q)),
 )
 asked_fits w q text (id ∷ met) e lacks =
     let none = neither (lacks_values w.handing.next (met_by_get w.entities.queryables q text)) (is_spent last_query w.asking.next) lacks in (
       refl,
       none.1,
-      mode_settled q.consolidation (contains_name time_name (given_parameters q)),
+      mode_settled q.settings.consolidation (contains_name time_name (given_parameters q)),
       refl,
       room_is w.handing.next id met (ap (lacks_values w.handing.next) (sym e) ∙ none.0),
     )
@@ -163,31 +166,31 @@ keeps number kind row x c none undrawn unended is =
     subst (SaysRows number kind row x) is (record { row = none; drew = undrawn; ended = unended })
 
 -- a get that no querier asks
-abbrev pub plainly : Question → Question
-plainly q = record q { querier = None }
+abbrev pub plainly : QuerySettings → Inquiry → Question
+plainly settings inquiry = record { settings = settings; inquiry = inquiry; querier = None }
 
-pub get_made : (w : World) (key : KeyArg) (q : Question) (text : Option (List ℕ)) → w.closed ≡ false
-    → HasPassed (row_of (get_event key q))
+pub get_made : (w : World) (key : KeyArg) (settings : QuerySettings) (inquiry : Inquiry) (to : Chan) (text : Option (List ℕ)) → w.closed ≡ false
+    → HasPassed (row_of (Get key settings inquiry to))
     (record {
       text = text;
       lives = true;
       claimed = true;
       owed = true;
-      drawn = is_drawn w.cancelling.next q.token;
-      cancelled = is_any (is_among w.cancelling.taken) q.token;
+      drawn = is_drawn w.cancelling.next inquiry.cancellation_token;
+      cancelled = is_any (is_among w.cancelling.taken) inquiry.cancellation_token;
       disjoint = false;
-      lacks = lacks_values w.handing.next (met_by w.entities.queryables (Asks (plainly q)) NoValue text) || has_run_out w QueryNumber text;
+      lacks = lacks_values w.handing.next (met_by w.entities.queryables (Asks (plainly settings inquiry)) NoValue text) || has_run_out w QueryNumber text;
       idle = false;
       spared = false;
     })
-    → IsMade w (record { number = Some w.asking.next; text = text; event = get_event key q }) (get_change w (plainly q) text)
-get_made w key q None o p =
-    let undrawn : Bool = not (is_drawn w.cancelling.next q.token) || false in
+    → IsMade w (record { number = Some w.asking.next; text = text; event = Get key settings inquiry to }) (get_change w (plainly settings inquiry) text)
+get_made w key settings inquiry to None o p =
+    let undrawn : Bool = not (is_drawn w.cancelling.next inquiry.cancellation_token) || false in
     let found : ((undrawn || true) || false) ≡ false = (neither ((undrawn || true) || false) false p.found).0 in
     let no : true ≡ false = (neither undrawn true (neither (undrawn || true) false found).0).1 in cc
-get_made w key q (Some text) o p = record {
+get_made w key settings inquiry to (Some text) o p = record {
   unclosed = o;
-  fits = asked_fits w (plainly q) text (met_by_get w.entities.queryables (plainly q) text) refl p.left;
+  fits = asked_fits w (plainly settings inquiry) text (met_by_get w.entities.queryables (plainly settings inquiry) text) refl p.left;
   closes = a.closes;
   keys = record { declares = a.declares; returns = a.returns; draws = a.draws; tells = a.tells; text = a.text (Some text) };
   entities = record {
@@ -200,8 +203,8 @@ get_made w key q (Some text) o p = record {
     draws = a.adds;
   };
   gets = record {
-    asking = asked_asking w (plainly q) text (met_by_get w.entities.queryables (plainly q) text) refl;
-    handing = asked_handing w (plainly q) text (met_by_get w.entities.queryables (plainly q) text) refl;
+    asking = asked_asking w (plainly settings inquiry) text (met_by_get w.entities.queryables (plainly settings inquiry) text) refl;
+    handing = asked_handing w (plainly settings inquiry) text (met_by_get w.entities.queryables (plainly settings inquiry) text) refl;
     under = refl;
     counted = a.counted;
     cancelling = a.cancelling;
@@ -216,36 +219,36 @@ get_made w key q (Some text) o p = record {
 }
   where
     x : Entry
-    x = record { number = Some w.asking.next; text = Some text; event = get_event key q }
+    x = record { number = Some w.asking.next; text = Some text; event = Get key settings inquiry to }
 
     c : Change
-    c = asked_change w (plainly q) text (met_by_get w.entities.queryables (plainly q) text)
+    c = asked_change w (plainly settings inquiry) text (met_by_get w.entities.queryables (plainly settings inquiry) text)
 
     a : IsAsked w c
-    a = is_asked w (plainly q) text (met_by_get w.entities.queryables (plainly q) text)
+    a = is_asked w (plainly settings inquiry) text (met_by_get w.entities.queryables (plainly settings inquiry) text)
 
 -- a get of a querier, which is live
-pub querier_get_made : (w : World) (id : ℕ) (q : QuerierQuestion) → w.closed ≡ false → HasPassed (row_of (querier_get_event id q)) (sight w (querier_get_event id q))
-    → IsMade w (entry_for w (querier_get_event id q)) (change_for w (querier_get_event id q))
-querier_get_made w id q o p = go (querier_at id w.entities.queriers) refl
+pub querier_get_made : (w : World) (id : ℕ) (inquiry : Inquiry) (to : Chan) → w.closed ≡ false → HasPassed (row_of (QuerierGet id inquiry to)) (sight w (QuerierGet id inquiry to))
+    → IsMade w (entry_for w (QuerierGet id inquiry to)) (change_for w (QuerierGet id inquiry to))
+querier_get_made w id inquiry to o p = go (querier_at id w.entities.queriers) refl
   where
     e : Event
-    e = querier_get_event id q
+    e = QuerierGet id inquiry to
 
     -- the entry and the change by what is found
     x : Option QuerierRow → Entry
     x found = record { number = Some w.asking.next; text = option_map (λ (row : QuerierRow). row.key.text) found; event = e }
 
     c : Option QuerierRow → Change
-    c found = querier_get_change w q found
+    c found = querier_get_change w inquiry found
 
     lacking : (found : Option QuerierRow) → querier_at id w.entities.queriers ≡ found
-        → (lacks_values w.handing.next (met_by w.entities.queryables (asks_of q found) NoValue (option_map (λ (row : QuerierRow). row.key.text) found)) || is_spent last_query w.asking.next) ≡ false
-    lacking found is = subst (λ (f : Option QuerierRow). (lacks_values w.handing.next (met_by w.entities.queryables (asks_of q f) NoValue (option_map (λ (row : QuerierRow). row.key.text) f)) || is_spent last_query w.asking.next) ≡ false) is p.left
+        → (lacks_values w.handing.next (met_by w.entities.queryables (asks_of inquiry found) NoValue (option_map (λ (row : QuerierRow). row.key.text) found)) || is_spent last_query w.asking.next) ≡ false
+    lacking found is = subst (λ (f : Option QuerierRow). (lacks_values w.handing.next (met_by w.entities.queryables (asks_of inquiry f) NoValue (option_map (λ (row : QuerierRow). row.key.text) f)) || is_spent last_query w.asking.next) ≡ false) is p.left
 
     lives : is_querier id w.entities.queriers ≡ true
     lives =
-        let undrawn : Bool = (not (is_drawn w.cancelling.next q.token) || false) || false in
+        let undrawn : Bool = (not (is_drawn w.cancelling.next inquiry.cancellation_token) || false) || false in
         let gone : Bool = not (is_querier id w.entities.queriers && true) in
         go (is_querier id w.entities.queriers) (neither undrawn gone (neither (undrawn || gone) false p.found).0).1
       where
@@ -256,7 +259,7 @@ querier_get_made w id q o p = go (querier_at id w.entities.queriers) refl
     go : (found : Option QuerierRow) → querier_at id w.entities.queriers ≡ found → IsMade w (x (querier_at id w.entities.queriers)) (c (querier_at id w.entities.queriers))
     go None is = let no : false ≡ true = sym (missing_there id w.entities.queriers is) ∙ lives in cc
     go (Some row) is =
-        let question : Question = question_of row q in
+        let question : Question = question_of row inquiry in
         let met : List ℕ = met_by_get w.entities.queryables question row.key.text in
         let a : IsAsked w (asked_change w question row.key.text met) = is_asked w question row.key.text met in
         subst (λ (f : Option QuerierRow). IsMade w (x f) (c f)) (sym is)
@@ -276,10 +279,10 @@ querier_get_made w id q o p = go (querier_at id w.entities.queriers) refl
           };
           gets = record {
             asking = asked_asking w question row.key.text met refl
-                ∙ ap (λ (f : Option QuerierRow). asking_by w.settings.default_timeout w.settings.zid w.entities.queryables w.handing.values (asks_of q f) NoValue (Some row.key.text) w.asking) (sym is);
+                ∙ ap (λ (f : Option QuerierRow). asking_by w.settings.default_timeout w.settings.zid w.entities.queryables w.handing.values (asks_of inquiry f) NoValue (Some row.key.text) w.asking) (sym is);
             handing = asked_handing w question row.key.text met refl
-                ∙ ap (λ (f : Option QuerierRow). handing_next w.entities.queryables (asks_of q f) NoValue (Some w.asking.next) (Some row.key.text) w.handing) (sym is);
-            under = subst (λ (f : Option QuerierRow). IsAskedUnder (asks_of q f) (Some w.asking.next) w.asking.next) (sym is) refl;
+                ∙ ap (λ (f : Option QuerierRow). handing_next w.entities.queryables (asks_of inquiry f) NoValue (Some w.asking.next) (Some row.key.text) w.handing) (sym is);
+            under = subst (λ (f : Option QuerierRow). IsAskedUnder (asks_of inquiry f) (Some w.asking.next) w.asking.next) (sym is) refl;
             counted = a.counted;
             cancelling = a.cancelling;
           };

@@ -3,10 +3,10 @@ use Rattle.std.proofs.Common.{◌≡◌, [], false, Some, None, refl}
 use Rattle.std.specs.Prelude.{◌==◌}
 use Rattle.zs_tables.specs.Numbers.{key_at}
 use Rattle.zs_events.specs.declared.event.Event.{Event}
-use Rattle.zs_events.specs.declared.event.Event.TheVariants.{Key, UndeclareKey, Sub, Pub, Queryable, Querier, Undeclare, Background, Net, Get, QuerierGet, Listen, CancelToken, Cancel, Reply as reply_event, ReplyDelete, Share, Finish, Token, Lsub, LivelinessGet}
-use Rattle.zs_events.specs.declared.event.EntityKind.TheVariants.{Sub as sub_kind, Queryable as queryable_sort, Querier as querier_sort, Listener as listener_sort}
-use Rattle.zs_events.specs.declared.event.BackgroundKind.TheVariants.{Sub as background_sub, Queryable as background_queryable, Listener as background_listener}
-use Rattle.zs_events.specs.declared.event.KeyArg.TheVariants.{Number, Declared}
+use Rattle.zs_events.specs.declared.event.Event.TheVariants.{Key, UndeclareKey, Sub, Pub, Queryable, Querier, Undeclare, Background, Net, Get, QuerierGet, Listen, CancelToken, Cancel, Reply as reply_event, Share, Finish, Token, Lsub, LivelinessGet}
+use Rattle.zs_events.specs.declared.entity_kind.EntityKind.TheVariants.{Sub as sub_kind, Queryable as queryable_sort, Querier as querier_sort, Listener as listener_sort}
+use Rattle.zs_events.specs.declared.entity_kind.BackgroundKind.TheVariants.{Sub as background_sub, Queryable as background_queryable, Listener as background_listener}
+use Rattle.zs_events.specs.declared.key_arg.KeyArg.TheVariants.{Number, Declared}
 use Rattle.zs_wire.specs.declared.message.Message.TheVariants.{DeclareKeyExpr, Request as request_message, Response as response_message, DeclareToken as token_message, DeclareFinal, DeclareSubscriber, UndeclareSubscriber, DeclareQueryable, UndeclareQueryable}
 use Rattle.zs_core.specs.World.{World}
 use Rattle.zs_query.specs.Unfinished.{value_at, finished}
@@ -22,7 +22,7 @@ use Rattle.zs_core.proofs.Decisions.{entry_for}
 use Rattle.zs_core.proofs.Saying.{IsMade, passed}
 use Rattle.zs_core.proofs.DeclaredMade.{key_made, back_made, declared_back_made, sub_made, pub_made, queryable_made, tell_made, querier_made}
 use Rattle.zs_core.proofs.AskedMade.{get_made, querier_get_made, request_made}
-use Rattle.zs_core.proofs.AnsweredMade.{ended_is, ended_next, reply_made, deletion_made, response_made}
+use Rattle.zs_core.proofs.AnsweredMade.{ended_is, ended_next, reply_made, response_made}
 use Rattle.zs_core.proofs.ToldMade.{lsub_made, tokens_made, told_made, listen_made, told_sub_made, told_queryable_made}
 
 -- what an open session makes of an event that it accepts
@@ -31,9 +31,9 @@ made w (Key key) o c = key_made w key (key_of w key) o (passed _ _ c)
 made w (UndeclareKey (Number number suffix)) o c = back_made w number suffix (text_for w (UndeclareKey (Number number suffix))) (key_at number w.keys.own) refl o (passed _ _ c)
 made w (UndeclareKey (Declared text number prefix_len)) o c =
     declared_back_made w text number prefix_len (is_all_of text prefix_len) refl (key_at number w.keys.own) refl o (passed _ _ c)
-made w (Sub origin key) o c = sub_made w origin key (key_of w key) o (passed _ _ c)
+made w (Sub origin key to) o c = sub_made w origin key to (key_of w key) o (passed _ _ c)
 made w (Lsub history key) o c = lsub_made w history key (key_of w key) o (passed _ _ c)
-made w (LivelinessGet key timeout token) o c = tokens_made w key timeout token (key_of w key) o (passed _ _ c)
+made w (LivelinessGet key timeout token to) o c = tokens_made w key timeout token to (key_of w key) o (passed _ _ c)
 made w (Net (token_message id wire interest)) o c = told_made w id wire interest (wire_of w wire) o
 made w (Net (DeclareFinal (Some number))) o c = record {
   unclosed = o;
@@ -45,21 +45,10 @@ made w (Net (DeclareFinal (Some number))) o c = record {
   liveliness = record { asks = refl; ends = λ g. or_false (g.number == number); told = refl; tokens = record { row = refl; drew = λ id. refl; ended = λ id. refl }; lsubs = record { row = refl; drew = λ id. refl; ended = λ id. refl } };
 }
 made w (Net (DeclareKeyExpr number wire)) o c = tell_made w number wire (wire_of w wire) o (passed _ _ c)
-made w (Pub destination key encoding qos reliable) o c = pub_made w destination key encoding qos reliable (key_of w key) o (passed _ _ c)
+made w (Pub key settings) o c = pub_made w key settings (key_of w key) o (passed _ _ c)
 made w (Queryable origin complete key) o c = queryable_made w origin complete key (key_of w key) o (passed _ _ c)
-made w (Querier destination key target consolidation timeout qos any_key) o c =
-    querier_made w key
-    (record {
-      destination = destination;
-      target = target;
-      consolidation = consolidation;
-      timeout = timeout;
-      qos = qos;
-      any_key = any_key;
-    })
-    (key_of w key) o (passed _ _ c)
-made w (QuerierGet id parameters value source attachment token) o c =
-    querier_get_made w id (record { parameters = parameters; value = value; source = source; attachment = attachment; token = token }) o (passed _ _ c)
+made w (Querier key settings) o c = querier_made w key settings (key_of w key) o (passed _ _ c)
+made w (QuerierGet id inquiry to) o c = querier_get_made w id inquiry to o (passed _ _ c)
 made w (Token key) o c = record {
   unclosed = o;
   fits = (refl, (passed (row_of (Token key)) (sight w (Token key)) c).left);
@@ -126,27 +115,8 @@ made w (Background background_queryable id) o c = record {
   gets = record { asking = refl; handing = refl; under = tt; counted = refl; cancelling = refl };
   liveliness = record { asks = refl; ends = λ g. refl; told = refl; tokens = record { row = refl; drew = λ id. refl; ended = λ id. refl }; lsubs = record { row = refl; drew = λ id. refl; ended = λ id. refl } };
 }
-made w (Get destination key parameters target consolidation timeout value qos source attachment any_key token) o c =
-    get_made w key
-    (record {
-      destination = destination;
-      parameters = parameters;
-      target = target;
-      consolidation = consolidation;
-      timeout = timeout;
-      value = value;
-      qos = qos;
-      source = source;
-      attachment = attachment;
-      any_key = any_key;
-      querier = None;
-      token = token;
-    })
-    (key_of w key) o (passed _ _ c)
-made w (reply_event value key payload encoding timestamp priority congestion express source attachment) o c =
-    reply_made w value key payload encoding timestamp priority congestion express source attachment (key_of w key) o
-made w (ReplyDelete value key timestamp priority congestion express source attachment) o c =
-    deletion_made w value key timestamp priority congestion express source attachment (key_of w key) o
+made w (Get key settings inquiry to) o c = get_made w key settings inquiry to (key_of w key) o (passed _ _ c)
+made w (reply_event value key update quality) o c = reply_made w value key update quality (key_of w key) o
 made w (Share value) o c = record {
   unclosed = o;
   fits = (passed (row_of (Share value)) (sight w (Share value)) c).left;

@@ -20,9 +20,11 @@ use Rattle.zs_tables.specs.declared.group_kind.GroupKind.TheVariants.{Subscriber
 use Rattle.zs_tables.specs.declared.subscriber.SubRow.{SubRow}
 use Rattle.zs_events.specs.declared.event.Event.{Event}
 use Rattle.zs_events.specs.declared.event.Event.TheVariants.{Key, UndeclareKey, Sub, Pub, Queryable, Querier, Undeclare, Close, Token, Lsub, LivelinessGet}
-use Rattle.zs_events.specs.declared.event.EntityKind.TheVariants.{Sub as sub_kind, Pub as pub_kind, Queryable as queryable_sort, Querier as querier_sort, Token as token_sort, Lsub as lsub_sort}
-use Rattle.zs_events.specs.declared.event.KeyArg.{KeyArg}
-use Rattle.zs_events.specs.declared.event.KeyArg.TheVariants.{Text, Number, Declared as declared_text}
+use Rattle.zs_events.specs.declared.entity_kind.EntityKind.TheVariants.{Sub as sub_kind, Pub as pub_kind, Queryable as queryable_sort, Querier as querier_sort, Token as token_sort, Lsub as lsub_sort}
+use Rattle.zs_events.specs.declared.chan.Chan.{Chan}
+use Rattle.zs_events.specs.declared.publication.PublisherSettings.{PublisherSettings}
+use Rattle.zs_events.specs.declared.key_arg.KeyArg.{KeyArg}
+use Rattle.zs_events.specs.declared.key_arg.KeyArg.TheVariants.{Text, Number, Declared as declared_text}
 use Rattle.zs_events.specs.declared.turn.Kind.TheVariants.{Subscriber}
 use Rattle.zs_events.specs.declared.turn.Effect.TheVariants.{Send}
 use Rattle.zs_events.specs.declared.turn.Turn.{Turn}
@@ -45,8 +47,8 @@ use Rattle.zs_core.specs.Sends.{OwnKeys, full_wire, group_wire, wire_form, decla
 use Rattle.zs_tables.specs.declared.queryable.QueryableRow.{QueryableRow}
 use Rattle.zs_query.specs.declared.query_value.QueryValue.{QueryValue}
 use Rattle.zs_core.specs.Queryables.{queryable_at}
-use Rattle.zs_core.specs.declared.querier.QuerierSettings.{QuerierSettings}
-use Rattle.zs_core.specs.Queriers.{querier_at, querier_event}
+use Rattle.zs_events.specs.declared.inquiry.QuerySettings.{QuerySettings}
+use Rattle.zs_core.specs.Queriers.{querier_at}
 use Rattle.zs_core.specs.GetEffects.{asked_effects, request_effects}
 use Rattle.zs_core.specs.ValueEffects.{Answering, value_effects}
 use Rattle.zs_core.specs.Effects.{Known, to_gets_for, draws_of, answering, key_wire, queryable_leaves, entity_sends, effects, declared_sends, token_declaration, token_interest, lsub_mode}
@@ -155,11 +157,11 @@ beside_declared message k (Some id) None key aside = λ before n. refl
 beside_declared message k None text key aside = λ before n. refl
 
 -- what is sent of publishers and their groups
-beside_pub : (known : Known) (destination : Locality) (key : KeyArg) (encoding : List ℕ) (qos : QoSType) (reliable : Bool) (number : Option ℕ) (text : Option (List ℕ))
-    → AreBeside (messages_of (entity_sends known (Pub destination key encoding qos reliable) number text))
-beside_pub known destination key encoding qos reliable None text = λ before n. refl
-beside_pub known destination key encoding qos reliable (Some id) None = λ before n. refl
-beside_pub known destination key encoding qos reliable (Some id) (Some text) = beside_first _ _ (λ before n. refl)
+beside_pub : (known : Known) (key : KeyArg) (settings : PublisherSettings) (number : Option ℕ) (text : Option (List ℕ))
+    → AreBeside (messages_of (entity_sends known (Pub key settings) number text))
+beside_pub known key settings None text = λ before n. refl
+beside_pub known key settings (Some id) None = λ before n. refl
+beside_pub known key settings (Some id) (Some text) = beside_first _ _ (λ before n. refl)
 
 beside_leaving : (c : Company) (x : Option Shared) → AreBeside (messages_of (leaving c interest_end x))
 beside_leaving c None = λ before n. refl
@@ -170,7 +172,7 @@ beside_leaving c (Some x) = go (last_number c x)
     go (Some number) = λ before n. refl
 
 -- and of queriers
-beside_querier : (known : Known) (key : KeyArg) (settings : QuerierSettings) (number : Option ℕ) (text : Option (List ℕ)) → AreBeside (messages_of (entity_sends known (querier_event key settings) number text))
+beside_querier : (known : Known) (key : KeyArg) (settings : QuerySettings) (number : Option ℕ) (text : Option (List ℕ)) → AreBeside (messages_of (entity_sends known (Querier key settings) number text))
 beside_querier known key settings None text = λ before n. refl
 beside_querier known key settings (Some id) None = λ before n. refl
 beside_querier known key settings (Some id) (Some text) = beside_first _ _ (λ before n. refl)
@@ -240,11 +242,11 @@ join_told s text id wire gs before apart are true read =
     reads true read is = read.0
     reads false read is = cc
 
-join : (w : World) (origin : Locality) (key : KeyArg) (text : Option (List ℕ)) (before : List Message) → AreShared w
-    → AreReadAs w.settings text before (messages_of (entity_sends (known_at w) (Sub origin key) (Some w.counters.entity) text)) → Covers w before
-    → Covers (with_change (sub_change w.counters.entity origin text) w) (sent_behind (messages_of (entity_sends (known_at w) (Sub origin key) (Some w.counters.entity) text)) before)
-join w origin key None before shared read are = are
-join w origin key (Some text) before shared read are =
+join : (w : World) (origin : Locality) (key : KeyArg) (to : Chan) (text : Option (List ℕ)) (before : List Message) → AreShared w
+    → AreReadAs w.settings text before (messages_of (entity_sends (known_at w) (Sub origin key to) (Some w.counters.entity) text)) → Covers w before
+    → Covers (with_change (sub_change w.counters.entity origin text) w) (sent_behind (messages_of (entity_sends (known_at w) (Sub origin key to) (Some w.counters.entity) text)) before)
+join w origin key to None before shared read are = are
+join w origin key to (Some text) before shared read are =
     join_told w.settings text w.counters.entity (group_wire w.settings.aggregated_subscribers text (key_wire (known_at w).keys text key)) w.groups.subscribers before
     shared.subs.apart are (has_network origin) read
 
@@ -306,24 +308,23 @@ spoken_at w e = spoken_by w.handing.values (row_of e).to_values (text_for w e)
 group_step : (w : World) (e : Event) (before : List Message) → AreShared w → IsMade w (entry_for w e) (change_for w e)
     → AreReadAs w.settings (spoken_at w e) before (messages_of (entity_sends (known_at w) e (number_for w e) (text_for w e))) → Covers w before
     → Covers (with_change (change_for w e) w) (sent_behind (messages_of (entity_sends (known_at w) e (number_for w e) (text_for w e))) before)
-group_step w (Sub origin key) before shared m read are = join w origin key (key_of w key) before shared read are
+group_step w (Sub origin key to) before shared m read are = join w origin key to (key_of w key) before shared read are
 group_step w (Undeclare sub_kind id) before shared m read are = leave w id (sub_at id w.entities.subs) before refl shared are
 group_step w (Undeclare pub_kind id) before shared m read are =
     kept w (Undeclare pub_kind id) (messages_of (leaving (company_at w.settings w.groups Publishers) interest_end (option_map pub_shared (pub_at id w.entities.pubs)))) before m
     (beside_leaving (company_at w.settings w.groups Publishers) (option_map pub_shared (pub_at id w.entities.pubs))) (λ n. refl) (λ n. refl) are
-group_step w (Pub destination key encoding qos reliable) before shared m read are =
-    let e = Pub destination key encoding qos reliable in
+group_step w (Pub key settings) before shared m read are =
+    let e = Pub key settings in
     kept w e (messages_of (entity_sends (known_at w) e (number_for w e) (text_for w e))) before m
-    (beside_pub (known_at w) destination key encoding qos reliable (number_for w e) (text_for w e)) (λ n. refl) (λ n. refl) are
+    (beside_pub (known_at w) key settings (number_for w e) (text_for w e)) (λ n. refl) (λ n. refl) are
 group_step w (Queryable origin complete key) before shared m read are =
     let e = Queryable origin complete key in
     kept w e (messages_of (entity_sends (known_at w) e (number_for w e) (text_for w e))) before m
     (beside_queryable (known_at w) origin complete key (number_for w e) (text_for w e)) (λ n. refl) (λ n. refl) are
-group_step w (Querier destination key target consolidation timeout qos any_key) before shared m read are =
-    let e = Querier destination key target consolidation timeout qos any_key in
+group_step w (Querier key settings) before shared m read are =
+    let e = Querier key settings in
     kept w e (messages_of (entity_sends (known_at w) e (number_for w e) (text_for w e))) before m
-    (beside_querier (known_at w) key (record { destination = destination; target = target; consolidation = consolidation; timeout = timeout; qos = qos; any_key = any_key }) (number_for w e) (text_for w e))
-    (λ n. refl) (λ n. refl) are
+    (beside_querier (known_at w) key settings (number_for w e) (text_for w e)) (λ n. refl) (λ n. refl) are
 group_step w (Undeclare querier_sort id) before shared m read are =
     kept w (Undeclare querier_sort id) (messages_of (leaving (company_at w.settings w.groups Queriers) querier_end (option_map querier_shared (querier_at id w.entities.queriers)))) before m
     (beside_querier_end (company_at w.settings w.groups Queriers) (option_map querier_shared (querier_at id w.entities.queriers))) (λ n. refl) (λ n. refl) are
@@ -339,10 +340,10 @@ group_step w (Lsub history key) before shared m read are =
     kept w (Lsub history key) ms before m
     (beside_declared (token_interest (lsub_mode history)) (known_at w).keys (number_for w (Lsub history key)) (text_for w (Lsub history key)) key (λ id wire before n. refl))
     (λ n. refl) (λ n. refl) are
-group_step w (LivelinessGet key timeout token) before shared m read are =
-    let ms = messages_of (declared_sends (token_interest Current) (known_at w).keys (number_for w (LivelinessGet key timeout token)) (text_for w (LivelinessGet key timeout token)) key) in
-    kept w (LivelinessGet key timeout token) ms before m
-    (beside_declared (token_interest Current) (known_at w).keys (number_for w (LivelinessGet key timeout token)) (text_for w (LivelinessGet key timeout token)) key (λ id wire before n. refl))
+group_step w (LivelinessGet key timeout token to) before shared m read are =
+    let ms = messages_of (declared_sends (token_interest Current) (known_at w).keys (number_for w (LivelinessGet key timeout token to)) (text_for w (LivelinessGet key timeout token to)) key) in
+    kept w (LivelinessGet key timeout token to) ms before m
+    (beside_declared (token_interest Current) (known_at w).keys (number_for w (LivelinessGet key timeout token to)) (text_for w (LivelinessGet key timeout token to)) key (λ id wire before n. refl))
     (λ n. refl) (λ n. refl) are
 group_step w (Undeclare token_sort id) before shared m read are =
     kept w (Undeclare token_sort id) (UndeclareToken id None None ∷ []) before m (λ before n. refl) (λ n. refl) (λ n. refl) are

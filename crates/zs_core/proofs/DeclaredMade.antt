@@ -6,16 +6,17 @@ use Rattle.zs_sample.specs.declared.locality.Locality.{Locality}
 use Rattle.zs_wire.specs.declared.wire_expr.WireExpr.{WireExpr}
 use Rattle.zs_tables.specs.Numbers.{key_at, number_at}
 use Rattle.zs_events.specs.declared.event.Event.TheVariants.{Key, UndeclareKey, Sub, Pub, Queryable, Net}
-use Rattle.zs_events.specs.declared.event.KeyArg.{KeyArg}
-use Rattle.zs_events.specs.declared.event.KeyArg.TheVariants.{Number, Declared}
+use Rattle.zs_events.specs.declared.chan.Chan.{Chan}
+use Rattle.zs_events.specs.declared.publication.PublisherSettings.{PublisherSettings}
+use Rattle.zs_events.specs.declared.key_arg.KeyArg.{KeyArg}
+use Rattle.zs_events.specs.declared.key_arg.KeyArg.TheVariants.{Number, Declared}
 use Rattle.zs_wire.specs.declared.message.Message.TheVariants.{DeclareKeyExpr}
 use Rattle.zs_wire.specs.declared.quality.QoSType.{QoSType}
 use Rattle.zs_core.specs.declared.change.Change.TheVariants.{OfKeys}
 use Rattle.zs_core.specs.declared.change.KeyChange.TheVariants.{Release}
 use Rattle.zs_core.specs.World.{World}
 use Rattle.zs_events.specs.Kinds.{EntityNumber, KeyNumber, is_all_of, row_of}
-use Rattle.zs_core.specs.declared.querier.QuerierSettings.{QuerierSettings}
-use Rattle.zs_core.specs.Queriers.{querier_event}
+use Rattle.zs_events.specs.declared.inquiry.QuerySettings.{QuerySettings}
 use Rattle.zs_core.specs.Live.{drew, ends}
 use Rattle.zs_core.specs.Settings.{last_key}
 use Rattle.zs_core.specs.Counters.{is_spent}
@@ -85,11 +86,11 @@ declared_back_made w text number prefix_len true is (Some key) e o p = record {
   liveliness = record { asks = refl; ends = λ g. refl; told = refl; tokens = record { row = refl; drew = λ id. refl; ended = λ id. refl }; lsubs = record { row = refl; drew = λ id. refl; ended = λ id. refl } };
 }
 
-pub sub_made : (w : World) (origin : Locality) (key : KeyArg) (text : Option (List ℕ)) → w.closed ≡ false
-    → HasPassed (row_of (Sub origin key)) (record { text = text; lives = true; claimed = true; owed = true; drawn = true; cancelled = false; disjoint = false; lacks = has_run_out w EntityNumber text; idle = false; spared = false })
-    → IsMade w (record { number = Some w.counters.entity; text = text; event = Sub origin key }) (sub_change w.counters.entity origin text)
-sub_made w origin key None o p = cc (p.found)
-sub_made w origin key (Some text) o p = record {
+pub sub_made : (w : World) (origin : Locality) (key : KeyArg) (to : Chan) (text : Option (List ℕ)) → w.closed ≡ false
+    → HasPassed (row_of (Sub origin key to)) (record { text = text; lives = true; claimed = true; owed = true; drawn = true; cancelled = false; disjoint = false; lacks = has_run_out w EntityNumber text; idle = false; spared = false })
+    → IsMade w (record { number = Some w.counters.entity; text = text; event = Sub origin key to }) (sub_change w.counters.entity origin text)
+sub_made w origin key to None o p = cc (p.found)
+sub_made w origin key to (Some text) o p = record {
   unclosed = o;
   fits = (refl, p.left);
   closes = refl;
@@ -99,12 +100,11 @@ sub_made w origin key (Some text) o p = record {
   liveliness = record { asks = refl; ends = λ g. refl; told = refl; tokens = record { row = refl; drew = λ id. refl; ended = λ id. refl }; lsubs = record { row = refl; drew = λ id. refl; ended = λ id. refl } };
 }
 
-pub pub_made : (w : World) (destination : Locality) (key : KeyArg) (encoding : List ℕ) (qos : QoSType) (reliable : Bool) (text : Option (List ℕ)) → w.closed ≡ false
-    → HasPassed (row_of (Pub destination key encoding qos reliable)) (record { text = text; lives = true; claimed = true; owed = true; drawn = true; cancelled = false; disjoint = false; lacks = has_run_out w EntityNumber text; idle = false; spared = false })
-    → IsMade w (record { number = Some w.counters.entity; text = text; event = Pub destination key encoding qos reliable })
-    (pub_change w.counters.entity destination key encoding qos reliable text)
-pub_made w destination key encoding qos reliable None o p = cc (p.found)
-pub_made w destination key encoding qos reliable (Some text) o p = record {
+pub pub_made : (w : World) (key : KeyArg) (settings : PublisherSettings) (text : Option (List ℕ)) → w.closed ≡ false
+    → HasPassed (row_of (Pub key settings)) (record { text = text; lives = true; claimed = true; owed = true; drawn = true; cancelled = false; disjoint = false; lacks = has_run_out w EntityNumber text; idle = false; spared = false })
+    → IsMade w (record { number = Some w.counters.entity; text = text; event = Pub key settings }) (pub_change w.counters.entity key settings text)
+pub_made w key settings None o p = cc (p.found)
+pub_made w key settings (Some text) o p = record {
   unclosed = o;
   fits = (refl, p.left);
   closes = refl;
@@ -147,9 +147,9 @@ tell_made w number wire (Some text) o p = record {
   liveliness = record { asks = refl; ends = λ g. refl; told = refl; tokens = record { row = refl; drew = λ id. refl; ended = λ id. refl }; lsubs = record { row = refl; drew = λ id. refl; ended = λ id. refl } };
 }
 
-pub querier_made : (w : World) (key : KeyArg) (settings : QuerierSettings) (text : Option (List ℕ)) → w.closed ≡ false
-    → HasPassed (row_of (querier_event key settings)) (record { text = text; lives = true; claimed = true; owed = true; drawn = true; cancelled = false; disjoint = false; lacks = has_run_out w EntityNumber text; idle = false; spared = false })
-    → IsMade w (record { number = Some w.counters.entity; text = text; event = querier_event key settings }) (querier_change w.counters.entity key settings text)
+pub querier_made : (w : World) (key : KeyArg) (settings : QuerySettings) (text : Option (List ℕ)) → w.closed ≡ false
+    → HasPassed (row_of (Querier key settings)) (record { text = text; lives = true; claimed = true; owed = true; drawn = true; cancelled = false; disjoint = false; lacks = has_run_out w EntityNumber text; idle = false; spared = false })
+    → IsMade w (record { number = Some w.counters.entity; text = text; event = Querier key settings }) (querier_change w.counters.entity key settings text)
 querier_made w key settings None o p = cc (p.found)
 querier_made w key settings (Some text) o p = record {
   unclosed = o;

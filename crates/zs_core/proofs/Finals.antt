@@ -18,9 +18,9 @@ use Rattle.zs_query.specs.Gets.{get_at, peek_at, final_outcome}
 use Rattle.zs_query.specs.Unfinished.{value_at, values_from, finished}
 use Rattle.zs_events.specs.declared.event.Event.{Event}
 use Rattle.zs_events.specs.declared.event.Event.TheVariants.{Key, UndeclareKey, Sub, Pub, Queryable, Querier, Token, Lsub, LivelinessGet, Undeclare, Close, Net}
-use Rattle.zs_events.specs.declared.event.EntityKind.TheVariants.{Sub as sub_kind, Pub as pub_kind, Queryable as queryable_sort, Querier as querier_sort}
-use Rattle.zs_events.specs.declared.event.KeyArg.{KeyArg}
-use Rattle.zs_events.specs.declared.event.KeyArg.TheVariants.{Text, Number, Declared as declared_text}
+use Rattle.zs_events.specs.declared.entity_kind.EntityKind.TheVariants.{Sub as sub_kind, Pub as pub_kind, Queryable as queryable_sort, Querier as querier_sort}
+use Rattle.zs_events.specs.declared.key_arg.KeyArg.{KeyArg}
+use Rattle.zs_events.specs.declared.key_arg.KeyArg.TheVariants.{Text, Number, Declared as declared_text}
 use Rattle.zs_events.specs.declared.turn.Effect.TheVariants.{Send}
 use Rattle.zs_events.specs.declared.turn.Refusal.{Refusal}
 use Rattle.zs_events.specs.declared.turn.Turn.{Turn}
@@ -132,25 +132,25 @@ none_declared message k (Some id) None key none = refl
 none_declared message k None text key none = refl
 
 none_entity : (w : World) (number : Option ℕ) (text : Option (List ℕ)) (e : Event) → finals_among (messages_of (entity_sends (known_at w) e number text)) ≡ []
-none_entity w (Some id) (Some text) (Sub origin key) = none_if _ _ refl
-none_entity w (Some id) None (Sub origin key) = refl
-none_entity w None text (Sub origin key) = refl
-none_entity w (Some id) (Some text) (Pub destination key encoding qos reliable) = none_if _ _ refl
-none_entity w (Some id) None (Pub destination key encoding qos reliable) = refl
-none_entity w None text (Pub destination key encoding qos reliable) = refl
+none_entity w (Some id) (Some text) (Sub origin key to) = none_if _ _ refl
+none_entity w (Some id) None (Sub origin key to) = refl
+none_entity w None text (Sub origin key to) = refl
+none_entity w (Some id) (Some text) (Pub key settings) = none_if _ _ refl
+none_entity w (Some id) None (Pub key settings) = refl
+none_entity w None text (Pub key settings) = refl
 none_entity w (Some id) (Some text) (Queryable origin complete key) = none_if _ _ refl
 none_entity w (Some id) None (Queryable origin complete key) = refl
 none_entity w None text (Queryable origin complete key) = refl
-none_entity w (Some id) (Some text) (Querier destination key target consolidation timeout qos any_key) = none_if _ _ refl
-none_entity w (Some id) None (Querier destination key target consolidation timeout qos any_key) = refl
-none_entity w None text (Querier destination key target consolidation timeout qos any_key) = refl
+none_entity w (Some id) (Some text) (Querier key settings) = none_if _ _ refl
+none_entity w (Some id) None (Querier key settings) = refl
+none_entity w None text (Querier key settings) = refl
 none_entity w number text (Undeclare querier_sort id) = (none_leaving (company_at w.settings w.groups Queriers) (option_map querier_shared (querier_at id w.entities.queriers))).2
 none_entity w number text (Undeclare sub_kind id) = (none_leaving (company_at w.settings w.groups Subscribers) (option_map sub_shared (sub_at id w.entities.subs))).0
 none_entity w number text (Undeclare pub_kind id) = (none_leaving (company_at w.settings w.groups Publishers) (option_map pub_shared (pub_at id w.entities.pubs))).1
 none_entity w number text (Undeclare queryable_sort id) = none_queryable_end (queryable_at id w.entities.queryables)
 none_entity w number text (Token key) = none_declared token_declaration (own_keys_at w) number text key (λ id wire. refl)
 none_entity w number text (Lsub history key) = none_declared (token_interest (lsub_mode history)) (own_keys_at w) number text key (λ id wire. refl)
-none_entity w number text (LivelinessGet key timeout token) = none_declared (token_interest Current) (own_keys_at w) number text key (λ id wire. refl)
+none_entity w number text (LivelinessGet key timeout token to) = none_declared (token_interest Current) (own_keys_at w) number text key (λ id wire. refl)
 none_entity w number text (Key key) = refl
 none_entity w number text e = refl
 

@@ -77,14 +77,14 @@ waiting_is : (default moment number : ℕ) (text : List ℕ) (q : Question) (her
       since = if here && not (is_some_met (if here then met else [])) then FinalOf number Local ∷ [] else [];
     } in waiting a ≡ row_waiting default moment number text q (if here then met else [])
 waiting_is default moment number text q true (id ∷ met) =
-    let m : (has_network q.destination && true) ≡ has_network q.destination = and_true (has_network q.destination) in
+    let m : (has_network q.settings.destination && true) ≡ has_network q.settings.destination = and_true (has_network q.settings.destination) in
     λ i. record (row_asked default moment number text q) { local_wanted = true; network_wanted = m i }
 waiting_is default moment number text q true [] =
     let l : (true && not (((number == number) && true) || false)) ≡ false = rw (same_number number) refl in
-    let m : (has_network q.destination && not (((number == number) && false) || false)) ≡ has_network q.destination = rw (and_false (number == number)) (and_true (has_network q.destination)) in
+    let m : (has_network q.settings.destination && not (((number == number) && false) || false)) ≡ has_network q.settings.destination = rw (and_false (number == number)) (and_true (has_network q.settings.destination)) in
     λ i. record (row_asked default moment number text q) { local_wanted = l i; network_wanted = m i }
 waiting_is default moment number text q false met =
-    let m : (has_network q.destination && true) ≡ has_network q.destination = and_true (has_network q.destination) in
+    let m : (has_network q.settings.destination && true) ≡ has_network q.settings.destination = and_true (has_network q.settings.destination) in
     λ i. record (row_asked default moment number text q) { local_wanted = false; network_wanted = m i }
 
 -- nothing has ended it, and it has had no reply
@@ -132,7 +132,7 @@ asks default w new now text q rows gs is same table up all = record {
   gets =
       ap (λ (a : Asking). a.gets) is ∙ ap (λ (m : ℕ). opened (row_waiting default m w.next text q (met_by_get rows q text)) w.gets) same
       ∙ ap (opened (row_waiting default now w.next text q (met_by_get rows q text))) table
-      ∙ ap (λ (row : GetRow). opened row (open_gets gs)) (sym (waiting_is default now w.next text q (has_session q.destination) (met true (wants_complete q.target) text rows)))
+      ∙ ap (λ (row : GetRow). opened row (open_gets gs)) (sym (waiting_is default now w.next text q (has_session q.settings.destination) (met true (wants_complete q.settings.target) text rows)))
       ∙ sym (open_more one gs (unended one.row w.next given) (unreplied one.row w.next given));
   moment = ap (λ (a : Asking). a.moment) is ∙ same;
   ascend = ascend_append (λ (g : Asked). g.row.number) w.next gs (one ∷ []) up (tt, tt) all (omega arith, tt);
@@ -146,7 +146,7 @@ asks default w new now text q rows gs is same table up all = record {
     one = record { row = row_asked default now w.next text q; since = own_news w.next q (met_by_get rows q text) }
 
     given : Bool
-    given = has_session q.destination && not (is_some_met (met_by_get rows q text))
+    given = has_session q.settings.destination && not (is_some_met (met_by_get rows q text))
 
 next_step : (s : Settings) (w new : Asking) (past : List Entry) (to : ToGets) (does : ToValues) (number : Option ℕ) (text : Option (List ℕ))
     → new ≡ asking_by s.default_timeout s.zid (live_queryables past) (values_now past) to does text w

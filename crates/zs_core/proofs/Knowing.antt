@@ -15,7 +15,7 @@ use Rattle.zs_events.specs.declared.turn.Effect.TheVariants.{Matching, End}
 use Rattle.zs_events.specs.declared.turn.Kind.TheVariants.{Listener as listener_kind}
 use Rattle.zs_events.specs.declared.turn.Refusal.{Refusal}
 use Rattle.zs_core.specs.declared.change.Change.{Change}
-use Rattle.zs_core.specs.declared.change.Change.TheVariants.{Nothing, OfKeys, OfEntities, OfNetwork, OfGets, OfLiveliness, OfValues, OfTokens, OfMatching, Shut}
+use Rattle.zs_core.specs.declared.change.Change.TheVariants.{Nothing, OfKeys, OfEntities, OfNetwork, OfGets, OfLiveliness, OfValues, OfCancellation, OfMatching, Shut}
 use Rattle.zs_core.specs.declared.change.EntityChange.TheVariants.{AddSub, EndSub, AddPub, EndPub, AddQueryable, EndQueryable, AddQuerier, EndQuerier, LeaveSub, LeaveQueryable}
 use Rattle.zs_core.specs.declared.change.MatchingChange.TheVariants.{AddListener, EndListener, LeaveListener, TellSub, ForgetSub, TellQueryable, ForgetQueryable}
 use Rattle.zs_core.specs.declared.change.Decision.{Decision}
@@ -66,7 +66,7 @@ behind_each w (OfNetwork change) P fits all new = all
 behind_each w (OfGets change) P fits all new = all
 behind_each w (OfLiveliness change) P fits all new = all
 behind_each w (OfValues change) P fits all new = all
-behind_each w (OfTokens change) P fits all new = all
+behind_each w (OfCancellation change) P fits all new = all
 
 -- they keep their order
 ascend_behind : (w : World) (c : Change) → Fits w c → AreNumbered w → Ascend (λ (row : ListenerRow). row.id) (with_change c w).matching.listeners
@@ -87,7 +87,7 @@ ascend_behind w (OfNetwork change) fits n = n.ascend
 ascend_behind w (OfGets change) fits n = n.ascend
 ascend_behind w (OfLiveliness change) fits n = n.ascend
 ascend_behind w (OfValues change) fits n = n.ascend
-ascend_behind w (OfTokens change) fits n = n.ascend
+ascend_behind w (OfCancellation change) fits n = n.ascend
 
 -- and their numbers stay below the next one
 old_below : (w : World) (c : Change) → AreNumbered w → AllByRecursion (λ (row : ListenerRow). row.id < (with_change c w).counters.entity) w.matching.listeners
@@ -118,7 +118,7 @@ below_behind w (OfKeys change) fits n = n.below
 below_behind w (OfNetwork change) fits n = n.below
 below_behind w (OfGets change) fits n = n.below
 below_behind w (OfValues change) fits n = n.below
-below_behind w (OfTokens change) fits n = n.below
+below_behind w (OfCancellation change) fits n = n.below
 
 pub numbered : (s : Settings) (h : List Event) → AreNumbered (world_after s h)
 numbered s h =

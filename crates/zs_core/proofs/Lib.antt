@@ -27,6 +27,7 @@ mod HolderCounts
 mod KeyNumbers
 mod Keys
 mod Live
+mod Numbered
 mod Numbers
 mod Placing
 mod Publications

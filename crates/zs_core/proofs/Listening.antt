@@ -5,8 +5,8 @@ use Rattle.std.specs.Prelude.{◌==◌, ◌&&◌, ◌||◌, is_some, if◌then�
 use Rattle.zs_tables.specs.declared.listener.ListenerRow.{ListenerRow}
 use Rattle.zs_tables.specs.Matching.{status}
 use Rattle.zs_tables.proofs.ByKey.{found_any}
-use Rattle.zs_events.specs.declared.event.ParentKind.{ParentKind}
-use Rattle.zs_events.specs.declared.event.ParentKind.TheVariants.{Pub, Querier}
+use Rattle.zs_events.specs.declared.entity_kind.ParentKind.{ParentKind}
+use Rattle.zs_events.specs.declared.entity_kind.ParentKind.TheVariants.{Pub, Querier}
 use Rattle.zs_events.specs.declared.event.Event.TheVariants.{Listen, Status}
 use Rattle.zs_events.specs.declared.turn.Refusal.TheVariants.{NotFound, IdsExhausted}
 use Rattle.zs_events.specs.Kinds.{parent_kind_of}

@@ -237,10 +237,10 @@ record IsOther (kind : Kind) : Type 0 where
   lsub : is_lsub kind ≡ false
 
 other_drew : (kind : Kind) (id : ℕ) → IsOther kind → (e : Event) (number : Option ℕ) → drew kind id e number ≡ false
-other_drew kind id o (Sub origin key) (Some number) = rw o.sub refl
-other_drew kind id o (Pub destination key encoding qos reliable) (Some number) = rw o.publisher refl
+other_drew kind id o (Sub origin key to) (Some number) = rw o.sub refl
+other_drew kind id o (Pub key settings) (Some number) = rw o.publisher refl
 other_drew kind id o (queryable_event origin complete key) (Some number) = rw o.queryable refl
-other_drew kind id o (querier_event destination key target consolidation timeout qos any_key) (Some number) = rw o.querier refl
+other_drew kind id o (querier_event key settings) (Some number) = rw o.querier refl
 other_drew kind id o (token_event key) (Some number) = rw o.token refl
 other_drew kind id o (lsub_event history key) (Some number) = rw o.lsub refl
 other_drew kind id o (Key key) number = refl

@@ -20,17 +20,21 @@ use Rattle.zs_tables.specs.Numbers.{number_at}
 use Rattle.zs_tables.specs.declared.listener.ListenerRow.{ListenerRow}
 use Rattle.zs_tables.specs.declared.liveliness_get.LivelinessGet.{LivelinessGet as a_liveliness_get}
 use Rattle.zs_events.specs.declared.event.Event.{Event}
-use Rattle.zs_events.specs.declared.event.Event.TheVariants.{Key, UndeclareKey, Sub, Pub, Queryable, Querier, Listen, Undeclare, Background, Close, Net, Get, QuerierGet, Reply as reply_event, ReplyDelete, Lsub, LivelinessGet}
-use Rattle.zs_events.specs.declared.event.EntityKind.TheVariants.{Sub as sub_sort, Pub as pub_sort, Querier as querier_sort, Listener as listener_sort}
-use Rattle.zs_events.specs.declared.event.BackgroundKind.TheVariants.{Listener as background_listener}
-use Rattle.zs_events.specs.declared.event.KeyArg.{KeyArg}
-use Rattle.zs_events.specs.declared.event.KeyArg.TheVariants.{Number, Declared}
-use Rattle.zs_events.specs.declared.event.ParentKind.{ParentKind}
-use Rattle.zs_events.specs.declared.event.ParentKind.TheVariants.{Pub as pub_parent, Querier as querier_parent}
-use Rattle.zs_events.specs.Kinds.{ToMatching, NoMatch, Question, QuerierQuestion, ReplyQuality, parent_kind_of, put_body, delete_body, response_key, row_of}
+use Rattle.zs_events.specs.declared.event.Event.TheVariants.{Key, UndeclareKey, Sub, Pub, Queryable, Querier, Listen, Undeclare, Background, Close, Net, Get, QuerierGet, Reply as reply_event, Lsub, LivelinessGet}
+use Rattle.zs_events.specs.declared.entity_kind.EntityKind.TheVariants.{Sub as sub_sort, Pub as pub_sort, Querier as querier_sort, Listener as listener_sort}
+use Rattle.zs_events.specs.declared.entity_kind.BackgroundKind.TheVariants.{Listener as background_listener}
+use Rattle.zs_events.specs.declared.key_arg.KeyArg.{KeyArg}
+use Rattle.zs_events.specs.declared.key_arg.KeyArg.TheVariants.{Number, Declared}
+use Rattle.zs_events.specs.declared.entity_kind.ParentKind.{ParentKind}
+use Rattle.zs_events.specs.declared.entity_kind.ParentKind.TheVariants.{Pub as pub_parent, Querier as querier_parent}
+use Rattle.zs_events.specs.Kinds.{ToMatching, NoMatch, Question, parent_kind_of, response_key, row_of}
+use Rattle.zs_events.specs.declared.inquiry.Inquiry.{Inquiry}
+use Rattle.zs_events.specs.declared.publication.PublisherSettings.{PublisherSettings}
+use Rattle.zs_events.specs.declared.publication.ReplyQuality.{ReplyQuality}
+use Rattle.zs_events.specs.Updates.{body_of}
 use Rattle.zs_core.specs.declared.publisher.PubRow.{PubRow}
 use Rattle.zs_core.specs.declared.querier.QuerierRow.{QuerierRow}
-use Rattle.zs_core.specs.declared.querier.QuerierSettings.{QuerierSettings}
+use Rattle.zs_events.specs.declared.inquiry.QuerySettings.{QuerySettings}
 use Rattle.zs_core.specs.declared.change.Change.{Change}
 use Rattle.zs_core.specs.declared.change.Change.TheVariants.{Nothing, OfLiveliness}
 use Rattle.zs_core.specs.declared.change.LivelinessChange.TheVariants.{RecordToken}
@@ -89,16 +93,15 @@ sub_still : (w : World) (id : ℕ) (origin : Locality) (text : Option (List ℕ)
 sub_still w id origin None = refl
 sub_still w id origin (Some text) = refl
 
-pub_still : (w : World) (id : ℕ) (destination : Locality) (key : KeyArg) (encoding : List ℕ) (qos : QoSType) (reliable : Bool) (text : Option (List ℕ))
-    → (with_change (pub_change id destination key encoding qos reliable text) w).matching ≡ w.matching
-pub_still w id destination key encoding qos reliable None = refl
-pub_still w id destination key encoding qos reliable (Some text) = refl
+pub_still : (w : World) (id : ℕ) (key : KeyArg) (settings : PublisherSettings) (text : Option (List ℕ)) → (with_change (pub_change id key settings text) w).matching ≡ w.matching
+pub_still w id key settings None = refl
+pub_still w id key settings (Some text) = refl
 
 queryable_still : (w : World) (id : ℕ) (origin : Locality) (complete : Bool) (text : Option (List ℕ)) → (with_change (queryable_change id origin complete text) w).matching ≡ w.matching
 queryable_still w id origin complete None = refl
 queryable_still w id origin complete (Some text) = refl
 
-querier_still : (w : World) (id : ℕ) (key : KeyArg) (settings : QuerierSettings) (text : Option (List ℕ)) → (with_change (querier_change id key settings text) w).matching ≡ w.matching
+querier_still : (w : World) (id : ℕ) (key : KeyArg) (settings : QuerySettings) (text : Option (List ℕ)) → (with_change (querier_change id key settings text) w).matching ≡ w.matching
 querier_still w id key settings None = refl
 querier_still w id key settings (Some text) = refl
 
@@ -118,7 +121,7 @@ get_still : (w : World) (q : Question) (text : Option (List ℕ)) → (with_chan
 get_still w q None = refl
 get_still w q (Some text) = ask_still w _ _ _
 
-querier_get_still : (w : World) (q : QuerierQuestion) (found : Option QuerierRow) → (with_change (querier_get_change w q found) w).matching ≡ w.matching
+querier_get_still : (w : World) (q : Inquiry) (found : Option QuerierRow) → (with_change (querier_get_change w q found) w).matching ≡ w.matching
 querier_get_still w q None = refl
 querier_get_still w q (Some row) = get_still w (question_of row q) (Some row.key.text)
 
@@ -243,52 +246,33 @@ matching_made w (UndeclareKey (Number number suffix)) o c =
 matching_made w (UndeclareKey (Declared text number prefix_len)) o c =
     quiet w (entry_for w (UndeclareKey (Declared text number prefix_len))) (change_for w (UndeclareKey (Declared text number prefix_len))) refl (λ row. refl) refl refl
 matching_made w (UndeclareKey key) o c = quiet w (entry_for w (UndeclareKey key)) (change_for w (UndeclareKey key)) refl (λ row. refl) refl refl
-matching_made w (Sub origin key) o c =
-    quiet w (entry_for w (Sub origin key)) (change_for w (Sub origin key)) (sub_still w w.counters.entity origin (key_of w key)) (λ row. refl) refl refl
-matching_made w (Pub destination key encoding qos reliable) o c =
-    quiet w (entry_for w (Pub destination key encoding qos reliable)) (change_for w (Pub destination key encoding qos reliable))
-    (pub_still w w.counters.entity destination key encoding qos reliable (key_of w key)) (λ row. refl) refl refl
+matching_made w (Sub origin key to) o c =
+    quiet w (entry_for w (Sub origin key to)) (change_for w (Sub origin key to)) (sub_still w w.counters.entity origin (key_of w key)) (λ row. refl) refl refl
+matching_made w (Pub key settings) o c =
+    quiet w (entry_for w (Pub key settings)) (change_for w (Pub key settings))
+    (pub_still w w.counters.entity key settings (key_of w key)) (λ row. refl) refl refl
 matching_made w (Queryable origin complete key) o c =
     quiet w (entry_for w (Queryable origin complete key)) (change_for w (Queryable origin complete key)) (queryable_still w w.counters.entity origin complete (key_of w key)) (λ row. refl) refl refl
-matching_made w (Querier destination key target consolidation timeout qos any_key) o c =
-    quiet w (entry_for w (Querier destination key target consolidation timeout qos any_key)) (change_for w (Querier destination key target consolidation timeout qos any_key))
-    (querier_still w w.counters.entity key
-    (record { destination = destination; target = target; consolidation = consolidation; timeout = timeout; qos = qos; any_key = any_key }) (key_of w key)) (λ row. refl) refl refl
+matching_made w (Querier key settings) o c =
+    quiet w (entry_for w (Querier key settings)) (change_for w (Querier key settings))
+    (querier_still w w.counters.entity key settings (key_of w key)) (λ row. refl) refl refl
 matching_made w (Lsub history key) o c =
     quiet w (entry_for w (Lsub history key)) (change_for w (Lsub history key)) (lsub_still w w.counters.entity history (key_of w key)) (λ row. refl) refl refl
-matching_made w (LivelinessGet key timeout token) o c =
-    quiet w (entry_for w (LivelinessGet key timeout token)) (change_for w (LivelinessGet key timeout token))
+matching_made w (LivelinessGet key timeout token to) o c =
+    quiet w (entry_for w (LivelinessGet key timeout token to)) (change_for w (LivelinessGet key timeout token to))
     (asking_still w w.settings.default_timeout w.asking.moment w.counters.entity timeout token (key_of w key)) (λ row. refl) refl refl
-matching_made w (Get destination key parameters target consolidation timeout value qos source attachment any_key token) o c =
-    quiet w (entry_for w (Get destination key parameters target consolidation timeout value qos source attachment any_key token))
-    (change_for w (Get destination key parameters target consolidation timeout value qos source attachment any_key token))
+matching_made w (Get key settings inquiry to) o c =
+    quiet w (entry_for w (Get key settings inquiry to))
+    (change_for w (Get key settings inquiry to))
     (get_still w
-    (record {
-      destination = destination;
-      parameters = parameters;
-      target = target;
-      consolidation = consolidation;
-      timeout = timeout;
-      value = value;
-      qos = qos;
-      source = source;
-      attachment = attachment;
-      any_key = any_key;
-      querier = None;
-      token = token;
-    })
+    (record { settings = settings; inquiry = inquiry; querier = None })
     (key_of w key)) (λ row. refl) refl refl
-matching_made w (QuerierGet id parameters value source attachment token) o c =
-    quiet w (entry_for w (QuerierGet id parameters value source attachment token)) (change_for w (QuerierGet id parameters value source attachment token))
-    (querier_get_still w (record { parameters = parameters; value = value; source = source; attachment = attachment; token = token }) (querier_at id w.entities.queriers)) (λ row. refl) refl refl
-matching_made w (reply_event value key payload encoding timestamp priority congestion express source attachment) o c =
-    quiet w (entry_for w (reply_event value key payload encoding timestamp priority congestion express source attachment))
-    (change_for w (reply_event value key payload encoding timestamp priority congestion express source attachment))
-    (answer_still w w.settings.zid (record { priority = priority; congestion = congestion; express = express })
-    (put_body payload encoding timestamp source attachment) (value_at value w.handing.values) (key_of w key)) (λ row. refl) refl refl
-matching_made w (ReplyDelete value key timestamp priority congestion express source attachment) o c =
-    quiet w (entry_for w (ReplyDelete value key timestamp priority congestion express source attachment))
-    (change_for w (ReplyDelete value key timestamp priority congestion express source attachment))
-    (answer_still w w.settings.zid (record { priority = priority; congestion = congestion; express = express })
-    (delete_body timestamp source attachment) (value_at value w.handing.values) (key_of w key)) (λ row. refl) refl refl
+matching_made w (QuerierGet id inquiry to) o c =
+    quiet w (entry_for w (QuerierGet id inquiry to)) (change_for w (QuerierGet id inquiry to))
+    (querier_get_still w inquiry (querier_at id w.entities.queriers)) (λ row. refl) refl refl
+matching_made w (reply_event value key update quality) o c =
+    quiet w (entry_for w (reply_event value key update quality))
+    (change_for w (reply_event value key update quality))
+    (answer_still w w.settings.zid quality
+    (body_of [] update) (value_at value w.handing.values) (key_of w key)) (λ row. refl) refl refl
 matching_made w e o c = quiet w (entry_for w e) (change_for w e) refl (λ row. refl) refl refl

@@ -10,13 +10,14 @@ use Rattle.zs_tables.specs.declared.subscriber.SubRow.{SubRow}
 use Rattle.zs_tables.specs.declared.queryable.QueryableRow.{QueryableRow}
 use Rattle.zs_core.specs.Queryables.{queryable_ends}
 use Rattle.zs_events.specs.declared.event.Event.{Event}
-use Rattle.zs_events.specs.declared.event.Event.TheVariants.{Undeclare, Close, Net, Get, QuerierGet, Cancel, Tick, Reply as reply_event, ReplyDelete, ReplyErr, Finish}
-use Rattle.zs_events.specs.declared.event.EntityKind.TheVariants.{Sub as sub_kind, Pub as pub_kind, Queryable as queryable_sort, Querier as querier_sort, Token as token_sort, Lsub as lsub_sort}
+use Rattle.zs_events.specs.declared.event.Event.TheVariants.{Undeclare, Close, Net, Get, QuerierGet, Cancel, Tick, Reply as reply_event, ReplyErr, Finish}
+use Rattle.zs_events.specs.declared.entity_kind.EntityKind.TheVariants.{Sub as sub_kind, Pub as pub_kind, Queryable as queryable_sort, Querier as querier_sort, Token as token_sort, Lsub as lsub_sort}
 use Rattle.zs_events.specs.declared.turn.Effect.{Effect}
 use Rattle.zs_events.specs.declared.turn.Effect.TheVariants.{Send, Hand, Matching}
 use Rattle.zs_events.specs.declared.turn.HandOver.TheVariants.{Sample as sample_for}
 use Rattle.zs_events.specs.declared.turn.Kind.TheVariants.{Subscriber}
-use Rattle.zs_events.specs.Kinds.{NamedKey, Publishes, NoContent, OwnContent, ByPublisher, Question, QuerierQuestion, ToValues, NoValue, Requested, AnswersBy, AnswersError, SharesValue, GivesBack, row_of, ToLiveliness, NoToken, Subscribes, AsksTokens, TellsToken, EndsToken, EndsAnswers}
+use Rattle.zs_events.specs.Kinds.{NamedKey, Publishes, NoContent, OwnContent, ByPublisher, Question, ToValues, NoValue, Requested, AnswersBy, AnswersError, SharesValue, GivesBack, row_of, ToLiveliness, NoToken, Subscribes, AsksTokens, TellsToken, EndsToken, EndsAnswers}
+use Rattle.zs_events.specs.declared.inquiry.Inquiry.{Inquiry}
 use Rattle.zs_wire.specs.declared.sample_kind.SampleKind.{SampleKind}
 use Rattle.zs_wire.specs.declared.sample_kind.SampleKind.TheVariants.{Put as put_kind, Delete as delete_kind}
 use Rattle.zs_tables.specs.Liveliness.{met_keys, hearers}
@@ -74,23 +75,6 @@ use Rattle.zs_tables.specs.MatchingLaws.{differ}
 use Rattle.zs_core.specs.Listeners.{is_listener, listener_ends}
 use Rattle.zs_core.specs.Matching.{turned}
 use Rattle.zs_core.proofs.Stands.{AreStanding, same_turn}
-
--- the question of a get with these fields
-abbrev pub question_in : Locality → List ℕ → QueryTarget → ConsolidationMode → Option ℕ → Option Value → QoSType → Option SourceInfo → Option (List (List ℕ)) → Bool → Option ℕ → Question
-question_in destination parameters target consolidation timeout value qos source attachment any_key token = record {
-  destination = destination;
-  parameters = parameters;
-  target = target;
-  consolidation = consolidation;
-  timeout = timeout;
-  value = value;
-  qos = qos;
-  source = source;
-  attachment = attachment;
-  any_key = any_key;
-  querier = None;
-  token = token;
-}
 
 -- the messages are those that are sent: what is handed out and what ends are none
 pub messages_append : (xs ys : List Effect) → messages_of (xs ++ ys) ≡ messages_of xs ++ messages_of ys
@@ -336,24 +320,19 @@ abbrev pub told_by_event : Known → Option ℕ → Option (List ℕ) → Event 
 told_by_event known number text e = asked_by known number text e ++ (answered_by known number text e ++ told_beside known number text e)
 
 pub all_sends : (known : Known) (number : Option ℕ) (text : Option (List ℕ)) (e : Event) → messages_of (effects_on known number text e) ≡ told_by_event known number text e
-all_sends known number text (Get destination key parameters target consolidation timeout value qos source attachment any_key token) =
-    sym (append-nil _)
-all_sends known number text (reply_event value key payload encoding timestamp priority congestion express source attachment) = sym (append-nil _)
-all_sends known number text (ReplyDelete value key timestamp priority congestion express source attachment) = sym (append-nil _)
-all_sends known number text (ReplyErr value payload encoding) = sym (append-nil _)
+all_sends known number text (Get key settings inquiry to) = sym (append-nil _)
+all_sends known number text (reply_event value key update quality) = sym (append-nil _)
+all_sends known number text (ReplyErr value error) = sym (append-nil _)
 all_sends known number text (Finish value) = sym (append-nil _)
 all_sends known number text (Net (request_message request)) = sym (append-nil _)
-all_sends known number text (QuerierGet id parameters value source attachment token) = go (querier_at id known.queriers)
+all_sends known number text (QuerierGet id inquiry to) = go (querier_at id known.queriers)
   where
     e : Event
-    e = QuerierGet id parameters value source attachment token
-
-    q : QuerierQuestion
-    q = record { parameters = parameters; value = value; source = source; attachment = attachment; token = token }
+    e = QuerierGet id inquiry to
 
     go : (o : Option QuerierRow)
-        → messages_of (with_gets (asks_of q o) [] (request_effects known.timeout known.keys (row_of e).key (drawn_by known.queryables known.handing (asks_of q o) NoValue number text) number text (asks_of q o)) (told_effects known.gets known.watch.gets text (asks_of q o)))
-        ≡ messages_of (request_effects known.timeout known.keys (row_of e).key (drawn_by known.queryables known.handing (asks_of q o) NoValue number text) number text (asks_of q o)) ++ []
+        → messages_of (with_gets (asks_of inquiry o) [] (request_effects known.timeout known.keys (row_of e).key (drawn_by known.queryables known.handing (asks_of inquiry o) NoValue number text) number text (asks_of inquiry o)) (told_effects known.gets known.watch.gets text (asks_of inquiry o)))
+        ≡ messages_of (request_effects known.timeout known.keys (row_of e).key (drawn_by known.queryables known.handing (asks_of inquiry o) NoValue number text) number text (asks_of inquiry o)) ++ []
     go None = refl
     go (Some row) = sym (append-nil _)
 all_sends known number text (Undeclare querier_sort id) =

@@ -11,10 +11,10 @@ use Rattle.zs_wire.specs.declared.wire_expr.WireExpr.{WireExpr}
 use Rattle.zs_tables.specs.declared.queryable.QueryableRow.{QueryableRow}
 use Rattle.zs_core.specs.Queryables.{queryable_at}
 use Rattle.zs_events.specs.declared.event.Event.{Event}
-use Rattle.zs_events.specs.declared.event.Event.TheVariants.{Key, UndeclareKey, Sub, Pub, Queryable, Querier, Undeclare, Close, Net, Get, QuerierGet, Reply as reply_event, ReplyDelete, ReplyErr, Finish, Token, Lsub, LivelinessGet}
-use Rattle.zs_events.specs.declared.event.EntityKind.TheVariants.{Sub as sub_kind, Pub as pub_kind, Queryable as queryable_sort, Querier as querier_sort, Token as token_sort, Lsub as lsub_sort}
-use Rattle.zs_events.specs.declared.event.KeyArg.{KeyArg}
-use Rattle.zs_events.specs.declared.event.KeyArg.TheVariants.{Text, Number, Declared as declared_text}
+use Rattle.zs_events.specs.declared.event.Event.TheVariants.{Key, UndeclareKey, Sub, Pub, Queryable, Querier, Undeclare, Close, Net, Get, QuerierGet, Reply as reply_event, ReplyErr, Finish, Token, Lsub, LivelinessGet}
+use Rattle.zs_events.specs.declared.entity_kind.EntityKind.TheVariants.{Sub as sub_kind, Pub as pub_kind, Queryable as queryable_sort, Querier as querier_sort, Token as token_sort, Lsub as lsub_sort}
+use Rattle.zs_events.specs.declared.key_arg.KeyArg.{KeyArg}
+use Rattle.zs_events.specs.declared.key_arg.KeyArg.TheVariants.{Text, Number, Declared as declared_text}
 use Rattle.zs_events.specs.declared.turn.Effect.TheVariants.{Send}
 use Rattle.zs_events.specs.declared.turn.Turn.{Turn}
 use Rattle.zs_events.specs.Kinds.{NamedKey, OwnKey, QuerierKey, Publishes, NoContent, OwnContent, ByPublisher, Question, ToGets, NoGet, Asks, AsksBy, Answers, EndsSide, Reaches, EndsQuerier, Cancels, EndsAll, ToValues, row_of}
@@ -38,7 +38,7 @@ use Rattle.zs_core.specs.Stands.{world_after}
 use Rattle.zs_core.specs.Received.{messages_of}
 use Rattle.zs_core.proofs.Decisions.{cases}
 use Rattle.zs_core.proofs.Stands.{standing}
-use Rattle.zs_core.proofs.Messages.{question_in, same_messages, told_beside, value_cases, answered_by, told_by_event, all_messages}
+use Rattle.zs_core.proofs.Messages.{same_messages, told_beside, value_cases, answered_by, told_by_event, all_messages}
 use Rattle.zs_core.proofs.Reading.{request_cases}
 
 -- no event sends more than one message
@@ -102,25 +102,25 @@ one_declared message k None text key = omega arith
 
 -- an event that sends of a group sends nothing else
 pub one_beside : (w : World) (number : Option ℕ) (text : Option (List ℕ)) (e : Event) → length (told_beside (known_at w) number text e) ≤ 1
-one_beside w (Some id) (Some text) (Sub origin key) = one_first (joins_first (company_at w.settings w.groups Subscribers) (record { id = id; told = has_network origin; text = text })) _
-one_beside w (Some id) None (Sub origin key) = omega arith
-one_beside w None text (Sub origin key) = omega arith
-one_beside w (Some id) (Some text) (Pub destination key encoding qos reliable) =
-    one_first (joins_first (company_at w.settings w.groups Publishers) (record { id = id; told = has_network destination; text = text })) _
-one_beside w (Some id) None (Pub destination key encoding qos reliable) = omega arith
-one_beside w None text (Pub destination key encoding qos reliable) = omega arith
+one_beside w (Some id) (Some text) (Sub origin key to) = one_first (joins_first (company_at w.settings w.groups Subscribers) (record { id = id; told = has_network origin; text = text })) _
+one_beside w (Some id) None (Sub origin key to) = omega arith
+one_beside w None text (Sub origin key to) = omega arith
+one_beside w (Some id) (Some text) (Pub key settings) =
+    one_first (joins_first (company_at w.settings w.groups Publishers) (record { id = id; told = has_network settings.destination; text = text })) _
+one_beside w (Some id) None (Pub key settings) = omega arith
+one_beside w None text (Pub key settings) = omega arith
 one_beside w (Some id) (Some text) (Queryable origin complete key) = one_first (has_network origin) _
 one_beside w (Some id) None (Queryable origin complete key) = omega arith
 one_beside w None text (Queryable origin complete key) = omega arith
-one_beside w (Some id) (Some text) (Querier destination key target consolidation timeout qos any_key) =
-    one_first (joins_first (company_at w.settings w.groups Queriers) (record { id = id; told = has_network destination; text = text })) _
-one_beside w (Some id) None (Querier destination key target consolidation timeout qos any_key) = omega arith
-one_beside w None text (Querier destination key target consolidation timeout qos any_key) = omega arith
+one_beside w (Some id) (Some text) (Querier key settings) =
+    one_first (joins_first (company_at w.settings w.groups Queriers) (record { id = id; told = has_network settings.destination; text = text })) _
+one_beside w (Some id) None (Querier key settings) = omega arith
+one_beside w None text (Querier key settings) = omega arith
 one_beside w number text (Undeclare querier_sort id) = (one_leaving (company_at w.settings w.groups Queriers) (option_map querier_shared (querier_at id w.entities.queriers))).2
 one_beside w number text (Token key) = one_declared token_declaration (own_keys_at w) number text key
 one_beside w number text (Undeclare token_sort id) = omega arith
 one_beside w number text (Lsub history key) = one_declared (token_interest (lsub_mode history)) (own_keys_at w) number text key
-one_beside w number text (LivelinessGet key timeout token) = one_declared (token_interest Current) (own_keys_at w) number text key
+one_beside w number text (LivelinessGet key timeout token to) = one_declared (token_interest Current) (own_keys_at w) number text key
 one_beside w number text (Undeclare lsub_sort id) = omega arith
 one_beside w number text (Undeclare queryable_sort id) = one_queryable_end (queryable_at id w.entities.queryables)
 one_beside w number text (Undeclare sub_kind id) = (one_leaving (company_at w.settings w.groups Subscribers) (option_map sub_shared (sub_at id w.entities.subs))).0
@@ -159,17 +159,15 @@ alone_answered w number text e =
 
 -- and one that sends a request sends nothing else
 pub one_event : (w : World) (number : Option ℕ) (text : Option (List ℕ)) (e : Event) → length (told_by_event (known_at w) number text e) ≤ 1
-one_event w number text (Get destination key parameters target consolidation timeout value qos source attachment any_key token) =
-    let q = question_in destination parameters target consolidation timeout value qos source attachment any_key token in
+one_event w number text (Get key settings inquiry to) =
+    let q : Question = record { settings = settings; inquiry = inquiry; querier = None } in
     subst (λ (ms : List Message). length ms ≤ 1) (sym (append-nil _)) (one_request w.settings.default_timeout (own_keys_at w) (OwnKey key) _ number text q)
-one_event w number text (QuerierGet id parameters value source attachment token) =
+one_event w number text (QuerierGet id inquiry to) =
     subst (λ (ms : List Message). length ms ≤ 1) (sym (append-nil _))
-    (one_asked w.settings.default_timeout (own_keys_at w) (QuerierKey id) _ number text (to_gets_for (known_at w) (QuerierGet id parameters value source attachment token)))
-one_event w number text (reply_event value key payload encoding timestamp priority congestion express source attachment) =
-    alone_answered w number text (reply_event value key payload encoding timestamp priority congestion express source attachment)
-one_event w number text (ReplyDelete value key timestamp priority congestion express source attachment) =
-    alone_answered w number text (ReplyDelete value key timestamp priority congestion express source attachment)
-one_event w number text (ReplyErr value payload encoding) = alone_answered w number text (ReplyErr value payload encoding)
+    (one_asked w.settings.default_timeout (own_keys_at w) (QuerierKey id) _ number text (to_gets_for (known_at w) (QuerierGet id inquiry to)))
+one_event w number text (reply_event value key update quality) =
+    alone_answered w number text (reply_event value key update quality)
+one_event w number text (ReplyErr value error) = alone_answered w number text (ReplyErr value error)
 one_event w number text (Finish value) = alone_answered w number text (Finish value)
 one_event w number text (Net (request_message request)) = alone_answered w number text (Net (request_message request))
 one_event w number text (Undeclare sub_kind id) = one_beside w number text (Undeclare sub_kind id)

@@ -3,7 +3,8 @@ use Rattle.std.proofs.Common.{◌≡◌, ℕ, List, [], ◌∷◌, Bool, true, f
 use Rattle.std.specs.Prelude.{◌==◌, ◌&&◌, ◌||◌, not, option_map, if◌then◌else◌}
 use Rattle.zs_keys.specs.Text.{is_canonical}
 use Rattle.zs_events.specs.declared.turn.Refusal.TheVariants.{NotFound, BadKeyExpr}
-use Rattle.zs_events.specs.Kinds.{PublisherContent, Publishes, OwnContent, Application, PublisherKey, said_by, publisher_named}
+use Rattle.zs_events.specs.Kinds.{Publishes, OwnContent, Application, PublisherKey, said_by, publisher_named}
+use Rattle.zs_events.specs.declared.update.Update.{Update}
 use Rattle.zs_core.specs.declared.change.Decision.{Decision}
 use Rattle.zs_core.specs.declared.publisher.PubRow.{PubRow}
 use Rattle.zs_core.specs.declared.change.Change.TheVariants.{Nothing}
@@ -29,11 +30,11 @@ missing_there id (r ∷ rows) found = go (r.id == id) found (missing_there id ro
     go true found ih = cc
     go false found ih = ih found
 
-pub unpublished : (w : World) (id : ℕ) (c : PublisherContent) → pub_at id w.entities.pubs ≡ None → published_decision w id c ≡ decision_of (Some NotFound) None [] Nothing
+pub unpublished : (w : World) (id : ℕ) (c : Update) → pub_at id w.entities.pubs ≡ None → published_decision w id c ≡ decision_of (Some NotFound) None [] Nothing
 unpublished w id c found = rw (found, missing_there id w.entities.pubs found) refl
 
 -- the decision by what is found
-abbrev decided : World → ℕ → PublisherContent → Option PubRow → Bool → Decision
+abbrev decided : World → ℕ → Update → Option PubRow → Bool → Decision
 decided w id c o there =
     decision_of
     (first_cause (record (said_by Application) { key = PublisherKey id; names = publisher_named id })
@@ -46,7 +47,7 @@ canonical_decided : (w : World) (id : ℕ) (text : List ℕ) (p : Publishes) (b 
 canonical_decided w id text p true is = refl
 canonical_decided w id text p false is = cc
 
-pub published : (w : World) (id : ℕ) (c : PublisherContent) (row : PubRow) → pub_at id w.entities.pubs ≡ Some row → is_canonical row.key.text ≡ true
+pub published : (w : World) (id : ℕ) (c : Update) (row : PubRow) → pub_at id w.entities.pubs ≡ Some row → is_canonical row.key.text ≡ true
     → published_decision w id c ≡ decision_of None None (published_effects w id (Some row.key.text) (OwnContent (published_by row c))) Nothing
 published w id c row found canonical =
     let there : is_pub id w.entities.pubs ≡ true = found_there id w.entities.pubs row found in

@@ -25,9 +25,9 @@ use Rattle.zs_tables.specs.declared.queryable.QueryableRow.{QueryableRow}
 use Rattle.zs_core.specs.Queryables.{queryable_at}
 use Rattle.zs_events.specs.declared.event.Event.{Event}
 use Rattle.zs_events.specs.declared.event.Event.TheVariants.{Key, UndeclareKey, Sub, Pub, Queryable, Querier, Undeclare, Close, Net, ReplyErr, Token, Lsub, LivelinessGet}
-use Rattle.zs_events.specs.declared.event.EntityKind.TheVariants.{Sub as sub_kind, Pub as pub_kind, Queryable as queryable_sort, Querier as querier_sort, Token as token_sort, Lsub as lsub_sort}
-use Rattle.zs_events.specs.declared.event.KeyArg.{KeyArg}
-use Rattle.zs_events.specs.declared.event.KeyArg.TheVariants.{Text, Number, Declared as declared_text}
+use Rattle.zs_events.specs.declared.entity_kind.EntityKind.TheVariants.{Sub as sub_kind, Pub as pub_kind, Queryable as queryable_sort, Querier as querier_sort, Token as token_sort, Lsub as lsub_sort}
+use Rattle.zs_events.specs.declared.key_arg.KeyArg.{KeyArg}
+use Rattle.zs_events.specs.declared.key_arg.KeyArg.TheVariants.{Text, Number, Declared as declared_text}
 use Rattle.zs_events.specs.declared.turn.Effect.TheVariants.{Send}
 use Rattle.zs_events.specs.Kinds.{NamedKey, Publishes, NoContent, OwnContent, ByPublisher, Question, ToGets, NoGet, Asks, AsksBy, Answers, EndsSide, Reaches, EndsQuerier, Cancels, EndsAll, ToValues, NoValue, Requested, AnswersBy, AnswersError, SharesValue, GivesBack, message_row, row_of}
 use Rattle.zs_wire.specs.declared.body.Value.{Value}
@@ -148,12 +148,12 @@ push_read w key (Some text) (OwnContent c) before told utf8 = go (is_sent c)
 -- what a get sends: its request, or nothing
 pub request_cases : (P : List Message → Type 0) → P [] → (default : ℕ) (wire : WireExpr) (number : ℕ) (q : Question) (values : List QueryValue)
     → P (request_message (request_of default wire number q) ∷ []) → P (messages_of (ask_effects default wire number q values))
-request_cases P none default wire number q [] request = go (has_network q.destination)
+request_cases P none default wire number q [] request = go (has_network q.settings.destination)
   where
     go : (b : Bool) → P (messages_of (if b then Send (request_message (request_of default wire number q)) ∷ [] else end_get number ∷ []))
     go true = request
     go false = none
-request_cases P none default wire number q (v ∷ values) request = subst P (sym all) (go (has_network q.destination))
+request_cases P none default wire number q (v ∷ values) request = subst P (sym all) (go (has_network q.settings.destination))
   where
     all : messages_of (request_sends default wire number q ++ map hand_query (v ∷ values)) ≡ messages_of (request_sends default wire number q)
     all =
@@ -232,24 +232,24 @@ declared_read w message None text key before told utf8 means = tt
 
 pub groups_read : (w : World) (number : Option ℕ) (text : Option (List ℕ)) (e : Event) (before : List Message) → IsTold w before → AreSpelled w.settings → IfSome text IsUtf8
     → AreReadAs w.settings text (sent_behind (messages_of (sends_of (own_keys_at w) w.entities.pubs number text e)) before) (messages_of (entity_sends (known_at w) e number text))
-groups_read w (Some id) (Some text) (Sub origin key) before told spelled utf8 =
+groups_read w (Some id) (Some text) (Sub origin key to) before told spelled utf8 =
     go (joins_first (company_at w.settings w.groups Subscribers) (record { id = id; told = has_network origin; text = text }))
   where
     go : (b : Bool) → AreReadAs w.settings (Some text) before
         (messages_of (sends_if b (DeclareSubscriber id (group_wire w.settings.aggregated_subscribers text (key_wire (own_keys_at w) text key)))))
     go true = (group_read w w.settings.aggregated_subscribers text key before told spelled.0 utf8, tt)
     go false = tt
-groups_read w (Some id) None (Sub origin key) before told spelled utf8 = tt
-groups_read w None text (Sub origin key) before told spelled utf8 = tt
-groups_read w (Some id) (Some text) (Pub destination key encoding qos reliable) before told spelled utf8 =
-    go (joins_first (company_at w.settings w.groups Publishers) (record { id = id; told = has_network destination; text = text }))
+groups_read w (Some id) None (Sub origin key to) before told spelled utf8 = tt
+groups_read w None text (Sub origin key to) before told spelled utf8 = tt
+groups_read w (Some id) (Some text) (Pub key settings) before told spelled utf8 =
+    go (joins_first (company_at w.settings w.groups Publishers) (record { id = id; told = has_network settings.destination; text = text }))
   where
     go : (b : Bool) → AreReadAs w.settings (Some text) before
         (messages_of (sends_if b (Interest id CurrentFuture of_subscribers (Some (group_wire w.settings.aggregated_publishers text (key_wire (own_keys_at w) text key))))))
     go true = (group_read w w.settings.aggregated_publishers text key before told spelled.1 utf8, tt)
     go false = tt
-groups_read w (Some id) None (Pub destination key encoding qos reliable) before told spelled utf8 = tt
-groups_read w None text (Pub destination key encoding qos reliable) before told spelled utf8 = tt
+groups_read w (Some id) None (Pub key settings) before told spelled utf8 = tt
+groups_read w None text (Pub key settings) before told spelled utf8 = tt
 groups_read w (Some id) (Some text) (Queryable origin complete key) before told spelled utf8 = go (has_network origin)
   where
     go : (b : Bool) → AreReadAs w.settings (Some text) before (messages_of (sends_if b (DeclareQueryable id complete (key_wire (own_keys_at w) text key))))
@@ -257,14 +257,14 @@ groups_read w (Some id) (Some text) (Queryable origin complete key) before told 
     go false = tt
 groups_read w (Some id) None (Queryable origin complete key) before told spelled utf8 = tt
 groups_read w None text (Queryable origin complete key) before told spelled utf8 = tt
-groups_read w (Some id) (Some text) (Querier destination key target consolidation timeout qos any_key) before told spelled utf8 =
-    go (joins_first (company_at w.settings w.groups Queriers) (record { id = id; told = has_network destination; text = text }))
+groups_read w (Some id) (Some text) (Querier key settings) before told spelled utf8 =
+    go (joins_first (company_at w.settings w.groups Queriers) (record { id = id; told = has_network settings.destination; text = text }))
   where
     go : (b : Bool) → AreReadAs w.settings (Some text) before (messages_of (sends_if b (Interest id CurrentFuture of_queryables (Some (key_wire (own_keys_at w) text key)))))
     go true = (form_read w text (declared_by (own_keys_at w) text key) before told utf8, tt)
     go false = tt
-groups_read w (Some id) None (Querier destination key target consolidation timeout qos any_key) before told spelled utf8 = tt
-groups_read w None text (Querier destination key target consolidation timeout qos any_key) before told spelled utf8 = tt
+groups_read w (Some id) None (Querier key settings) before told spelled utf8 = tt
+groups_read w None text (Querier key settings) before told spelled utf8 = tt
 groups_read w number text (Undeclare querier_sort id) before told spelled utf8 =
     (leaving_read w.settings text (sent_behind (messages_of (sends_of (own_keys_at w) w.entities.pubs number text (Undeclare querier_sort id))) before) (company_at w.settings w.groups Queriers) (option_map querier_shared (querier_at id w.entities.queriers))).2
 groups_read w number text (Token key) before told spelled utf8 =
@@ -272,7 +272,7 @@ groups_read w number text (Token key) before told spelled utf8 =
 groups_read w number text (Undeclare token_sort id) before told spelled utf8 = (tt, tt)
 groups_read w number text (Lsub history key) before told spelled utf8 =
     declared_read w (token_interest (lsub_mode history)) number text key before told utf8 (λ id wire t is. (is, tt))
-groups_read w number text (LivelinessGet key timeout token) before told spelled utf8 =
+groups_read w number text (LivelinessGet key timeout token to) before told spelled utf8 =
     declared_read w (token_interest Current) number text key before told utf8 (λ id wire t is. (is, tt))
 groups_read w number text (Undeclare lsub_sort id) before told spelled utf8 = (tt, tt)
 groups_read w number text (Undeclare queryable_sort id) before told spelled utf8 = queryable_read w.settings text before (queryable_at id w.entities.queryables)
@@ -419,7 +419,7 @@ unless_error w number text e before plain told spelled utf8 =
 pub event_read : (w : World) (number : Option ℕ) (text : Option (List ℕ)) (e : Event) (before : List Message) → IsTold w before → AreSpelled w.settings → IfSome text IsUtf8
     → IfSome (spoken_by w.handing.values (row_of e).to_values text) IsUtf8
     → AreReadAs w.settings (spoken_by w.handing.values (row_of e).to_values text) before (told_by_event (known_at w) number text e)
-event_read w number text (ReplyErr value payload encoding) before told spelled utf8 spoken =
+event_read w number text (ReplyErr value error) before told spelled utf8 spoken =
     subst (AreReadAs w.settings (option_map (λ (v : QueryValue). v.row.key.text) (value_at value w.handing.values)) before) (sym (append-nil _))
     (error_read w (value_at value w.handing.values) _ before spoken)
 event_read w number text (Net message) before told spelled utf8 spoken = unless_error w number text (Net message) before (net_error message) told spelled utf8

@@ -35,9 +35,9 @@ use Rattle.zs_tables.specs.declared.told_token.ToldToken.{ToldToken}
 use Rattle.zs_tables.specs.declared.group_kind.GroupKind.TheVariants.{Subscribers, Publishers, Queriers}
 use Rattle.zs_events.specs.declared.event.Event.{Event}
 use Rattle.zs_events.specs.declared.event.Event.TheVariants.{Key, UndeclareKey, Sub, Pub, Queryable, Querier, Undeclare, Close, Token, Lsub, LivelinessGet}
-use Rattle.zs_events.specs.declared.event.EntityKind.TheVariants.{Sub as sub_kind, Pub as pub_kind, Queryable as queryable_sort, Querier as querier_sort, Token as token_sort, Lsub as lsub_sort}
-use Rattle.zs_events.specs.declared.event.KeyArg.{KeyArg}
-use Rattle.zs_events.specs.declared.event.KeyArg.TheVariants.{Text, Number, Declared as declared_text}
+use Rattle.zs_events.specs.declared.entity_kind.EntityKind.TheVariants.{Sub as sub_kind, Pub as pub_kind, Queryable as queryable_sort, Querier as querier_sort, Token as token_sort, Lsub as lsub_sort}
+use Rattle.zs_events.specs.declared.key_arg.KeyArg.{KeyArg}
+use Rattle.zs_events.specs.declared.key_arg.KeyArg.TheVariants.{Text, Number, Declared as declared_text}
 use Rattle.zs_events.specs.declared.turn.Effect.{Effect}
 use Rattle.zs_events.specs.declared.turn.Effect.TheVariants.{Matching, Send, Hand, End}
 use Rattle.zs_events.specs.declared.turn.HandOver.TheVariants.{Sample as sample_for}
@@ -144,18 +144,18 @@ silent_declared message k (Some id) None key = silent_none
 silent_declared message k None text key = silent_none
 
 silent_entity : (known : Known) (number : Option ℕ) (text : Option (List ℕ)) (e : Event) → IsSilent (entity_sends known e number text)
-silent_entity known (Some id) (Some text) (Sub origin key) = silent_sends_if _ _
-silent_entity known (Some id) None (Sub origin key) = silent_none
-silent_entity known None text (Sub origin key) = silent_none
-silent_entity known (Some id) (Some text) (Pub destination key encoding qos reliable) = silent_sends_if _ _
-silent_entity known (Some id) None (Pub destination key encoding qos reliable) = silent_none
-silent_entity known None text (Pub destination key encoding qos reliable) = silent_none
+silent_entity known (Some id) (Some text) (Sub origin key to) = silent_sends_if _ _
+silent_entity known (Some id) None (Sub origin key to) = silent_none
+silent_entity known None text (Sub origin key to) = silent_none
+silent_entity known (Some id) (Some text) (Pub key settings) = silent_sends_if _ _
+silent_entity known (Some id) None (Pub key settings) = silent_none
+silent_entity known None text (Pub key settings) = silent_none
 silent_entity known (Some id) (Some text) (Queryable origin complete key) = silent_sends_if _ _
 silent_entity known (Some id) None (Queryable origin complete key) = silent_none
 silent_entity known None text (Queryable origin complete key) = silent_none
-silent_entity known (Some id) (Some text) (Querier destination key target consolidation timeout qos any_key) = silent_sends_if _ _
-silent_entity known (Some id) None (Querier destination key target consolidation timeout qos any_key) = silent_none
-silent_entity known None text (Querier destination key target consolidation timeout qos any_key) = silent_none
+silent_entity known (Some id) (Some text) (Querier key settings) = silent_sends_if _ _
+silent_entity known (Some id) None (Querier key settings) = silent_none
+silent_entity known None text (Querier key settings) = silent_none
 silent_entity known number text (Undeclare querier_sort id) = silent_leaving (known.company Queriers) querier_end (option_map querier_shared (querier_at id known.queriers))
 silent_entity known number text (Undeclare sub_kind id) = silent_leaving (known.company Subscribers) subscriber_end (option_map sub_shared (sub_at id known.subs))
 silent_entity known number text (Undeclare pub_kind id) = silent_leaving (known.company Publishers) interest_end (option_map pub_shared (pub_at id known.pubs))
@@ -164,7 +164,7 @@ silent_entity known number text (Undeclare token_sort id) = λ other. refl
 silent_entity known number text (Undeclare lsub_sort id) = λ other. refl
 silent_entity known number text (Token key) = silent_declared token_declaration known.keys number text key
 silent_entity known number text (Lsub history key) = silent_declared (token_interest (lsub_mode history)) known.keys number text key
-silent_entity known number text (LivelinessGet key timeout token) = silent_declared (token_interest Current) known.keys number text key
+silent_entity known number text (LivelinessGet key timeout token to) = silent_declared (token_interest Current) known.keys number text key
 silent_entity known number text (Key key) = silent_none
 silent_entity known number text e = silent_none
 
@@ -279,10 +279,10 @@ silent_queries values = silent_map hand_query (λ v id. refl) values
 
 silent_asked : (default : ℕ) (k : OwnKeys) (key : NamedKey) (values : List QueryValue) (number : Option ℕ) (text : Option (List ℕ)) (to : ToGets) → IsSilent (request_effects default k key values number text to)
 silent_asked default k key [] (Some number) (Some text) (Asks q) =
-    silent_if (has_network q.destination) (Send (request_message (request_of default (wire_form k text (declaration_of k text key)) number q)) ∷ []) (end_get number ∷ []) (λ id. refl) (λ id. refl)
+    silent_if (has_network q.settings.destination) (Send (request_message (request_of default (wire_form k text (declaration_of k text key)) number q)) ∷ []) (end_get number ∷ []) (λ id. refl) (λ id. refl)
 silent_asked default k key (v ∷ values) (Some number) (Some text) (Asks q) =
     silent_append (request_sends default (wire_form k text (declaration_of k text key)) number q) (map hand_query (v ∷ values))
-    (silent_if (has_network q.destination) (Send (request_message (request_of default (wire_form k text (declaration_of k text key)) number q)) ∷ []) [] (λ id. refl) silent_none)
+    (silent_if (has_network q.settings.destination) (Send (request_message (request_of default (wire_form k text (declaration_of k text key)) number q)) ∷ []) [] (λ id. refl) silent_none)
     (silent_queries (v ∷ values))
 silent_asked default k key values None text (Asks q) = silent_none
 silent_asked default k key values (Some number) None (Asks q) = silent_none

@@ -14,7 +14,7 @@ use Rattle.zs_events.specs.declared.turn.Turn.{Turn}
 use Rattle.zs_core.specs.Settings.{last_entity, last_query, last_key}
 use Rattle.zs_events.specs.Turn.{answered}
 use Rattle.zs_core.specs.World.{World}
-use Rattle.zs_events.specs.Kinds.{Draws, NoNumber, EntityNumber, QueryNumber, ValueNumber, TokenNumber, KeyNumber, StatusOf, Named, ToGets, asking_token, token_named, row_of}
+use Rattle.zs_events.specs.Kinds.{Draws, NoNumber, EntityNumber, QueryNumber, ValueNumber, CancellationNumber, KeyNumber, StatusOf, Named, ToGets, asking_token, token_named, row_of}
 use Rattle.zs_core.specs.Seen.{Sight}
 use Rattle.zs_core.specs.Entry.{Entry, is_closed}
 use Rattle.zs_core.specs.Held.{held_number, is_claimed, named_text}
@@ -38,7 +38,7 @@ use Rattle.zs_tables.specs.declared.group_kind.GroupKind.TheVariants.{Subscriber
 use Rattle.zs_core.specs.Publishers.{pub_at}
 use Rattle.zs_core.specs.Sends.{prefix_declaration}
 use Rattle.zs_core.specs.Queriers.{querier_at, querier_declaration}
-use Rattle.zs_core.specs.Cancelling.{last_token, next_token, is_drawn, is_any, is_among, is_taken}
+use Rattle.zs_core.specs.Cancelling.{last_cancellation_token, next_cancellation_token, is_drawn, is_any, is_among, is_taken}
 use Rattle.zs_core.proofs.Cancelling.{AreCancelled, cancelled_more, cancelled_opened, any_told}
 use Rattle.zs_core.specs.Groups.{aggregates_of, group_number, company_of, company_at}
 use Rattle.zs_core.specs.Counters.{is_spent, draws_key, next_value, next_entity, next_key, lacks_number, drawn_number}
@@ -114,7 +114,7 @@ draws_is w past NoNumber text k = refl
 draws_is w past EntityNumber text k = refl
 draws_is w past QueryNumber text k = refl
 draws_is w past ValueNumber text k = refl
-draws_is w past TokenNumber text k = refl
+draws_is w past CancellationNumber text k = refl
 draws_is w past (StatusOf kind id) text k = refl
 
 -- what gets hear of an event is told by the past
@@ -175,7 +175,7 @@ lacks_is s w past NoNumber text st = refl
 lacks_is s w past EntityNumber text st = ap (is_spent last_entity) st.entity
 lacks_is s w past QueryNumber text st = ap (is_spent last_query) st.asking.next
 lacks_is s w past ValueNumber text st = ap (λ (h : Handing). is_spent last_value h.next) st.handing
-lacks_is s w past TokenNumber text st = ap (is_spent last_token) st.cancelling.next
+lacks_is s w past CancellationNumber text st = ap (is_spent last_cancellation_token) st.cancelling.next
 lacks_is s w past (StatusOf kind id) text st = refl
 lacks_is s w past KeyNumber None st = refl
 lacks_is s w past KeyNumber (Some text) st =
@@ -187,7 +187,7 @@ number_drawn s w past NoNumber text st = refl
 number_drawn s w past EntityNumber text st = ap (λ (n : ℕ). Some n) st.entity
 number_drawn s w past QueryNumber text st = ap (λ (n : ℕ). Some n) st.asking.next
 number_drawn s w past ValueNumber text st = ap (λ (h : Handing). Some h.next) st.handing
-number_drawn s w past TokenNumber text st = ap (λ (n : ℕ). Some n) st.cancelling.next
+number_drawn s w past CancellationNumber text st = ap (λ (n : ℕ). Some n) st.cancelling.next
 number_drawn s w past (StatusOf kind id) text st = ap (λ (n : ℕ). Some n) (status_is w past kind id st.live st.matched)
 number_drawn s w past KeyNumber None st = refl
 number_drawn s w past KeyNumber (Some text) st =
@@ -205,7 +205,7 @@ same_sight s w past e st =
     let handing : w.handing ≡ handing_of past = st.handing in
     let rows : w.entities.queryables ≡ live_queryables past = st.live.queryables.table in
     let owed : is_owed w.handing.values (row_of e).to_values ≡ is_owed (values_now past) (row_of e).to_values = ap (λ (h : Handing). is_owed h.values (row_of e).to_values) handing in
-    let drawn : is_drawn w.cancelling.next (token_named (row_of e).to_gets (row_of e).to_liveliness) ≡ is_drawn (next_token past) (token_named (row_of e).to_gets (row_of e).to_liveliness) =
+    let drawn : is_drawn w.cancelling.next (token_named (row_of e).to_gets (row_of e).to_liveliness) ≡ is_drawn (next_cancellation_token past) (token_named (row_of e).to_gets (row_of e).to_liveliness) =
     ap (λ (n : ℕ). is_drawn n (token_named (row_of e).to_gets (row_of e).to_liveliness)) st.cancelling.next in
     let cancelled : is_any (is_among w.cancelling.taken) (asking_token (row_of e).to_gets (row_of e).to_liveliness) ≡ is_any (λ token. is_taken token past) (asking_token (row_of e).to_gets (row_of e).to_liveliness) =
     any_told w.cancelling past (asking_token (row_of e).to_gets (row_of e).to_liveliness) st.cancelling in

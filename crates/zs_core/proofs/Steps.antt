@@ -16,6 +16,7 @@ use Rattle.zs_core.specs.World.{World}
 use Rattle.zs_core.specs.Entry.{Entry}
 use Rattle.zs_core.specs.DeclaredKeys.{has_holder}
 use Rattle.zs_core.specs.Past.{past_of}
+use Rattle.zs_core.specs.Plans.{Plans}
 use Rattle.zs_core.specs.Changes.{with_change, change_for, Fits}
 use Rattle.zs_core.specs.Turns.{is_there, decision, with_listeners}
 use Rattle.zs_core.specs.Stands.{world_of, world_after, lives, Previews, Steps, ClosedIs, NowIs, IsHeld, IsLive, IsTaken}
@@ -82,6 +83,15 @@ refused_by w e =
 pub refused_same : (w new : World) (e : Event) (d : Decision) → d ≡ with_listeners w (decision w e) → new ≡ with_change d.change w → was_refused d.turn.answer ≡ true → new ≡ w
 refused_same w new e d is changed refused =
     changed ∙ ap (λ (d : Decision). with_change d.change w) is ∙ refused_by w e (sym (ap (λ (d : Decision). was_refused d.turn.answer) is) ∙ refused)
+
+-- a decision is a plan
+pub plans_on : (w : World) (e : Event) (d : Decision) → d ≡ with_listeners w (decision w e) → Plans w e d
+plans_on w e d is = record {
+  previews = previews_on w e d is;
+  fits = decision_fits w e d is;
+  steps = λ new changed. steps_on w new e d is changed;
+  refuses = λ refused. refused_same w (with_change d.change w) e d is refl refused;
+}
 
 -- whether something is live by the tables, where a get is live while it is open
 abbrev pub is_here : Kind → ℕ → World → Bool

@@ -4,7 +4,8 @@ use Rattle.std.specs.Prelude.{◌&&◌, ◌||◌, not, if◌then◌else◌}
 use Rattle.zs_keys.specs.Key.{undeclared}
 use Rattle.zs_wire.specs.declared.wire_expr.WireExpr.{WireExpr}
 use Rattle.zs_events.specs.declared.event.Event.TheVariants.{Net, Listen, Lsub, LivelinessGet}
-use Rattle.zs_events.specs.declared.event.KeyArg.{KeyArg}
+use Rattle.zs_events.specs.declared.chan.Chan.{Chan}
+use Rattle.zs_events.specs.declared.key_arg.KeyArg.{KeyArg}
 use Rattle.zs_wire.specs.declared.message.Message.TheVariants.{DeclareToken as token_message, DeclareSubscriber, DeclareQueryable}
 use Rattle.zs_core.specs.declared.publisher.PubRow.{PubRow}
 use Rattle.zs_core.specs.declared.change.Change.TheVariants.{Nothing, OfLiveliness}
@@ -21,9 +22,9 @@ use Rattle.zs_core.specs.Live.{drew, ends}
 use Rattle.zs_core.specs.Tokens.{answers}
 use Rattle.zs_core.specs.LivelinessChanges.{lsub_change, asking_change, told_change}
 use Rattle.zs_tables.specs.declared.listener.ListenerRow.{ListenerRow}
-use Rattle.zs_events.specs.declared.event.ParentKind.{ParentKind}
+use Rattle.zs_events.specs.declared.entity_kind.ParentKind.{ParentKind}
 use Rattle.zs_events.specs.Kinds.{parent_kind_of}
-use Rattle.zs_events.specs.declared.event.ParentKind.TheVariants.{Pub as pub_parent, Querier as querier_parent}
+use Rattle.zs_events.specs.declared.entity_kind.ParentKind.TheVariants.{Pub as pub_parent, Querier as querier_parent}
 use Rattle.zs_core.specs.Listeners.{listening, on_pub, on_querier}
 use Rattle.zs_core.specs.MatchingChanges.{listen_change, told_sub_change, told_queryable_change}
 use Rattle.zs_core.specs.Turns.{has_run_out, sight, is_there, is_left}
@@ -44,8 +45,8 @@ lsub_made w history key (Some text) o p = record {
   liveliness = record { asks = refl; ends = λ g. refl; told = refl; tokens = record { row = refl; drew = λ id. refl; ended = λ id. refl }; lsubs = record { row = refl; drew = λ id. refl; ended = λ id. refl } };
 }
 
-pub tokens_made : (w : World) (key : KeyArg) (timeout token : Option ℕ) (text : Option (List ℕ)) → w.closed ≡ false
-    → HasPassed (row_of (LivelinessGet key timeout token))
+pub tokens_made : (w : World) (key : KeyArg) (timeout token : Option ℕ) (to : Chan) (text : Option (List ℕ)) → w.closed ≡ false
+    → HasPassed (row_of (LivelinessGet key timeout token to))
     (record {
       text = text;
       lives = true;
@@ -58,13 +59,13 @@ pub tokens_made : (w : World) (key : KeyArg) (timeout token : Option ℕ) (text 
       idle = false;
       spared = false;
     })
-    → IsMade w (record { number = Some w.counters.entity; text = text; event = LivelinessGet key timeout token })
+    → IsMade w (record { number = Some w.counters.entity; text = text; event = LivelinessGet key timeout token to })
     (asking_change w.settings.default_timeout w.asking.moment w.counters.entity timeout token text)
-tokens_made w key timeout token None o p =
+tokens_made w key timeout token to None o p =
     let undrawn : Bool = not (is_drawn w.cancelling.next token) || false in
     let found : ((undrawn || true) || false) ≡ false = (neither ((undrawn || true) || false) false p.found).0 in
     let no : true ≡ false = (neither undrawn true (neither (undrawn || true) false found).0).1 in cc
-tokens_made w key timeout token (Some text) o p = record {
+tokens_made w key timeout token to (Some text) o p = record {
   unclosed = o;
   fits = (refl, p.left);
   closes = refl;

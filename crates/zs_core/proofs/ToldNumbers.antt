@@ -15,14 +15,17 @@ use Rattle.zs_tables.specs.Numbers.{NumberedKey, key_at, number_at, without}
 use Rattle.zs_tables.specs.declared.queryable.QueryableRow.{QueryableRow}
 use Rattle.zs_core.specs.Queryables.{queryable_at}
 use Rattle.zs_events.specs.declared.event.Event.{Event}
-use Rattle.zs_events.specs.declared.event.Event.TheVariants.{Listen, Key, UndeclareKey, Sub, Pub, Queryable, Querier, Undeclare, Background, Close, Net, Get, QuerierGet, CancelToken, Cancel, Tick, Reply as reply_event, ReplyDelete, Share, Finish, Token, Lsub, LivelinessGet}
-use Rattle.zs_events.specs.declared.event.EntityKind.TheVariants.{Sub as sub_kind, Pub as pub_kind, Queryable as queryable_sort, Querier as querier_sort, Token as token_sort, Lsub as lsub_sort, Listener as listener_sort}
-use Rattle.zs_events.specs.declared.event.BackgroundKind.TheVariants.{Sub as background_sub, Queryable as background_queryable, Lsub as background_lsub, Listener as background_listener}
-use Rattle.zs_events.specs.declared.event.KeyArg.{KeyArg}
-use Rattle.zs_events.specs.declared.event.KeyArg.TheVariants.{Text, Number, Declared as declared_text}
+use Rattle.zs_events.specs.declared.event.Event.TheVariants.{Listen, Key, UndeclareKey, Sub, Pub, Queryable, Querier, Undeclare, Background, Close, Net, Get, QuerierGet, CancelToken, Cancel, Tick, Reply as reply_event, Share, Finish, Token, Lsub, LivelinessGet}
+use Rattle.zs_events.specs.declared.entity_kind.EntityKind.TheVariants.{Sub as sub_kind, Pub as pub_kind, Queryable as queryable_sort, Querier as querier_sort, Token as token_sort, Lsub as lsub_sort, Listener as listener_sort}
+use Rattle.zs_events.specs.declared.entity_kind.BackgroundKind.TheVariants.{Sub as background_sub, Queryable as background_queryable, Lsub as background_lsub, Listener as background_listener}
+use Rattle.zs_events.specs.declared.key_arg.KeyArg.{KeyArg}
+use Rattle.zs_events.specs.declared.key_arg.KeyArg.TheVariants.{Text, Number, Declared as declared_text}
 use Rattle.zs_events.specs.declared.turn.Effect.TheVariants.{Send}
 use Rattle.zs_events.specs.declared.turn.Turn.{Turn}
-use Rattle.zs_events.specs.Kinds.{NamedKey, Publishes, NoContent, OwnContent, ByPublisher, KeyNumber, QuerierQuestion, ReplyQuality, put_body, delete_body, response_key, parent_kind_of, row_of}
+use Rattle.zs_events.specs.Kinds.{NamedKey, Publishes, NoContent, OwnContent, ByPublisher, KeyNumber, response_key, parent_kind_of, row_of}
+use Rattle.zs_events.specs.declared.inquiry.Inquiry.{Inquiry}
+use Rattle.zs_events.specs.declared.publication.ReplyQuality.{ReplyQuality}
+use Rattle.zs_events.specs.Updates.{body_of}
 use Rattle.zs_core.specs.Tokens.{answers}
 use Rattle.zs_tables.specs.declared.listener.ListenerRow.{ListenerRow}
 use Rattle.zs_core.specs.Listeners.{listening}
@@ -50,7 +53,7 @@ use Rattle.zs_core.specs.Keys.{key_of, wire_of, text_of}
 use Rattle.zs_core.specs.Changes.{change_for, key_change, key_change_by, sub_change, pub_change, queryable_change, tell_change, with_change, response_change, ask_change, get_change, querier_change, querier_get_change, request_change, replied_change, answer_change}
 use Rattle.zs_core.specs.Subscribers.{sub_at}
 use Rattle.zs_core.specs.Publishers.{pub_at, resolved}
-use Rattle.zs_core.specs.declared.querier.QuerierSettings.{QuerierSettings}
+use Rattle.zs_events.specs.declared.inquiry.QuerySettings.{QuerySettings}
 use Rattle.zs_core.specs.declared.querier.QuerierRow.{QuerierRow}
 use Rattle.zs_core.specs.Queriers.{querier_at, question_of}
 use Rattle.zs_core.specs.Groups.{Shared, sub_shared, pub_shared, querier_shared, Company, company_at, last_number, sends_if, last_sends, leaving, subscriber_end, interest_end, querier_end}
@@ -62,7 +65,7 @@ use Rattle.zs_core.specs.Received.{messages_of, sent_behind, sent, number_text, 
 use Rattle.zs_core.proofs.Numbers.{key_at-placed, key_at-without}
 use Rattle.zs_core.proofs.Decisions.{cases}
 use Rattle.zs_core.proofs.Stands.{standing, steps}
-use Rattle.zs_core.proofs.Messages.{question_in, same_messages, asked_by, answered_by, told_by_event, all_messages, behind_both}
+use Rattle.zs_core.proofs.Messages.{same_messages, asked_by, answered_by, told_by_event, all_messages, behind_both}
 use Rattle.zs_core.proofs.Reading.{IsTold, asks_told, answers_told}
 
 -- what a receiver knows goes with the table, change by change
@@ -155,50 +158,40 @@ listen_told w (row ∷ rows) before told = record { numbers = told.numbers; spel
 
 pub sends_told : (w : World) (e : Event) (before : List Message) → (with_change (change_for w e) w).closed ≡ false → IsTold w before → IfSome (text_for w e) IsUtf8
     → IsTold (with_change (change_for w e) w) (sent_behind (messages_of (sends_of (own_keys_at w) w.entities.pubs (number_for w e) (text_for w e) e)) before)
-sends_told w (Get destination key parameters target consolidation timeout value qos source attachment any_key token) before still told utf8 =
-    sub_told w (Get destination key parameters target consolidation timeout value qos source attachment any_key token) (key_of w key) before
-    (get_change w (question_in destination parameters target consolidation timeout value qos source attachment any_key token)) keeps told
+sends_told w (Get key settings inquiry to) before still told utf8 =
+    sub_told w (Get key settings inquiry to) (key_of w key) before
+    (get_change w (record { settings = settings; inquiry = inquiry; querier = None })) keeps told
   where
     any : (row : GetRow) (request : RequestRow) (met : List ℕ) → (with_change (ask_change row request met) w).keys.own ≡ w.keys.own
     any row request [] = refl
     any row request (id ∷ met) = refl
 
-    keeps : (o : Option (List ℕ)) → (with_change (get_change w (question_in destination parameters target consolidation timeout value qos source attachment any_key token) o) w).keys.own ≡ w.keys.own
+    keeps : (o : Option (List ℕ)) → (with_change (get_change w (record { settings = settings; inquiry = inquiry; querier = None }) o) w).keys.own ≡ w.keys.own
     keeps None = refl
     keeps (Some text) = any _ _ _
-sends_told w (reply_event value key payload encoding timestamp priority congestion express source attachment) before still told utf8 =
-    sub_told w (reply_event value key payload encoding timestamp priority congestion express source attachment) (key_of w key) before
-    (answer_change w.settings.zid (record { priority = priority; congestion = congestion; express = express }) (put_body payload encoding timestamp source attachment) (value_at value w.handing.values))
-    (answer_keeps w (record { priority = priority; congestion = congestion; express = express }) (put_body payload encoding timestamp source attachment) (value_at value w.handing.values)) told
-sends_told w (ReplyDelete value key timestamp priority congestion express source attachment) before still told utf8 =
-    sub_told w (ReplyDelete value key timestamp priority congestion express source attachment) (key_of w key) before
-    (answer_change w.settings.zid (record { priority = priority; congestion = congestion; express = express }) (delete_body timestamp source attachment) (value_at value w.handing.values))
-    (answer_keeps w (record { priority = priority; congestion = congestion; express = express }) (delete_body timestamp source attachment) (value_at value w.handing.values)) told
-sends_told w (Querier destination key target consolidation timeout qos any_key) before still told utf8 =
-    sub_told w (Querier destination key target consolidation timeout qos any_key) (key_of w key) before (querier_change w.counters.entity key settings) keeps told
+sends_told w (reply_event value key update quality) before still told utf8 =
+    sub_told w (reply_event value key update quality) (key_of w key) before
+    (answer_change w.settings.zid quality (body_of [] update) (value_at value w.handing.values))
+    (answer_keeps w quality (body_of [] update) (value_at value w.handing.values)) told
+sends_told w (Querier key settings) before still told utf8 =
+    sub_told w (Querier key settings) (key_of w key) before (querier_change w.counters.entity key settings) keeps told
   where
-    settings : QuerierSettings
-    settings = record { destination = destination; target = target; consolidation = consolidation; timeout = timeout; qos = qos; any_key = any_key }
-
     keeps : (o : Option (List ℕ)) → (with_change (querier_change w.counters.entity key settings o) w).keys.own ≡ w.keys.own
     keeps None = refl
     keeps (Some text) = refl
-sends_told w (QuerierGet id parameters value source attachment token) before still told utf8 = go (querier_at id w.entities.queriers)
+sends_told w (QuerierGet id inquiry to) before still told utf8 = go (querier_at id w.entities.queriers)
   where
-    q : QuerierQuestion
-    q = record { parameters = parameters; value = value; source = source; attachment = attachment; token = token }
-
     any : (row : GetRow) (request : RequestRow) (met : List ℕ) → (with_change (ask_change row request met) w).keys.own ≡ w.keys.own
     any row request [] = refl
     any row request (id ∷ met) = refl
 
-    keeps : (row : QuerierRow) (o : Option (List ℕ)) → (with_change (get_change w (question_of row q) o) w).keys.own ≡ w.keys.own
+    keeps : (row : QuerierRow) (o : Option (List ℕ)) → (with_change (get_change w (question_of row inquiry) o) w).keys.own ≡ w.keys.own
     keeps row None = refl
     keeps row (Some text) = any _ _ _
 
-    go : (o : Option QuerierRow) → IsTold (with_change (querier_get_change w q o) w) before
+    go : (o : Option QuerierRow) → IsTold (with_change (querier_get_change w inquiry o) w) before
     go None = told
-    go (Some row) = sub_told w (QuerierGet id parameters value source attachment token) (Some row.key.text) before (get_change w (question_of row q)) (keeps row) told
+    go (Some row) = sub_told w (QuerierGet id inquiry to) (Some row.key.text) before (get_change w (question_of row inquiry)) (keeps row) told
 sends_told w CancelToken before still told utf8 = record { numbers = told.numbers; spelled = told.spelled }
 sends_told w (Cancel token) before still told utf8 = record { numbers = told.numbers; spelled = told.spelled }
 sends_told w (Undeclare querier_sort id) before still told utf8 = record { numbers = told.numbers; spelled = told.spelled }
@@ -222,15 +215,15 @@ sends_told w (Key key) before still told utf8 = key_told w (key_of w key) before
 sends_told w (UndeclareKey (Text text)) before still told utf8 = told
 sends_told w (UndeclareKey (Number number suffix)) before still told utf8 = return_told w number before told
 sends_told w (UndeclareKey (declared_text text number prefix_len)) before still told utf8 = return_told w number before told
-sends_told w (Sub origin key) before still told utf8 = sub_told w (Sub origin key) (key_of w key) before (sub_change w.counters.entity origin) keeps told
+sends_told w (Sub origin key to) before still told utf8 = sub_told w (Sub origin key to) (key_of w key) before (sub_change w.counters.entity origin) keeps told
   where
     keeps : (o : Option (List ℕ)) → (with_change (sub_change w.counters.entity origin o) w).keys.own ≡ w.keys.own
     keeps None = refl
     keeps (Some text) = refl
-sends_told w (Pub destination key encoding qos reliable) before still told utf8 =
-    sub_told w (Pub destination key encoding qos reliable) (key_of w key) before (pub_change w.counters.entity destination key encoding qos reliable) keeps told
+sends_told w (Pub key settings) before still told utf8 =
+    sub_told w (Pub key settings) (key_of w key) before (pub_change w.counters.entity key settings) keeps told
   where
-    keeps : (o : Option (List ℕ)) → (with_change (pub_change w.counters.entity destination key encoding qos reliable o) w).keys.own ≡ w.keys.own
+    keeps : (o : Option (List ℕ)) → (with_change (pub_change w.counters.entity key settings o) w).keys.own ≡ w.keys.own
     keeps None = refl
     keeps (Some text) = refl
 sends_told w (Queryable origin complete key) before still told utf8 =
@@ -250,8 +243,8 @@ sends_told w (Lsub history key) before still told utf8 = sub_told w (Lsub histor
     keeps : (o : Option (List ℕ)) → (with_change (lsub_change w.counters.entity history o) w).keys.own ≡ w.keys.own
     keeps None = refl
     keeps (Some text) = refl
-sends_told w (LivelinessGet key timeout token) before still told utf8 =
-    sub_told w (LivelinessGet key timeout token) (key_of w key) before (asking_change w.settings.default_timeout w.asking.moment w.counters.entity timeout token) keeps told
+sends_told w (LivelinessGet key timeout token to) before still told utf8 =
+    sub_told w (LivelinessGet key timeout token to) (key_of w key) before (asking_change w.settings.default_timeout w.asking.moment w.counters.entity timeout token) keeps told
   where
     keeps : (o : Option (List ℕ)) → (with_change (asking_change w.settings.default_timeout w.asking.moment w.counters.entity timeout token o) w).keys.own ≡ w.keys.own
     keeps None = refl
@@ -345,24 +338,24 @@ quiet_declared w message None text key before n quiet = refl
 
 pub quiet_groups : (w : World) (number : Option ℕ) (text : Option (List ℕ)) (e : Event) (before : List Message) (n : ℕ)
     → number_text n (sent_behind (messages_of (entity_sends (known_at w) e number text)) before) ≡ number_text n before
-quiet_groups w (Some id) (Some text) (Sub origin key) before n = quiet_sub _ id _ before n
-quiet_groups w (Some id) None (Sub origin key) before n = refl
-quiet_groups w None text (Sub origin key) before n = refl
-quiet_groups w (Some id) (Some text) (Pub destination key encoding qos reliable) before n = quiet_pub _ id _ before n
-quiet_groups w (Some id) None (Pub destination key encoding qos reliable) before n = refl
-quiet_groups w None text (Pub destination key encoding qos reliable) before n = refl
+quiet_groups w (Some id) (Some text) (Sub origin key to) before n = quiet_sub _ id _ before n
+quiet_groups w (Some id) None (Sub origin key to) before n = refl
+quiet_groups w None text (Sub origin key to) before n = refl
+quiet_groups w (Some id) (Some text) (Pub key settings) before n = quiet_pub _ id _ before n
+quiet_groups w (Some id) None (Pub key settings) before n = refl
+quiet_groups w None text (Pub key settings) before n = refl
 quiet_groups w (Some id) (Some text) (Queryable origin complete key) before n = quiet_queryable _ id complete _ before n
 quiet_groups w (Some id) None (Queryable origin complete key) before n = refl
 quiet_groups w None text (Queryable origin complete key) before n = refl
-quiet_groups w (Some id) (Some text) (Querier destination key target consolidation timeout qos any_key) before n = quiet_querier _ id _ before n
-quiet_groups w (Some id) None (Querier destination key target consolidation timeout qos any_key) before n = refl
-quiet_groups w None text (Querier destination key target consolidation timeout qos any_key) before n = refl
+quiet_groups w (Some id) (Some text) (Querier key settings) before n = quiet_querier _ id _ before n
+quiet_groups w (Some id) None (Querier key settings) before n = refl
+quiet_groups w None text (Querier key settings) before n = refl
 quiet_groups w number text (Undeclare querier_sort id) before n =
     (quiet_leaving (company_at w.settings w.groups Queriers) (option_map querier_shared (querier_at id w.entities.queriers)) before n).2
 quiet_groups w number text (Token key) before n = quiet_declared w token_declaration number text key before n (λ id wire. refl)
 quiet_groups w number text (Undeclare token_sort id) before n = refl
 quiet_groups w number text (Lsub history key) before n = quiet_declared w (token_interest (lsub_mode history)) number text key before n (λ id wire. refl)
-quiet_groups w number text (LivelinessGet key timeout token) before n = quiet_declared w (token_interest Current) number text key before n (λ id wire. refl)
+quiet_groups w number text (LivelinessGet key timeout token to) before n = quiet_declared w (token_interest Current) number text key before n (λ id wire. refl)
 quiet_groups w number text (Undeclare lsub_sort id) before n = refl
 quiet_groups w number text (Undeclare queryable_sort id) before n = quiet_queryable_end (queryable_at id w.entities.queryables) before n
 quiet_groups w number text (Undeclare sub_kind id) before n = (quiet_leaving (company_at w.settings w.groups Subscribers) (option_map sub_shared (sub_at id w.entities.subs)) before n).0

@@ -20,7 +20,8 @@ use Rattle.zs_query.specs.Asked.{News, Quiet, ReplyTo, FinalOf, AtMoment, Querie
 use Rattle.zs_query.specs.GetTable.{Asking}
 use Rattle.zs_query.proofs.Ascending.{all_append, all_filter}
 use Rattle.zs_events.specs.declared.event.Event.{Event}
-use Rattle.zs_events.specs.Kinds.{ToGets, NoGet, Asks, AsksBy, Answers, EndsSide, Reaches, EndsQuerier, Cancels, EndsAll, ToValues, ToLiveliness, QuerierQuestion, Question, asking_token, row_of}
+use Rattle.zs_events.specs.Kinds.{ToGets, NoGet, Asks, AsksBy, Answers, EndsSide, Reaches, EndsQuerier, Cancels, EndsAll, ToValues, ToLiveliness, Question, asking_token, row_of}
+use Rattle.zs_events.specs.declared.inquiry.Inquiry.{Inquiry}
 use Rattle.zs_core.specs.declared.settings.Settings.{Settings}
 use Rattle.zs_core.specs.declared.querier.QuerierRow.{QuerierRow}
 use Rattle.zs_core.specs.declared.change.Decision.{Decision}
@@ -121,7 +122,7 @@ taken_untaken taken token (g ∷ gets) all = go (names token g.row.token) refl (
 
 -- so each event keeps them so
 asked_untaken : (default zid : ℕ) (rows : List QueryableRow) (values : List QueryValue) (q : Question) (does : ToValues) (text : Option (List ℕ)) (taken : List ℕ) (a : Asking)
-    → is_any (is_among taken) q.token ≡ false → AreUntaken taken a.gets → AreUntaken taken (asking_by default zid rows values (Asks q) does text a).gets
+    → is_any (is_among taken) q.inquiry.cancellation_token ≡ false → AreUntaken taken a.gets → AreUntaken taken (asking_by default zid rows values (Asks q) does text a).gets
 asked_untaken default zid rows values q does None taken a free all = all
 asked_untaken default zid rows values q does (Some text) taken a free all =
     opened_untaken taken (row_waiting default a.moment a.next text q (met_by_get rows q text)) a.gets free all

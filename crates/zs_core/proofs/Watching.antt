@@ -19,9 +19,9 @@ use Rattle.zs_events.specs.declared.turn.Kind.{Kind}
 use Rattle.zs_events.specs.declared.turn.Kind.TheVariants.{Token, LivelinessSubscriber}
 use Rattle.zs_core.specs.declared.settings.Settings.{Settings}
 use Rattle.zs_core.specs.declared.change.Change.{Change}
-use Rattle.zs_core.specs.declared.change.Change.TheVariants.{Nothing, OfKeys, OfEntities, OfNetwork, OfGets, OfTokens, OfLiveliness, OfMatching, Shut}
+use Rattle.zs_core.specs.declared.change.Change.TheVariants.{Nothing, OfKeys, OfEntities, OfNetwork, OfGets, OfCancellation, OfLiveliness, OfMatching, Shut}
 use Rattle.zs_core.specs.declared.change.EntityChange.TheVariants.{AddSub, AddPub, AddQueryable, AddQuerier}
-use Rattle.zs_core.specs.declared.change.TokenChange.TheVariants.{Take as TakeToken}
+use Rattle.zs_core.specs.declared.change.CancellationChange.TheVariants.{Take as TakeCancellationToken}
 use Rattle.zs_core.specs.declared.change.GetChange.TheVariants.{Advance}
 use Rattle.zs_core.specs.declared.change.LivelinessChange.{LivelinessChange}
 use Rattle.zs_core.specs.declared.change.LivelinessChange.TheVariants.{DeclareToken, EndToken, AddLsub, EndLsub, LeaveLsub, AskTokens, EndAsking, RecordToken, ForgetToken}
@@ -81,7 +81,7 @@ listening_up c next = omega arith
 abbrev pub stops_by : LivelinessGet → Change → Bool
 stops_by g (OfLiveliness (EndAsking number)) = g.number == number
 stops_by g (OfGets (Advance moment)) = is_over moment g
-stops_by g (OfTokens (TakeToken token)) = is_own token g.token
+stops_by g (OfCancellation (TakeCancellationToken token)) = is_own token g.token
 stops_by g Shut = true
 stops_by g c = false
 
@@ -136,7 +136,7 @@ gets_step w (OfLiveliness (AskTokens row)) fits below =
     ∙ ap (λ (gs : List LivelinessGet). gs ++ row ∷ []) (sym (filter_true w.liveliness.gets))
 gets_step w (OfLiveliness (EndAsking number)) fits below = sym (append-nil (filter (λ (g : LivelinessGet). not (g.number == number)) w.liveliness.gets))
 gets_step w (OfGets (Advance moment)) fits below = sym (append-nil (filter (λ (g : LivelinessGet). not (is_over moment g)) w.liveliness.gets))
-gets_step w (OfTokens (TakeToken token)) fits below = sym (append-nil (filter (λ (g : LivelinessGet). not (is_own token g.token)) w.liveliness.gets))
+gets_step w (OfCancellation (TakeCancellationToken token)) fits below = sym (append-nil (filter (λ (g : LivelinessGet). not (is_own token g.token)) w.liveliness.gets))
 gets_step w Shut fits below = sym (append-nil (filter (λ (g : LivelinessGet). false) w.liveliness.gets) ∙ filter_none w.liveliness.gets)
 gets_step w Nothing fits below = untouched w.liveliness.gets
 gets_step w c fits below = untouched w.liveliness.gets

@@ -17,13 +17,9 @@ use Rattle.zs_query.specs.declared.requests.Finished.TheVariants.{Unknown, MoreL
 use Rattle.zs_query.specs.declared.side.Side.TheVariants.{Local}
 use Rattle.zs_query.specs.Unfinished.{value_at, finished}
 use Rattle.zs_query.specs.Asked.{News, Quiet, ReplyTo, FinalOf}
-use Rattle.zs_events.specs.Kinds.{ReplyQuality, ToValues, AnswersBy, AnswersError, SharesValue, GivesBack}
+use Rattle.zs_events.specs.Kinds.{ToValues, AnswersBy, AnswersError, SharesValue, GivesBack}
+use Rattle.zs_events.specs.declared.publication.ReplyQuality.{ReplyQuality}
 use Rattle.zs_core.specs.Replies.{reply_on, error_on}
-use Rattle.zs_core.specs.declared.state.answers.ReplyQuality.{ReplyQuality as named_quality}
-
--- what the code names
-abbrev pub quality_by : named_quality → ReplyQuality
-quality_by q = record { priority = q.priority; congestion = q.congestion; express = q.express }
 
 -- the qualities of a reply: those that it names, and for the others the query's
 abbrev pub quality_of : ReplyQuality → QoSType → QoSType

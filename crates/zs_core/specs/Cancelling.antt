@@ -1,11 +1,11 @@
 -- Cancellation tokens, told by the events alone: which were drawn, and which were taken.
 use Rattle.std.specs.Prelude.{ℕ, ◌+◌, Bool, true, false, not, nat_lt, ◌==◌, List, [], ◌∷◌, Option, Some, None, if◌then◌else◌}
 use Rattle.std.specs.List.{list_any}
-use Rattle.zs_events.specs.Kinds.{Draws, TokenNumber, ToGets, Cancels, row_of}
+use Rattle.zs_events.specs.Kinds.{Draws, CancellationNumber, ToGets, Cancels, row_of}
 use Rattle.zs_tables.specs.Ascending.{placed_by}
 use Rattle.zs_query.specs.GetTable.{Asking, without_token}
-use Rattle.zs_core.specs.declared.change.TokenChange.{TokenChange}
-use Rattle.zs_core.specs.declared.change.TokenChange.TheVariants.{Draw, Take}
+use Rattle.zs_core.specs.declared.change.CancellationChange.{CancellationChange}
+use Rattle.zs_core.specs.declared.change.CancellationChange.TheVariants.{Draw, Take}
 use Rattle.zs_core.specs.Entry.{Entry}
 
 -- the cancellation tokens of a session: the number that the next one draws, and the numbers of those that were taken, ascending
@@ -14,18 +14,18 @@ pub record Cancelling : Type 0 where
   pub taken : List ℕ
 
 -- the last number of cancellation tokens, which none has
-abbrev pub last_token : ℕ
-last_token = 4294967295
+abbrev pub last_cancellation_token : ℕ
+last_cancellation_token = 4294967295
 
 -- whether a cancellation token is drawn
-abbrev pub draws_token : Draws → Bool
-draws_token TokenNumber = true
-draws_token draws = false
+abbrev pub draws_cancellation_token : Draws → Bool
+draws_cancellation_token CancellationNumber = true
+draws_cancellation_token draws = false
 
 -- the next token: as many were drawn before it
-abbrev pub next_token : List Entry → ℕ
-next_token [] = 0
-next_token (x ∷ past) = if draws_token (row_of x.event).draws then next_token past + 1 else next_token past
+abbrev pub next_cancellation_token : List Entry → ℕ
+next_cancellation_token [] = 0
+next_cancellation_token (x ∷ past) = if draws_cancellation_token (row_of x.event).draws then next_cancellation_token past + 1 else next_cancellation_token past
 
 -- whether an event cancels a token
 abbrev pub cancels : ℕ → ToGets → Bool
@@ -51,10 +51,10 @@ abbrev pub is_among : List ℕ → ℕ → Bool
 is_among taken token = list_any (λ other. other == token) taken
 
 -- the tokens behind a change of them, and the gets: those of a token that is taken end
-abbrev pub cancelling_after : TokenChange → Cancelling → Cancelling
+abbrev pub cancelling_after : CancellationChange → Cancelling → Cancelling
 cancelling_after Draw c = record c { next = c.next + 1 }
 cancelling_after (Take token) c = record c { taken = placed_by (λ n. n) token c.taken }
 
-abbrev pub asking_cancelled : TokenChange → Asking → Asking
+abbrev pub asking_cancelled : CancellationChange → Asking → Asking
 asking_cancelled Draw a = a
 asking_cancelled (Take token) a = without_token token a

@@ -8,7 +8,7 @@ use Rattle.zs_events.specs.Kinds.{Speaker, Application, Network, Row, asking_tok
 use Rattle.zs_core.specs.Entry.{Entry, is_closed}
 use Rattle.zs_core.specs.Held.{is_claimed, named_text}
 use Rattle.zs_core.specs.Live.{names_some, live_queryables, to_gets_of}
-use Rattle.zs_core.specs.Cancelling.{next_token, is_drawn, is_any, is_taken}
+use Rattle.zs_core.specs.Cancelling.{next_cancellation_token, is_drawn, is_any, is_taken}
 use Rattle.zs_core.specs.Counters.{lacks_number, next_value}
 use Rattle.zs_core.specs.Values.{met_by, values_now, lacks_values}
 use Rattle.zs_core.specs.Answers.{is_owed, is_disjoint}
@@ -46,7 +46,7 @@ past_sight s past e = record {
   lives = names_some past (row_of e).names;
   claimed = is_claimed past (row_of e).claims (named_text past e);
   owed = is_owed (values_now past) (row_of e).to_values;
-  drawn = is_drawn (next_token past) (token_named (row_of e).to_gets (row_of e).to_liveliness);
+  drawn = is_drawn (next_cancellation_token past) (token_named (row_of e).to_gets (row_of e).to_liveliness);
   cancelled = is_any (λ token. is_taken token past) (asking_token (row_of e).to_gets (row_of e).to_liveliness);
   disjoint = is_disjoint (values_now past) (row_of e).to_values (named_text past e);
   lacks =

@@ -8,15 +8,15 @@ use Rattle.zs_tables.specs.declared.subscriber.SubRow.{SubRow}
 use Rattle.zs_tables.specs.declared.queryable.QueryableRow.{QueryableRow}
 use Rattle.zs_core.specs.declared.declared_key.KeyHolders.{KeyHolders}
 use Rattle.zs_events.specs.declared.event.Event.{Event}
-use Rattle.zs_events.specs.declared.event.Event.TheVariants.{Key, UndeclareKey, Sub, Pub, Queryable, Querier, Undeclare, Background, Close, Net, Get, QuerierGet, Listen, CancelToken, Cancel, Tick, Reply as reply_event, ReplyDelete, Share, Finish, Token, Lsub, LivelinessGet}
-use Rattle.zs_events.specs.declared.event.EntityKind.TheVariants.{Sub as sub_kind, Pub as pub_kind, Queryable as queryable_sort, Querier as querier_sort, Listener as listener_sort, Token as token_sort, Lsub as lsub_sort}
-use Rattle.zs_events.specs.declared.event.BackgroundKind.TheVariants.{Sub as background_sub, Queryable as background_queryable, Listener as background_listener, Lsub as background_lsub}
-use Rattle.zs_events.specs.declared.event.KeyArg.{KeyArg}
-use Rattle.zs_events.specs.declared.event.KeyArg.TheVariants.{Number, Declared}
+use Rattle.zs_events.specs.declared.event.Event.TheVariants.{Key, UndeclareKey, Sub, Pub, Queryable, Querier, Undeclare, Background, Close, Net, Get, QuerierGet, Listen, CancelToken, Cancel, Tick, Reply as reply_event, Share, Finish, Token, Lsub, LivelinessGet}
+use Rattle.zs_events.specs.declared.entity_kind.EntityKind.TheVariants.{Sub as sub_kind, Pub as pub_kind, Queryable as queryable_sort, Querier as querier_sort, Listener as listener_sort, Token as token_sort, Lsub as lsub_sort}
+use Rattle.zs_events.specs.declared.entity_kind.BackgroundKind.TheVariants.{Sub as background_sub, Queryable as background_queryable, Listener as background_listener, Lsub as background_lsub}
+use Rattle.zs_events.specs.declared.key_arg.KeyArg.{KeyArg}
+use Rattle.zs_events.specs.declared.key_arg.KeyArg.TheVariants.{Number, Declared}
 use Rattle.zs_wire.specs.declared.message.Message.{Message}
 use Rattle.zs_wire.specs.declared.message.Message.TheVariants.{DeclareKeyExpr, Request as request_message, Response as response_message, ResponseFinal, DeclareToken as token_message, UndeclareToken as token_end_message, DeclareFinal, DeclareSubscriber, UndeclareSubscriber, DeclareQueryable, UndeclareQueryable}
 use Rattle.zs_core.specs.declared.change.Change.{Change}
-use Rattle.zs_core.specs.declared.change.Change.TheVariants.{Nothing, OfKeys, OfEntities, OfNetwork, OfGets, OfValues, OfTokens, Shut, OfLiveliness, OfMatching}
+use Rattle.zs_core.specs.declared.change.Change.TheVariants.{Nothing, OfKeys, OfEntities, OfNetwork, OfGets, OfValues, OfCancellation, Shut, OfLiveliness, OfMatching}
 use Rattle.zs_core.specs.declared.change.KeyChange.{KeyChange}
 use Rattle.zs_core.specs.declared.change.KeyChange.TheVariants.{Declare, Hold, Release}
 use Rattle.zs_core.specs.declared.change.EntityChange.{EntityChange}
@@ -27,8 +27,8 @@ use Rattle.zs_core.specs.declared.change.LivelinessChange.TheVariants.{DeclareTo
 use Rattle.zs_core.specs.declared.change.MatchingChange.TheVariants.{EndListener, LeaveListener, ForgetSub, ForgetQueryable}
 use Rattle.zs_core.specs.declared.change.ValueChange.{ValueChange}
 use Rattle.zs_core.specs.declared.change.ValueChange.TheVariants.{HandOut, AskHere, ShareOf, GiveBack}
-use Rattle.zs_core.specs.declared.change.TokenChange.{TokenChange}
-use Rattle.zs_core.specs.declared.change.TokenChange.TheVariants.{Draw, Take as TakeToken}
+use Rattle.zs_core.specs.declared.change.CancellationChange.{CancellationChange}
+use Rattle.zs_core.specs.declared.change.CancellationChange.TheVariants.{Draw, Take as TakeCancellationToken}
 use Rattle.zs_core.specs.declared.change.GetChange.{GetChange}
 use Rattle.zs_core.specs.declared.change.GetChange.TheVariants.{Ask, Take, Final, Advance}
 use Rattle.zs_wire.specs.declared.request.ConsolidationMode.TheVariants.{Auto}
@@ -49,22 +49,25 @@ use Rattle.zs_wire.specs.declared.request.Request.{Request}
 use Rattle.zs_sample.specs.Reply.{Replied}
 use Rattle.zs_core.specs.Answers.{local_reply}
 use Rattle.zs_core.specs.Values.{met_by_get, met_by_request, get_request, network_request, last_value, lacks_values}
-use Rattle.zs_events.specs.Kinds.{Question, QuerierQuestion, ReplyQuality, put_body, delete_body, response_key, parent_kind_of}
+use Rattle.zs_events.specs.Kinds.{Question, response_key, parent_kind_of}
+use Rattle.zs_events.specs.declared.inquiry.Inquiry.{Inquiry}
+use Rattle.zs_events.specs.declared.publication.PublisherSettings.{PublisherSettings}
+use Rattle.zs_events.specs.declared.publication.ReplyQuality.{ReplyQuality}
+use Rattle.zs_events.specs.Updates.{body_of}
 use Rattle.zs_core.specs.Questions.{row_waiting}
 use Rattle.zs_core.specs.Gets.{sample_reply}
 use Rattle.zs_core.specs.Settings.{last_entity, last_query, last_key}
 use Rattle.zs_core.specs.Counters.{is_spent}
-use Rattle.zs_wire.specs.declared.quality.QoSType.{QoSType}
 use Rattle.zs_tables.specs.Ascending.{placed_by}
 use Rattle.zs_tables.specs.Groups.{AllGroups}
 use Rattle.zs_core.specs.declared.publisher.PubRow.{PubRow}
 use Rattle.zs_core.specs.declared.settings.Settings.{Settings}
 use Rattle.zs_core.specs.Subscribers.{sub_at}
 use Rattle.zs_core.specs.Publishers.{pub_on, pub_at}
-use Rattle.zs_core.specs.declared.querier.QuerierSettings.{QuerierSettings}
+use Rattle.zs_events.specs.declared.inquiry.QuerySettings.{QuerySettings}
 use Rattle.zs_core.specs.declared.querier.QuerierRow.{QuerierRow}
 use Rattle.zs_core.specs.Queriers.{querier_on, querier_at, question_of}
-use Rattle.zs_core.specs.Cancelling.{last_token, cancelling_after, asking_cancelled}
+use Rattle.zs_core.specs.Cancelling.{last_cancellation_token, cancelling_after, asking_cancelled}
 use Rattle.zs_core.specs.Groups.{sub_shared, pub_shared, querier_shared, joined_by, left_found, no_groups}
 use Rattle.zs_core.specs.Liveliness.{shut_liveliness}
 use Rattle.zs_core.specs.LivelinessChanges.{lsub_change, asking_change, told_change, answered_change, liveliness_after, liveliness_by, liveliness_cancelled, next_behind, LivelinessFits}
@@ -90,9 +93,9 @@ sub_change id origin None = Nothing
 sub_change id origin (Some text) = OfEntities (AddSub (record { id = id; origin = origin; key = undeclared text }))
 
 -- a declared publisher
-abbrev pub pub_change : ℕ → Locality → KeyArg → List ℕ → QoSType → Bool → Option (List ℕ) → Change
-pub_change id destination key encoding qos reliable None = Nothing
-pub_change id destination key encoding qos reliable (Some text) = OfEntities (AddPub (pub_on id destination key encoding qos reliable text))
+abbrev pub pub_change : ℕ → KeyArg → PublisherSettings → Option (List ℕ) → Change
+pub_change id key settings None = Nothing
+pub_change id key settings (Some text) = OfEntities (AddPub (pub_on id key settings text))
 
 -- a declared queryable
 abbrev pub queryable_change : ℕ → Locality → Bool → Option (List ℕ) → Change
@@ -101,7 +104,7 @@ queryable_change id origin complete (Some text) =
     OfEntities (AddQueryable (record { id = id; origin = origin; complete = complete; key = undeclared text }))
 
 -- a declared querier
-abbrev pub querier_change : ℕ → KeyArg → QuerierSettings → Option (List ℕ) → Change
+abbrev pub querier_change : ℕ → KeyArg → QuerySettings → Option (List ℕ) → Change
 querier_change id key settings None = Nothing
 querier_change id key settings (Some text) = OfEntities (AddQuerier (querier_on id key settings text))
 
@@ -129,7 +132,7 @@ get_change w q (Some text) =
     (get_request w.asking.next text q) (met_by_get w.entities.queryables q text)
 
 -- a get of a querier, where that is live
-abbrev pub querier_get_change : World → QuerierQuestion → Option QuerierRow → Change
+abbrev pub querier_get_change : World → Inquiry → Option QuerierRow → Change
 querier_get_change w q None = Nothing
 querier_get_change w q (Some row) = get_change w (question_of row q) (Some row.key.text)
 
@@ -170,61 +173,28 @@ abbrev pub change_for : World → Event → Change
 change_for w (Key key) = key_change w (key_of w key)
 change_for w (UndeclareKey (Number number suffix)) = OfKeys (Release number)
 change_for w (UndeclareKey (Declared text number prefix_len)) = OfKeys (Release number)
-change_for w (Sub origin key) = sub_change w.counters.entity origin (key_of w key)
-change_for w (Pub destination key encoding qos reliable) = pub_change w.counters.entity destination key encoding qos reliable (key_of w key)
+change_for w (Sub origin key to) = sub_change w.counters.entity origin (key_of w key)
+change_for w (Pub key settings) = pub_change w.counters.entity key settings (key_of w key)
 change_for w (Queryable origin complete key) = queryable_change w.counters.entity origin complete (key_of w key)
 change_for w (Undeclare sub_kind id) = OfEntities (EndSub id)
 change_for w (Undeclare pub_kind id) = OfEntities (EndPub id)
 change_for w (Undeclare queryable_sort id) = OfEntities (EndQueryable id)
 change_for w (Undeclare querier_sort id) = OfEntities (EndQuerier id)
-change_for w (Querier destination key target consolidation timeout qos any_key) =
-    querier_change w.counters.entity key
-    (record {
-      destination = destination;
-      target = target;
-      consolidation = consolidation;
-      timeout = timeout;
-      qos = qos;
-      any_key = any_key;
-    })
-    (key_of w key)
+change_for w (Querier key settings) = querier_change w.counters.entity key settings (key_of w key)
 change_for w (Token key) = OfLiveliness (DeclareToken w.counters.entity)
 change_for w (Undeclare token_sort id) = OfLiveliness (EndToken id)
 change_for w (Lsub history key) = lsub_change w.counters.entity history (key_of w key)
 change_for w (Undeclare lsub_sort id) = OfLiveliness (EndLsub id)
 change_for w (Background background_lsub id) = OfLiveliness (LeaveLsub id)
-change_for w (LivelinessGet key timeout token) = asking_change w.settings.default_timeout w.asking.moment w.counters.entity timeout token (key_of w key)
+change_for w (LivelinessGet key timeout token to) = asking_change w.settings.default_timeout w.asking.moment w.counters.entity timeout token (key_of w key)
 change_for w (Background background_sub id) = OfEntities (LeaveSub id)
 change_for w (Background background_queryable id) = OfEntities (LeaveQueryable id)
-change_for w (Get destination key parameters target consolidation timeout value qos source attachment any_key token) =
-    get_change w
-    (record {
-      destination = destination;
-      parameters = parameters;
-      target = target;
-      consolidation = consolidation;
-      timeout = timeout;
-      value = value;
-      qos = qos;
-      source = source;
-      attachment = attachment;
-      any_key = any_key;
-      querier = None;
-      token = token;
-    })
-    (key_of w key)
-change_for w (QuerierGet id parameters value source attachment token) =
-    querier_get_change w
-    (record { parameters = parameters; value = value; source = source; attachment = attachment; token = token })
-    (querier_at id w.entities.queriers)
-change_for w CancelToken = OfTokens Draw
-change_for w (Cancel token) = OfTokens (TakeToken token)
-change_for w (reply_event value key payload encoding timestamp priority congestion express source attachment) =
-    answer_change w.settings.zid (record { priority = priority; congestion = congestion; express = express })
-    (put_body payload encoding timestamp source attachment) (value_at value w.handing.values) (key_of w key)
-change_for w (ReplyDelete value key timestamp priority congestion express source attachment) =
-    answer_change w.settings.zid (record { priority = priority; congestion = congestion; express = express })
-    (delete_body timestamp source attachment) (value_at value w.handing.values) (key_of w key)
+change_for w (Get key settings inquiry to) = get_change w (record { settings = settings; inquiry = inquiry; querier = None }) (key_of w key)
+change_for w (QuerierGet id inquiry to) = querier_get_change w inquiry (querier_at id w.entities.queriers)
+change_for w CancelToken = OfCancellation Draw
+change_for w (Cancel token) = OfCancellation (TakeCancellationToken token)
+change_for w (reply_event value key update quality) =
+    answer_change w.settings.zid quality (body_of [] update) (value_at value w.handing.values) (key_of w key)
 change_for w (Listen parent id) = listen_change (listening w.entities.pubs w.entities.queriers w.counters.entity (parent_kind_of parent) id)
 change_for w (Undeclare listener_sort id) = OfMatching (EndListener id)
 change_for w (Background background_listener id) = OfMatching (LeaveListener id)
@@ -382,7 +352,7 @@ with_change (OfValues change) w = record w {
   asking = asking_beside change w.handing.values w.asking;
   handing = handing_after change w.handing;
 }
-with_change (OfTokens change) w = record w {
+with_change (OfCancellation change) w = record w {
   asking = asking_cancelled change w.asking;
   liveliness = liveliness_cancelled change w.liveliness;
   cancelling = cancelling_after change w.cancelling;
@@ -428,9 +398,9 @@ ValuesFit w (AskHere get row met) =
 ValuesFit w (ShareOf value) = is_spent last_value w.handing.next ≡ false
 ValuesFit w (GiveBack value) = Unit {0}
 
-abbrev pub TokensFit : World → TokenChange → Type 0
-TokensFit w Draw = is_spent last_token w.cancelling.next ≡ false
-TokensFit w (TakeToken token) = Unit {0}
+abbrev pub CancellationFits : World → CancellationChange → Type 0
+CancellationFits w Draw = is_spent last_cancellation_token w.cancelling.next ≡ false
+CancellationFits w (TakeCancellationToken token) = Unit {0}
 
 abbrev pub Fits : World → Change → Type 0
 Fits w (OfKeys change) = KeysFit w change
@@ -438,6 +408,6 @@ Fits w (OfEntities change) = EntitiesFit w change
 Fits w (OfGets change) = GetsFit w change
 Fits w (OfLiveliness change) = LivelinessFits w.counters.entity change
 Fits w (OfValues change) = ValuesFit w change
-Fits w (OfTokens change) = TokensFit w change
+Fits w (OfCancellation change) = CancellationFits w change
 Fits w (OfMatching change) = MatchingFits w.counters.entity change
 Fits w change = Unit {0}

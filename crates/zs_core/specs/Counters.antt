@@ -2,12 +2,12 @@
 use Rattle.std.specs.Prelude.{ℕ, ◌+◌, ◌-◌, Bool, true, false, not, nat_lt, ◌&&◌, is_some, unwrap_or, List, [], ◌∷◌, Option, Some, None, if◌then◌else◌}
 use Rattle.zs_core.specs.declared.settings.Settings.{Settings}
 use Rattle.zs_core.specs.Settings.{last_entity, last_query, last_key}
-use Rattle.zs_events.specs.Kinds.{Draws, NoNumber, EntityNumber, QueryNumber, ValueNumber, TokenNumber, KeyNumber, StatusOf, row_of}
+use Rattle.zs_events.specs.Kinds.{Draws, NoNumber, EntityNumber, QueryNumber, ValueNumber, CancellationNumber, KeyNumber, StatusOf, row_of}
 use Rattle.zs_core.specs.Entry.{Entry}
 use Rattle.zs_core.specs.Held.{held_number}
 use Rattle.zs_core.specs.Values.{handing_of, last_value}
 use Rattle.zs_core.specs.Matching.{status_of}
-use Rattle.zs_core.specs.Cancelling.{last_token, next_token}
+use Rattle.zs_core.specs.Cancelling.{last_cancellation_token, next_cancellation_token}
 
 -- a counter that has no number left to draw, where this is the number behind the last
 abbrev pub is_spent : ℕ → ℕ → Bool
@@ -53,7 +53,7 @@ lacks_number s past NoNumber text = false
 lacks_number s past EntityNumber text = is_spent last_entity (next_entity s past)
 lacks_number s past QueryNumber text = is_spent last_query (next_query s past)
 lacks_number s past ValueNumber text = is_spent last_value (next_value past)
-lacks_number s past TokenNumber text = is_spent last_token (next_token past)
+lacks_number s past CancellationNumber text = is_spent last_cancellation_token (next_cancellation_token past)
 lacks_number s past (StatusOf kind id) text = false
 lacks_number s past KeyNumber None = false
 lacks_number s past KeyNumber (Some text) = not (is_some (held_number text past)) && is_spent last_key (next_key s past)
@@ -65,7 +65,7 @@ drawn_number s past NoNumber text = None
 drawn_number s past EntityNumber text = Some (next_entity s past)
 drawn_number s past QueryNumber text = Some (next_query s past)
 drawn_number s past ValueNumber text = Some (next_value past)
-drawn_number s past TokenNumber text = Some (next_token past)
+drawn_number s past CancellationNumber text = Some (next_cancellation_token past)
 drawn_number s past (StatusOf kind id) text = Some (status_of past kind id)
 drawn_number s past KeyNumber None = None
 drawn_number s past KeyNumber (Some text) = Some (unwrap_or (held_number text past) (next_key s past))

@@ -13,11 +13,11 @@ use Rattle.zs_events.specs.Kinds.{Publishes, NoContent, OwnContent, ByPublisher,
 use Rattle.zs_core.specs.Entry.{Entry, is_closed}
 use Rattle.zs_core.specs.Held.{held_text, held_count, held_number, named_text}
 use Rattle.zs_core.specs.Live.{live_subs, live_pubs, live_queryables, live_queriers, live_lsubs}
-use Rattle.zs_events.specs.declared.event.EntityKind.{EntityKind}
-use Rattle.zs_events.specs.declared.event.EntityKind.TheVariants.{Sub as sub_kind, Pub as pub_kind, Queryable as queryable_sort, Querier as querier_sort, Listener as listener_sort, Token as token_sort, Lsub as lsub_sort}
+use Rattle.zs_events.specs.declared.entity_kind.EntityKind.{EntityKind}
+use Rattle.zs_events.specs.declared.entity_kind.EntityKind.TheVariants.{Sub as sub_kind, Pub as pub_kind, Queryable as queryable_sort, Querier as querier_sort, Listener as listener_sort, Token as token_sort, Lsub as lsub_sort}
 use Rattle.zs_events.specs.declared.turn.Kind.TheVariants.{Subscriber, Queryable as queryable_kind, LivelinessSubscriber}
 use Rattle.zs_core.specs.declared.publisher.PubRow.{PubRow}
-use Rattle.zs_events.specs.declared.event.KeyArg.{KeyArg}
+use Rattle.zs_events.specs.declared.key_arg.KeyArg.{KeyArg}
 use Rattle.zs_wire.specs.declared.wire_expr.WireExpr.{WireExpr}
 use Rattle.zs_wire.specs.declared.message.Message.TheVariants.{DeclareSubscriber, DeclareQueryable, UndeclareQueryable, Interest, DeclareToken, UndeclareToken}
 use Rattle.zs_wire.specs.declared.interest.InterestMode.TheVariants.{CurrentFuture, Current, Future, Final}
@@ -135,11 +135,11 @@ token_declaration id wire = DeclareToken id wire None
 -- the declaration of a group that had no members is sent, and the end of one that has none left. A queryable has a declaration of
 -- its own, where the network is in its origin, and so has each token; a subscriber to liveliness and a get of tokens ask the network
 abbrev pub entity_sends : Known → Event → Option ℕ → Option (List ℕ) → List Effect
-entity_sends known (Sub origin key) (Some id) (Some text) =
+entity_sends known (Sub origin key to) (Some id) (Some text) =
     sends_if (joins_first (known.company Subscribers) (record { id = id; told = has_network origin; text = text }))
     (DeclareSubscriber id (group_wire (known.company Subscribers).aggregates text (key_wire known.keys text key)))
-entity_sends known (Pub destination key encoding qos reliable) (Some id) (Some text) =
-    sends_if (joins_first (known.company Publishers) (record { id = id; told = has_network destination; text = text }))
+entity_sends known (Pub key settings) (Some id) (Some text) =
+    sends_if (joins_first (known.company Publishers) (record { id = id; told = has_network settings.destination; text = text }))
     (Interest id CurrentFuture of_subscribers (Some (group_wire (known.company Publishers).aggregates text (key_wire known.keys text key))))
 entity_sends known (Undeclare sub_kind id) number text =
     leaving (known.company Subscribers) subscriber_end (option_map sub_shared (sub_at id known.subs))
@@ -148,8 +148,8 @@ entity_sends known (Undeclare pub_kind id) number text =
 entity_sends known (Queryable origin complete key) (Some id) (Some text) =
     sends_if (has_network origin) (DeclareQueryable id complete (key_wire known.keys text key))
 entity_sends known (Undeclare queryable_sort id) number text = queryable_leaves (queryable_at id known.queryables)
-entity_sends known (Querier destination key target consolidation timeout qos any_key) (Some id) (Some text) =
-    sends_if (joins_first (known.company Queriers) (record { id = id; told = has_network destination; text = text }))
+entity_sends known (Querier key settings) (Some id) (Some text) =
+    sends_if (joins_first (known.company Queriers) (record { id = id; told = has_network settings.destination; text = text }))
     (Interest id CurrentFuture of_queryables (Some (key_wire known.keys text key)))
 entity_sends known (Undeclare querier_sort id) number text =
     leaving (known.company Queriers) querier_end (option_map querier_shared (querier_at id known.queriers))
@@ -157,7 +157,7 @@ entity_sends known (Token key) number text = declared_sends token_declaration kn
 entity_sends known (Undeclare token_sort id) number text = Send (UndeclareToken id None None) ∷ []
 entity_sends known (Lsub history key) number text = declared_sends (token_interest (lsub_mode history)) known.keys number text key
 entity_sends known (Undeclare lsub_sort id) number text = Send (Interest id Final of_tokens None) ∷ []
-entity_sends known (LivelinessGet key timeout token) number text = declared_sends (token_interest Current) known.keys number text key
+entity_sends known (LivelinessGet key timeout token to) number text = declared_sends (token_interest Current) known.keys number text key
 entity_sends known e number text = []
 
 -- what an event is to gets

@@ -47,12 +47,12 @@ hand_query v = Hand (query_for v.queryable v.value (query_of v.row))
 -- a get that the network answers is sent
 abbrev pub request_sends : ℕ → WireExpr → ℕ → Question → List Effect
 request_sends default wire number question =
-    if has_network question.destination then Send (request_message (request_of default wire number question)) ∷ [] else []
+    if has_network question.settings.destination then Send (request_message (request_of default wire number question)) ∷ [] else []
 
 -- one that no queryable of this session answers ends at once, if the network doesn't either
 abbrev pub unmet_effects : ℕ → WireExpr → ℕ → Question → List Effect
 unmet_effects default wire number question =
-    if has_network question.destination then Send (request_message (request_of default wire number question)) ∷ [] else end_get number ∷ []
+    if has_network question.settings.destination then Send (request_message (request_of default wire number question)) ∷ [] else end_get number ∷ []
 
 -- what a get brings about that drew these values: it is handed to a queryable with each of them
 abbrev pub ask_effects : ℕ → WireExpr → ℕ → Question → List QueryValue → List Effect

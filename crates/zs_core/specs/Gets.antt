@@ -58,7 +58,7 @@ news_of zid values to does text = news_by to text
 
 -- what a get hears of its own event: where it meets no queryable to ask, this session's final is given at once
 abbrev pub own_news : ℕ → Question → List ℕ → List News
-own_news number question met = if has_session question.destination && not (is_some_met met) then FinalOf number Local ∷ [] else []
+own_news number question met = if has_session question.settings.destination && not (is_some_met met) then FinalOf number Local ∷ [] else []
 
 -- the get that an event to at a moment where these queryables are live, given the number that it drew and the text of its key
 abbrev pub asked_by : ℕ → ℕ → List QueryableRow → ToGets → Option ℕ → Option (List ℕ) → List Asked

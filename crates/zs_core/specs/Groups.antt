@@ -10,9 +10,10 @@ use Rattle.zs_tables.specs.declared.group_kind.GroupKind.TheVariants.{Subscriber
 use Rattle.zs_tables.specs.Recipients.{has_network}
 use Rattle.zs_tables.specs.declared.subscriber.SubRow.{SubRow}
 use Rattle.zs_wire.specs.declared.message.Message.{Message}
-use Rattle.zs_wire.specs.declared.message.Message.TheVariants.{UndeclareSubscriber, Interest}
-use Rattle.zs_wire.specs.declared.interest.InterestMode.TheVariants.{Final}
-use Rattle.zs_wire.specs.declared.interest.InterestWhat.TheVariants.{Subscribers as of_subscribers, Nothing as of_nothing}
+use Rattle.zs_wire.specs.declared.message.Message.TheVariants.{DeclareSubscriber, UndeclareSubscriber, Interest}
+use Rattle.zs_wire.specs.declared.interest.InterestMode.TheVariants.{CurrentFuture, Final}
+use Rattle.zs_wire.specs.declared.interest.InterestWhat.TheVariants.{Subscribers as of_subscribers, Queryables as of_queryables, Nothing as of_nothing}
+use Rattle.zs_wire.specs.declared.wire_expr.WireExpr.{WireExpr}
 use Rattle.zs_events.specs.declared.turn.Effect.{Effect}
 use Rattle.zs_events.specs.declared.turn.Effect.TheVariants.{Send}
 use Rattle.zs_core.specs.declared.publisher.PubRow.{PubRow}
@@ -48,7 +49,7 @@ abbrev pub sub_shared : SubRow → Shared
 sub_shared row = record { id = row.id; told = has_network row.origin; text = row.key.text }
 
 abbrev pub pub_shared : PubRow → Shared
-pub_shared row = record { id = row.id; told = has_network row.destination; text = row.key.text }
+pub_shared row = record { id = row.id; told = has_network row.settings.destination; text = row.key.text }
 
 abbrev pub querier_shared : QuerierRow → Shared
 querier_shared row = record { id = row.id; told = has_network row.settings.destination; text = row.key.text }
@@ -149,3 +150,14 @@ interest_end number = Interest number Final of_subscribers None
 
 abbrev pub querier_end : ℕ → Message
 querier_end number = Interest number Final of_nothing None
+
+-- the declaration of a group of a kind, by its number and the form of its key, and its end
+abbrev pub declaration_by : GroupKind → ℕ → WireExpr → Message
+declaration_by Subscribers id wire = DeclareSubscriber id wire
+declaration_by Publishers id wire = Interest id CurrentFuture of_subscribers (Some wire)
+declaration_by Queriers id wire = Interest id CurrentFuture of_queryables (Some wire)
+
+abbrev pub end_by : GroupKind → ℕ → Message
+end_by Subscribers = subscriber_end
+end_by Publishers = interest_end
+end_by Queriers = querier_end

@@ -1,6 +1,6 @@
 -- What the tables hold after every history, and how events are answered, told by the events alone: each law is the clause of a
 -- public function.
-use Rattle.std.specs.Prelude.{◌≡◌, ◌≤◌, ℕ, length, Bool, true, false, List, [], Option, Some, None, option_map, IsUtf8, if◌then◌else◌, ◌∷◌, ◌++◌, ◌==◌, not, filter}
+use Rattle.std.specs.Prelude.{◌≡◌, ◌≤◌, ℕ, length, Bool, true, false, List, [], Option, Some, None, option_map, IsUtf8, if◌then◌else◌, ◌∷◌, ◌++◌, ◌==◌, not, filter, is_some}
 use Rattle.std.specs.List.{AllByRecursion, find, list_any}
 use Rattle.std.specs.Option.{IfSome}
 use Rattle.zs_wire.specs.declared.wire_expr.Mapping.{Mapping}
@@ -11,10 +11,11 @@ use Rattle.zs_tables.specs.Numbers.{key_at}
 use Rattle.zs_tables.specs.Recipients.{matches, has_network}
 use Rattle.zs_events.specs.declared.event.Event.{Event}
 use Rattle.zs_events.specs.declared.event.Event.TheVariants.{Key}
-use Rattle.zs_events.specs.declared.event.KeyArg.{KeyArg}
+use Rattle.zs_events.specs.declared.key_arg.KeyArg.{KeyArg}
 use Rattle.zs_core.specs.declared.settings.Settings.{Settings}
 use Rattle.zs_events.specs.declared.turn.Refusal.{Refusal}
-use Rattle.zs_events.specs.Kinds.{row_of}
+use Rattle.zs_events.specs.Kinds.{is_numbered, row_of}
+use Rattle.zs_events.specs.declared.turn.Answer.TheVariants.{Ok as accepted}
 use Rattle.zs_core.specs.Entry.{is_closed, Entry}
 use Rattle.zs_core.specs.Held.{times_declared, is_held, held_text, held_count, key_text, told_text, mapped_text, named_text}
 use Rattle.zs_core.specs.Live.{live_subs, live_pubs, live_queryables, live_queriers, live_tokens, live_lsubs, live_listeners}
@@ -24,7 +25,7 @@ use Rattle.zs_core.specs.Counters.{next_entity, next_key, drawn_number, next_que
 use Rattle.zs_core.specs.Gets.{moment_of, open_now}
 use Rattle.zs_core.specs.Causes.{has_cause, refusal_of}
 use Rattle.zs_core.specs.Values.{handing_of}
-use Rattle.zs_core.specs.Cancelling.{next_token, is_among, is_taken}
+use Rattle.zs_core.specs.Cancelling.{next_cancellation_token, is_among, is_taken}
 use Rattle.zs_core.specs.Finals.{finals_among, finals_due, times_ended, is_over}
 use Rattle.zs_core.specs.Past.{past_of, entry_of}
 use Rattle.zs_core.specs.GetEffects.{ended_numbers}
@@ -149,12 +150,12 @@ RequestsEndOnce =
 abbrev pub CancellationsAreTold : Type 0
 CancellationsAreTold =
     (s : Settings) (h : List Event)
-    → ((world_after s h).cancelling.next ≡ next_token (past_of s h))
+    → ((world_after s h).cancelling.next ≡ next_cancellation_token (past_of s h))
     × ((token : ℕ) → is_among (world_after s h).cancelling.taken token ≡ is_taken token (past_of s h))
 
 -- no open get has a cancellation token that was taken: so a token that is cancelled again ends no get
-abbrev pub TakenTokensEndNothing : Type 0
-TakenTokensEndNothing =
+abbrev pub TakenCancellationTokensEndNothing : Type 0
+TakenCancellationTokensEndNothing =
     (s : Settings) (h : List Event) (token : ℕ)
     → is_taken token (past_of s h) ≡ true → ended_numbers (CancelledBy token) (open_now s (past_of s h)) ≡ []
 
@@ -171,6 +172,11 @@ abbrev pub NumbersAreDrawn : Type 0
 NumbersAreDrawn =
     (s : Settings) (h : List Event) (e : Event)
     → number_for (world_after s h) e ≡ drawn_number s (past_of s h) (row_of e).draws (named_text (past_of s h) e)
+
+-- an accepted event is answered a number exactly where its row draws one
+abbrev pub AnswersAreNumbered : Type 0
+AnswersAreNumbered =
+    (s : Settings) (h : List Event) (e : Event) (number : Option ℕ) → (effects s h e).answer ≡ accepted number → is_some number ≡ is_numbered (row_of e).draws
 
 -- a held text that is declared again is answered the number that it has
 abbrev pub HeldTextsKeepNumbers : Type 0

@@ -24,6 +24,7 @@ pub mod ValueEffects
 pub mod Past
 pub mod Effects
 pub mod Received
+pub mod Exchanges
 pub mod Finals
 pub mod Covered
 pub mod Bounds
@@ -34,6 +35,7 @@ pub mod HolderCounts
 pub mod Changes
 pub mod Turns
 pub mod Stands
+pub mod Plans
 pub mod Laws
 pub mod Liveliness
 pub mod LivelinessChanges

@@ -8,7 +8,7 @@ use Rattle.zs_tables.specs.declared.listener.Sought.TheVariants.{Subscribers, Qu
 use Rattle.zs_tables.specs.declared.listener.ListenerRow.{ListenerRow}
 use Rattle.zs_events.specs.declared.event.Event.{Event}
 use Rattle.zs_events.specs.declared.event.Event.TheVariants.{Listen, Undeclare, Close}
-use Rattle.zs_events.specs.declared.event.EntityKind.TheVariants.{Pub as pub_sort, Querier as querier_sort, Listener as listener_sort}
+use Rattle.zs_events.specs.declared.entity_kind.EntityKind.TheVariants.{Pub as pub_sort, Querier as querier_sort, Listener as listener_sort}
 use Rattle.zs_events.specs.declared.turn.Kind.{Kind}
 use Rattle.zs_events.specs.declared.turn.Kind.TheVariants.{Publisher, Querier, Listener as listener_kind}
 use Rattle.zs_events.specs.declared.turn.Effect.{Effect}
@@ -27,7 +27,7 @@ sought_by target = Queryables
 -- one that listens to a publisher, and to a querier, if it is live
 abbrev pub on_pub : ℕ → Option PubRow → List ListenerRow
 on_pub number None = []
-on_pub number (Some row) = record { id = number; parent = row.id; destination = row.destination; sought = Subscribers; key = row.key } ∷ []
+on_pub number (Some row) = record { id = number; parent = row.id; destination = row.settings.destination; sought = Subscribers; key = row.key } ∷ []
 
 abbrev pub on_querier : ℕ → Option QuerierRow → List ListenerRow
 on_querier number None = []

@@ -3,9 +3,9 @@ use Rattle.std.specs.Prelude.{ℕ, Bool, true, false, ◌==◌, ◌&&◌, ◌||�
 use Rattle.std.specs.List.{list_any}
 use Rattle.zs_events.specs.declared.event.Event.{Event}
 use Rattle.zs_events.specs.declared.event.Event.TheVariants.{Sub, Pub, Queryable, Querier, Undeclare, Background, Close, Token, Lsub}
-use Rattle.zs_events.specs.declared.event.EntityKind.{EntityKind}
-use Rattle.zs_events.specs.declared.event.EntityKind.TheVariants.{Sub as sub_kind, Pub as pub_kind, Queryable as queryable_sort, Querier as querier_sort, Listener as listener_sort, Token as token_sort, Lsub as lsub_sort}
-use Rattle.zs_events.specs.declared.event.BackgroundKind.TheVariants.{Sub as background_sub, Queryable as background_queryable, Listener as background_listener, Lsub as background_lsub}
+use Rattle.zs_events.specs.declared.entity_kind.EntityKind.{EntityKind}
+use Rattle.zs_events.specs.declared.entity_kind.EntityKind.TheVariants.{Sub as sub_kind, Pub as pub_kind, Queryable as queryable_sort, Querier as querier_sort, Listener as listener_sort, Token as token_sort, Lsub as lsub_sort}
+use Rattle.zs_events.specs.declared.entity_kind.BackgroundKind.TheVariants.{Sub as background_sub, Queryable as background_queryable, Listener as background_listener, Lsub as background_lsub}
 use Rattle.zs_events.specs.declared.turn.Kind.{Kind}
 use Rattle.zs_events.specs.declared.turn.Kind.TheVariants.{Subscriber, Publisher, Queryable as queryable_kind, Querier as querier_kind, Token as token_kind, LivelinessSubscriber, Listener}
 use Rattle.zs_tables.specs.declared.subscriber.SubRow.{SubRow}
@@ -74,10 +74,10 @@ is_of listener_sort kind = is_listener_kind kind
 
 -- whether a declaration of that kind drew this number
 abbrev pub drew : Kind → ℕ → Event → Option ℕ → Bool
-drew kind id (Sub origin key) (Some number) = is_subscriber kind && id == number
-drew kind id (Pub destination key encoding qos reliable) (Some number) = is_publisher kind && id == number
+drew kind id (Sub origin key to) (Some number) = is_subscriber kind && id == number
+drew kind id (Pub key settings) (Some number) = is_publisher kind && id == number
 drew kind id (Queryable origin complete key) (Some number) = is_queryable kind && id == number
-drew kind id (Querier destination key target consolidation timeout qos any_key) (Some number) = is_querier_kind kind && id == number
+drew kind id (Querier key settings) (Some number) = is_querier_kind kind && id == number
 drew kind id (Token key) (Some number) = is_token kind && id == number
 drew kind id (Lsub history key) (Some number) = is_lsub kind && id == number
 drew kind id e number = false

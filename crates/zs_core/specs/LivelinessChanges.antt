@@ -9,8 +9,8 @@ use Rattle.zs_core.specs.declared.change.Change.{Change}
 use Rattle.zs_core.specs.declared.change.Change.TheVariants.{Nothing, OfLiveliness}
 use Rattle.zs_core.specs.declared.change.GetChange.{GetChange}
 use Rattle.zs_core.specs.declared.change.GetChange.TheVariants.{Advance}
-use Rattle.zs_core.specs.declared.change.TokenChange.{TokenChange}
-use Rattle.zs_core.specs.declared.change.TokenChange.TheVariants.{Draw, Take}
+use Rattle.zs_core.specs.declared.change.CancellationChange.{CancellationChange}
+use Rattle.zs_core.specs.declared.change.CancellationChange.TheVariants.{Draw, Take}
 use Rattle.zs_core.specs.declared.change.LivelinessChange.{LivelinessChange}
 use Rattle.zs_core.specs.declared.change.LivelinessChange.TheVariants.{DeclareToken, EndToken, AddLsub, EndLsub, LeaveLsub, AskTokens, EndAsking, RecordToken, ForgetToken}
 use Rattle.zs_core.specs.Settings.{last_entity}
@@ -69,11 +69,11 @@ abbrev pub liveliness_by : GetChange → Liveliness → Liveliness
 liveliness_by change l = record l { gets = asking_by change l.gets }
 
 -- and behind a change of cancellation tokens: one that is taken ends its gets
-abbrev pub asking_left : TokenChange → List LivelinessGet → List LivelinessGet
+abbrev pub asking_left : CancellationChange → List LivelinessGet → List LivelinessGet
 asking_left Draw gets = gets
 asking_left (Take token) gets = without_token token gets
 
-abbrev pub liveliness_cancelled : TokenChange → Liveliness → Liveliness
+abbrev pub liveliness_cancelled : CancellationChange → Liveliness → Liveliness
 liveliness_cancelled change l = record l { gets = asking_left change l.gets }
 
 -- what a change takes for granted, given the next entity number: a number that it draws is that one, and is there

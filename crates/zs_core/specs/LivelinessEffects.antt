@@ -18,7 +18,9 @@ use Rattle.zs_events.specs.declared.turn.Effect.{Effect}
 use Rattle.zs_events.specs.declared.turn.Effect.TheVariants.{Hand, End}
 use Rattle.zs_events.specs.declared.turn.HandOver.TheVariants.{Sample as sample_for, Reply as reply_for}
 use Rattle.zs_events.specs.declared.turn.Kind.TheVariants.{LivelinessSubscriber, LivelinessGet as lget_kind}
-use Rattle.zs_events.specs.Kinds.{Content, default_encoding, ToLiveliness, NoToken, Subscribes, AsksTokens, TellsToken, EndsToken, EndsAnswers}
+use Rattle.zs_events.specs.Kinds.{ToLiveliness, NoToken, Subscribes, AsksTokens, TellsToken, EndsToken, EndsAnswers}
+use Rattle.zs_events.specs.declared.publication.Content.{Content}
+use Rattle.zs_events.specs.Updates.{default_encoding}
 use Rattle.zs_core.specs.Publications.{sample_on}
 use Rattle.zs_core.specs.Tokens.{answers, is_told}
 

@@ -9,9 +9,8 @@ use Rattle.zs_wire.specs.declared.sample_kind.SampleKind.TheVariants.{Put as put
 use Rattle.zs_sample.specs.Encoding.{encoding_of}
 use Rattle.zs_sample.specs.Quality.{priority_of}
 use Rattle.zs_tables.specs.Recipients.{has_session, has_network, recipients}
-use Rattle.zs_core.specs.declared.state.content.Content.{Content as named_content}
-use Rattle.zs_core.specs.declared.state.content.PublisherContent.{PublisherContent as named_publisher_content}
-use Rattle.zs_events.specs.Kinds.{Content, PublisherContent, default_encoding}
+use Rattle.zs_events.specs.declared.publication.Content.{Content}
+use Rattle.zs_events.specs.Updates.{default_encoding}
 use Rattle.zs_events.specs.declared.turn.Effect.{Effect}
 use Rattle.zs_events.specs.declared.turn.Effect.TheVariants.{Hand}
 use Rattle.zs_events.specs.declared.turn.HandOver.TheVariants.{Sample as sample_for}
@@ -32,27 +31,6 @@ reaches local destination origin =
 -- whether a subscriber is handed a publication: by locality, and by key
 abbrev pub allows : Publication → SubRow → Bool
 allows p row = reaches p.local p.destination row.origin && intersects p.sample.key_expr.text row.key.text
-
--- the publication but for its key that the code names
-abbrev pub content_by : named_content → Content
-content_by c = record {
-  local = c.local;
-  destination = c.destination;
-  body = c.body;
-  qos = c.qos;
-  reliable = c.reliable;
-}
-
--- what a publisher is told to publish that the code names
-abbrev pub published_content : named_publisher_content → PublisherContent
-published_content c = record {
-  kind = c.kind;
-  payload = c.payload;
-  encoding = c.encoding;
-  timestamp = c.timestamp;
-  source = c.source;
-  attachment = c.attachment;
-}
 
 -- the payload that is handed out: a deletion has none
 abbrev pub handed_payload : SampleKind → List (List ℕ) → List (List ℕ)

@@ -5,35 +5,22 @@ use Rattle.zs_keys.specs.Key.{undeclared}
 use Rattle.zs_keys.specs.declared.declaration.Declared.{Declared}
 use Rattle.zs_events.specs.declared.event.Event.{Event}
 use Rattle.zs_events.specs.declared.event.Event.TheVariants.{Querier}
-use Rattle.zs_events.specs.declared.event.KeyArg.{KeyArg}
-use Rattle.zs_events.specs.Kinds.{Question, QuerierQuestion, ToGets, NoGet, Asks, AsksBy}
-use Rattle.zs_core.specs.declared.querier.QuerierSettings.{QuerierSettings}
+use Rattle.zs_events.specs.declared.key_arg.KeyArg.{KeyArg}
+use Rattle.zs_events.specs.Kinds.{Question, ToGets, NoGet, Asks, AsksBy}
+use Rattle.zs_events.specs.declared.inquiry.Inquiry.{Inquiry}
+use Rattle.zs_events.specs.declared.inquiry.QuerySettings.{QuerySettings}
 use Rattle.zs_core.specs.declared.querier.QuerierRow.{QuerierRow}
 use Rattle.zs_core.specs.Publishers.{prefix_of}
 
 -- a querier on the key of this text
-abbrev pub querier_on : ℕ → KeyArg → QuerierSettings → List ℕ → QuerierRow
+abbrev pub querier_on : ℕ → KeyArg → QuerySettings → List ℕ → QuerierRow
 querier_on id key settings text = record { id = id; key = undeclared text; prefix = prefix_of key text; settings = settings }
 
 -- the querier that an event declares, given the number that it drew and the text of its key
 abbrev pub querier_row : Event → Option ℕ → Option (List ℕ) → List QuerierRow
-querier_row (Querier destination key target consolidation timeout qos any_key) (Some number) (Some text) =
-    querier_on number key
-    (record {
-      destination = destination;
-      target = target;
-      consolidation = consolidation;
-      timeout = timeout;
-      qos = qos;
-      any_key = any_key;
-    })
-    text
-    ∷ []
+querier_row (Querier key settings) (Some number) (Some text) =
+    querier_on number key settings text ∷ []
 querier_row e number text = []
-
--- the event that declares it
-abbrev pub querier_event : KeyArg → QuerierSettings → Event
-querier_event key s = Querier s.destination key s.target s.consolidation s.timeout s.qos s.any_key
 
 -- whether there is a querier of that number
 abbrev pub is_querier : ℕ → List QuerierRow → Bool
@@ -43,25 +30,12 @@ is_querier id rows = list_any (λ row. row.id == id) rows
 abbrev pub querier_at : ℕ → List QuerierRow → Option QuerierRow
 querier_at id rows = find (λ row. row.id == id) rows
 
--- what a get of a querier asks: most of it is what the querier says
-abbrev pub question_of : QuerierRow → QuerierQuestion → Question
-question_of row q = record {
-  destination = row.settings.destination;
-  parameters = q.parameters;
-  target = row.settings.target;
-  consolidation = row.settings.consolidation;
-  timeout = row.settings.timeout;
-  value = q.value;
-  qos = row.settings.qos;
-  source = q.source;
-  attachment = q.attachment;
-  any_key = row.settings.any_key;
-  querier = Some row.id;
-  token = q.token;
-}
+-- what a get of a querier asks: the querier says how
+abbrev pub question_of : QuerierRow → Inquiry → Question
+question_of row inquiry = record { settings = row.settings; inquiry = inquiry; querier = Some row.id }
 
 -- so it is a get, where the querier is live
-abbrev pub asks_of : QuerierQuestion → Option QuerierRow → ToGets
+abbrev pub asks_of : Inquiry → Option QuerierRow → ToGets
 asks_of q None = NoGet
 asks_of q (Some row) = Asks (question_of row q)
 

@@ -11,46 +11,20 @@ use Rattle.zs_wire.specs.declared.wire_expr.WireExpr.{WireExpr}
 use Rattle.zs_sample.specs.Encoding.{encoding_of}
 use Rattle.zs_tables.specs.Recipients.{has_session, has_network}
 use Rattle.zs_query.specs.declared.get_row.GetRow.{GetRow}
-use Rattle.zs_events.specs.declared.event.Event.{Event}
-use Rattle.zs_events.specs.declared.event.Event.TheVariants.{Get, QuerierGet}
-use Rattle.zs_events.specs.declared.event.KeyArg.{KeyArg}
-use Rattle.zs_events.specs.Kinds.{Question, QuerierQuestion}
-use Rattle.zs_core.specs.declared.state.questions.QuerierQuestion.{QuerierQuestion as named_querier_question}
+use Rattle.zs_events.specs.Kinds.{Question}
 use Rattle.zs_core.specs.declared.state.questions.Question.{Question as named_question}
 
--- the questions that the code names
+-- the question that the code names
 abbrev pub question_by : named_question → Question
-question_by q = record {
-  destination = q.destination;
-  parameters = q.parameters.now;
-  target = q.target;
-  consolidation = q.consolidation;
-  timeout = q.timeout;
-  value = q.value.now;
-  qos = q.qos;
-  source = q.source;
-  attachment = q.attachment.now;
-  any_key = q.any_key;
-  querier = q.querier;
-  token = q.token;
-}
-
-abbrev pub querier_question_by : named_querier_question → QuerierQuestion
-querier_question_by q = record {
-  parameters = q.parameters.now;
-  value = q.value.now;
-  source = q.source;
-  attachment = q.attachment.now;
-  token = q.token;
-}
+question_by q = record { settings = q.settings; inquiry = q.inquiry.now; querier = q.querier }
 
 -- its parameters, as the bytes of their text, without the signs at the end that say nothing there
 abbrev pub given_parameters : Question → List ℕ
-given_parameters q = trimmed_text (encode_utf8_all q.parameters)
+given_parameters q = trimmed_text (encode_utf8_all q.inquiry.parameters)
 
 -- and with the name that says that replies on any key are taken, where the get says so
 abbrev pub parameters_of : Question → List ℕ
-parameters_of q = if q.any_key then text_with any_key_name [] (given_parameters q) else given_parameters q
+parameters_of q = if q.settings.any_key then text_with any_key_name [] (given_parameters q) else given_parameters q
 
 -- which of the replies on one key are handed out: where that is left open, all of those in a range of time, else the newest
 abbrev pub mode_by : ConsolidationMode → Bool → ConsolidationMode
@@ -60,11 +34,11 @@ mode_by by.Monotonic timed = by.Monotonic
 mode_by by.Latest timed = by.Latest
 
 abbrev pub mode_of : Question → ConsolidationMode
-mode_of q = mode_by q.consolidation (contains_name time_name (given_parameters q))
+mode_of q = mode_by q.settings.consolidation (contains_name time_name (given_parameters q))
 
 -- how long it waits: what it says, or else what the settings say
 abbrev pub timeout_of : ℕ → Question → ℕ
-timeout_of default q = unwrap_or q.timeout default
+timeout_of default q = unwrap_or q.settings.timeout default
 
 -- the last moment that there is
 abbrev pub last_moment : ℕ
@@ -77,11 +51,11 @@ row_asked default moment number text q = record {
   key = undeclared text;
   any_key = contains_name any_key_name (parameters_of q);
   mode = mode_of q;
-  local_wanted = has_session q.destination;
-  network_wanted = has_network q.destination;
+  local_wanted = has_session q.settings.destination;
+  network_wanted = has_network q.settings.destination;
   deadline = min (moment + timeout_of default q) last_moment;
   querier = q.querier;
-  token = q.token;
+  token = q.inquiry.cancellation_token;
 }
 
 -- a value as it is sent: the empty encoding is the default
@@ -94,13 +68,13 @@ request_of default wire number q = record {
   rid = number;
   wire = wire;
   parameters = chars (parameters_of q);
-  target = q.target;
+  target = q.settings.target;
   consolidation = mode_of q;
   timeout = timeout_of default q;
-  value = option_map sent_value q.value;
-  qos = q.qos;
-  source = q.source;
-  attachment = q.attachment;
+  value = option_map sent_value q.inquiry.value;
+  qos = q.settings.qos;
+  source = q.inquiry.source;
+  attachment = q.inquiry.attachment;
 }
 
 -- whether anybody is met
@@ -111,11 +85,3 @@ is_some_met (queryable ∷ met) = true
 -- the row of a get that met these queryables, once this session's final is given where it met none
 abbrev pub row_waiting : ℕ → ℕ → ℕ → List ℕ → Question → List ℕ → GetRow
 row_waiting default moment number text q met = record (row_asked default moment number text q) { local_wanted = is_some_met met }
-
--- the event that asks it on a key, where no querier does
-abbrev pub get_event : KeyArg → Question → Event
-get_event key q = Get q.destination key q.parameters q.target q.consolidation q.timeout q.value q.qos q.source q.attachment q.any_key q.token
-
--- the event by which a querier asks one
-abbrev pub querier_get_event : ℕ → QuerierQuestion → Event
-querier_get_event id q = QuerierGet id q.parameters q.value q.source q.attachment q.token

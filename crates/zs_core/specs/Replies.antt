@@ -7,7 +7,7 @@ use Rattle.zs_wire.specs.declared.body.Body.{Body}
 use Rattle.zs_wire.specs.declared.body.Value.{Value}
 use Rattle.zs_wire.specs.declared.origin.EntityGlobalId.{EntityGlobalId}
 use Rattle.zs_wire.specs.declared.quality.QoSType.{QoSType}
-use Rattle.zs_events.specs.Kinds.{Content}
+use Rattle.zs_events.specs.declared.publication.Content.{Content}
 use Rattle.zs_core.specs.Publications.{sample_on}
 
 -- the sample of a reply has the reply's qualities, and was not lost on the way

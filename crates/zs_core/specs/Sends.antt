@@ -9,11 +9,12 @@ use Rattle.zs_wire.specs.declared.wire_expr.WireExpr.{WireExpr}
 use Rattle.zs_tables.specs.Recipients.{has_network}
 use Rattle.zs_events.specs.declared.event.Event.{Event}
 use Rattle.zs_events.specs.declared.event.Event.TheVariants.{Key, UndeclareKey, Close}
-use Rattle.zs_events.specs.declared.event.KeyArg.{KeyArg}
-use Rattle.zs_events.specs.declared.event.KeyArg.TheVariants.{Text, Number, Declared as declared_text}
+use Rattle.zs_events.specs.declared.key_arg.KeyArg.{KeyArg}
+use Rattle.zs_events.specs.declared.key_arg.KeyArg.TheVariants.{Text, Number, Declared as declared_text}
 use Rattle.zs_events.specs.declared.turn.Effect.{Effect}
 use Rattle.zs_events.specs.declared.turn.Effect.TheVariants.{Send}
-use Rattle.zs_events.specs.Kinds.{NamedKey, OwnKey, PublisherKey, QuerierKey, Content, Publishes, NoContent, OwnContent, ByPublisher, row_of}
+use Rattle.zs_events.specs.Kinds.{NamedKey, OwnKey, PublisherKey, QuerierKey, Publishes, NoContent, OwnContent, ByPublisher, row_of}
+use Rattle.zs_events.specs.declared.publication.Content.{Content}
 use Rattle.zs_keys.specs.Key.{Key as a_key}
 use Rattle.zs_core.specs.declared.publisher.PubRow.{PubRow}
 use Rattle.zs_core.specs.Publishers.{resolved}

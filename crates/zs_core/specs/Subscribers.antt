@@ -10,7 +10,7 @@ use Rattle.zs_tables.specs.declared.subscriber.SubRow.{SubRow}
 
 -- the subscriber that an event declares, given the number that it drew and the text of its key
 abbrev pub sub_row : Event → Option ℕ → Option (List ℕ) → List SubRow
-sub_row (Sub origin key) (Some number) (Some text) = record { id = number; origin = origin; key = undeclared text } ∷ []
+sub_row (Sub origin key to) (Some number) (Some text) = record { id = number; origin = origin; key = undeclared text } ∷ []
 sub_row e number text = []
 
 -- the subscriber of a number

@@ -19,7 +19,10 @@ use Rattle.zs_wire.specs.declared.response.Response.{Response}
 use Rattle.zs_wire.specs.declared.wire_expr.WireExpr.{WireExpr}
 use Rattle.zs_core.specs.Settings.{last_entity, last_query, last_key}
 use Rattle.zs_events.specs.Turn.{answered}
-use Rattle.zs_events.specs.Kinds.{Speaker, Application, Anytime, Network, NamedKey, OwnKey, PublisherKey, WireKey, ToGets, asking_token, token_named, Draws, NoNumber, EntityNumber, ValueNumber, TokenNumber, KeyNumber, StatusOf, Named, Content, Question, ReplyQuality, PublisherContent, Publishes, OwnContent, ByPublisher, Row, AnswersBy, AnswersError, said_by, publisher_named, row_of, QueryNumber, Answers, told_on, TellsToken}
+use Rattle.zs_events.specs.Kinds.{Speaker, Application, Anytime, Network, NamedKey, OwnKey, PublisherKey, WireKey, ToGets, asking_token, token_named, Draws, NoNumber, EntityNumber, ValueNumber, CancellationNumber, KeyNumber, StatusOf, Named, Question, Publishes, OwnContent, ByPublisher, Row, AnswersBy, AnswersError, said_by, publisher_named, row_of, QueryNumber, Answers, told_on, TellsToken}
+use Rattle.zs_events.specs.declared.publication.Content.{Content}
+use Rattle.zs_events.specs.declared.publication.ReplyQuality.{ReplyQuality}
+use Rattle.zs_events.specs.declared.update.Update.{Update}
 use Rattle.zs_core.specs.Seen.{Sight, is_not_found, is_unknown, is_bad_key}
 use Rattle.zs_core.specs.Counters.{is_spent}
 use Rattle.zs_core.specs.Values.{met_by, met_by_get, get_request, last_value, lacks_values}
@@ -29,7 +32,7 @@ use Rattle.std.specs.List.{list_any}
 use Rattle.zs_core.specs.Subscribers.{is_sub}
 use Rattle.zs_core.specs.Publishers.{is_pub, pub_at, resolved}
 use Rattle.zs_core.specs.Queriers.{is_querier, querier_at, querier_declaration, to_gets_by}
-use Rattle.zs_core.specs.Cancelling.{last_token, is_drawn, is_any, is_among}
+use Rattle.zs_core.specs.Cancelling.{last_cancellation_token, is_drawn, is_any, is_among}
 use Rattle.zs_core.specs.Tokens.{is_spared, is_pointless}
 use Rattle.zs_core.specs.Live.{is_subscriber, is_queryable}
 use Rattle.zs_core.specs.Sends.{OwnKeys, wire_form, declaration_of, prefix_declaration, publication_sends}
@@ -53,7 +56,7 @@ use Rattle.zs_core.specs.LivelinessEffects.{Watch, watch_effects, token_hands}
 use Rattle.zs_core.specs.declared.change.LivelinessChange.TheVariants.{ForgetToken}
 use Rattle.zs_wire.specs.declared.sample_kind.SampleKind.TheVariants.{Delete as delete_kind}
 use Rattle.zs_keys.specs.Text.{is_canonical}
-use Rattle.zs_events.specs.declared.event.KeyArg.{KeyArg}
+use Rattle.zs_events.specs.declared.key_arg.KeyArg.{KeyArg}
 use Rattle.zs_query.specs.declared.query_value.QueryValue.{QueryValue}
 use Rattle.zs_query.specs.declared.request_row.RequestRow.{RequestRow}
 use Rattle.zs_query.specs.declared.requests.Finished.{Finished}
@@ -104,7 +107,7 @@ has_run_out w NoNumber text = false
 has_run_out w EntityNumber text = is_spent last_entity w.counters.entity
 has_run_out w QueryNumber text = is_spent last_query w.asking.next
 has_run_out w ValueNumber text = is_spent last_value w.handing.next
-has_run_out w TokenNumber text = is_spent last_token w.cancelling.next
+has_run_out w CancellationNumber text = is_spent last_cancellation_token w.cancelling.next
 has_run_out w (StatusOf kind id) text = false
 has_run_out w KeyNumber None = false
 has_run_out w KeyNumber (Some text) = not (is_some (number_at text w.keys.own)) && is_spent last_key w.counters.key
@@ -115,7 +118,7 @@ number_of w NoNumber text = None
 number_of w EntityNumber text = Some w.counters.entity
 number_of w QueryNumber text = Some w.asking.next
 number_of w ValueNumber text = Some w.handing.next
-number_of w TokenNumber text = Some w.cancelling.next
+number_of w CancellationNumber text = Some w.cancelling.next
 number_of w (StatusOf kind id) text = Some (status_at w kind id)
 number_of w KeyNumber None = None
 number_of w KeyNumber (Some text) = Some (unwrap_or (number_at text w.keys.own) w.counters.key)
@@ -256,7 +259,7 @@ abbrev pub published_effects : World → ℕ → Option (List ℕ) → Publishes
 published_effects w id text publishes =
     publication_sends (own_keys_at w) (PublisherKey id) text publishes ++ hands_for w.entities.subs (publication_on text publishes) ++ []
 
-abbrev pub published_decision : World → ℕ → PublisherContent → Decision
+abbrev pub published_decision : World → ℕ → Update → Decision
 published_decision w id c =
     decision_of
     (first_cause (record (said_by Application) { key = PublisherKey id; names = publisher_named id })
@@ -339,7 +342,7 @@ met_decision w key q text met =
 -- what it makes of a get on this text, whose token was drawn, if it has one
 abbrev pub ask_decision : World → NamedKey → Question → List ℕ → Decision
 ask_decision w key q text =
-    if is_any (is_among w.cancelling.taken) q.token then decision_of (Some QueryCancelled) None [] Nothing
+    if is_any (is_among w.cancelling.taken) q.inquiry.cancellation_token then decision_of (Some QueryCancelled) None [] Nothing
     else if lacks_values w.handing.next (met_by_get w.entities.queryables q text) || is_spent last_query w.asking.next
     then decision_of (Some IdsExhausted) None [] Nothing
     else asked_decision w key q text (met_by_get w.entities.queryables q text)

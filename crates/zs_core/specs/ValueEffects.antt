@@ -15,7 +15,8 @@ use Rattle.zs_query.specs.Unfinished.{value_at, finished}
 use Rattle.zs_sample.specs.Reply.{Replied}
 use Rattle.zs_events.specs.declared.turn.Effect.{Effect}
 use Rattle.zs_events.specs.declared.turn.Effect.TheVariants.{Send}
-use Rattle.zs_events.specs.Kinds.{NamedKey, ReplyQuality, ToValues, NoValue, Requested, AnswersBy, AnswersError, SharesValue, GivesBack}
+use Rattle.zs_events.specs.Kinds.{NamedKey, ToValues, NoValue, Requested, AnswersBy, AnswersError, SharesValue, GivesBack}
+use Rattle.zs_events.specs.declared.publication.ReplyQuality.{ReplyQuality}
 use Rattle.zs_core.specs.Sends.{OwnKeys, full_wire, wire_form, declaration_of}
 use Rattle.zs_core.specs.GetEffects.{hand_reply, hand_query, reply_effects, final_effects}
 use Rattle.zs_core.specs.Answers.{quality_of, local_reply, local_error, response_by}

@@ -25,7 +25,7 @@ wants_complete target = false
 
 -- the queryables of these that a get on a text meets: none where this session isn't in its destination
 abbrev pub met_by_get : List QueryableRow → Question → List ℕ → List ℕ
-met_by_get rows q text = if has_session q.destination then met true (wants_complete q.target) text rows else []
+met_by_get rows q text = if has_session q.settings.destination then met true (wants_complete q.settings.target) text rows else []
 
 -- and those that a request from the network meets
 abbrev pub met_by_request : List QueryableRow → Request → List ℕ → List ℕ
@@ -44,10 +44,10 @@ get_request number text q = record {
   rid = number;
   key = undeclared text;
   parameters = chars (parameters_of q);
-  qos = q.qos;
-  source = q.source;
-  value = option_map sent_value q.value;
-  attachment = q.attachment;
+  qos = q.settings.qos;
+  source = q.inquiry.source;
+  value = option_map sent_value q.inquiry.value;
+  attachment = q.inquiry.attachment;
 }
 
 -- and what a request from the network to

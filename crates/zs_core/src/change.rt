@@ -119,7 +119,7 @@ pub enum ValueChange {
 
 /// What an accepted event makes of the cancellation tokens.
 #[derive(Drop)]
-pub enum TokenChange {
+pub enum CancellationChange {
     /// A token is made: it draws a number.
     Draw,
     /// A token is taken, and its gets end.
@@ -156,17 +156,17 @@ pub enum Change {
     OfGets(GetChange),
     OfLiveliness(LivelinessChange),
     OfValues(ValueChange),
-    OfTokens(TokenChange),
+    OfCancellation(CancellationChange),
     OfMatching(MatchingChange),
     /// The session is closed.
     Shut,
 }
 
-/// The turn of an event, and what the event changes.
+/// What a session makes of an event: its turn, and what it changes. `SessionState::plan` makes it.
 #[derive(Drop)]
 pub struct Decision {
-    pub turn: Turn,
-    pub change: Change,
+    pub(crate) turn: Turn,
+    pub(crate) change: Change,
 }
 
 impl Decision {
@@ -208,10 +208,18 @@ impl Decision {
         }
     }
 
-    /// The turn alone.
-    pub(crate) fn into_turn(self) -> Turn
-        ensures { result ≡ self.turn }
+    /// The turn.
+    pub fn turn(&self) -> &Turn
+        ensures { result.now ≡ self.now.turn }
     {
-        self.turn
+        &self.turn
+    }
+
+    /// The turn, and the change for `SessionState::apply`.
+    pub fn into_parts(self) -> (Turn, Change)
+        ensures turn { result.0 ≡ self.turn }
+        ensures change { result.1 ≡ self.change }
+    {
+        (self.turn, self.change)
     }
 }

@@ -1,6 +1,11 @@
 //! Laws over the definitions: each is the contract of a function that does nothing.
 
-ghost use Rattle.zs_core.specs.Laws.{TableIsLive, SubscribersAscend, PublishersAreLive, QueryablesAreLive, QueriersAreLive, GroupsAreLive, KeysAreHeld, HoldersAreCounted, KeysAreTold, CountersAreTold, ClosedIsTold, TextsAreNamed, NumbersAreDrawn, HeldTextsKeepNumbers, KeyNumbersAreNew, ListsAreTests, FirstCause, RefusalsHaveCauses, WireFormsAreRead, OneMessageAtMost, SubscribersAreCovered, GetsAreTold, MomentsAreTold, ValuesAreTold, TokensAreTold, CancellationsAreTold, TakenTokensEndNothing, FinalsAreDue, RequestsEndOnce, TokensAreLive, LsubsAreLive, AskingsAreTold, AskingsGoOn, ListenersAreLive, ToldAreLast, ListenersKnow, ListenersHearChanges, OthersHearNothing};
+ghost use Rattle.zs_core.specs.Laws.{AnswersAreNumbered, TableIsLive, SubscribersAscend, PublishersAreLive, QueryablesAreLive, QueriersAreLive, GroupsAreLive, KeysAreHeld, HoldersAreCounted, KeysAreTold, CountersAreTold, ClosedIsTold, TextsAreNamed, NumbersAreDrawn, HeldTextsKeepNumbers, KeyNumbersAreNew, ListsAreTests, FirstCause, RefusalsHaveCauses, WireFormsAreRead, OneMessageAtMost, SubscribersAreCovered, GetsAreTold, MomentsAreTold, ValuesAreTold, TokensAreTold, CancellationsAreTold, TakenCancellationTokensEndNothing, FinalsAreDue, RequestsEndOnce, TokensAreLive, LsubsAreLive, AskingsAreTold, AskingsGoOn, ListenersAreLive, ToldAreLast, ListenersKnow, ListenersHearChanges, OthersHearNothing};
+
+/// An accepted event is answered a number exactly where its kind draws one, or asks for a status.
+pub fn answers_are_numbered()
+    ensures { AnswersAreNumbered }
+{}
 
 /// After any history the table of subscribers holds those that were declared and not ended since, and no others.
 pub fn table_is_live()
@@ -107,8 +112,8 @@ pub fn cancellations_are_told()
 {}
 
 /// After any history no open get has a cancellation token that was taken: so one that is cancelled again ends no get.
-pub fn taken_tokens_end_nothing()
-    ensures { TakenTokensEndNothing }
+pub fn taken_cancellation_tokens_end_nothing()
+    ensures { TakenCancellationTokensEndNothing }
 {}
 
 /// A request from the network is sent its final at once where it meets no queryable, else when its last value is given back

@@ -1,5 +1,5 @@
+use zs_events::{PublisherSettings, Shared};
 use zs_keys::KeyExpr;
-use zs_sample::{Locality, QoSType, Text};
 
 /// A number of this session that stood for the first bytes of a key's text when the key was named.
 #[derive(Clone, Copy, Debug, PartialEq, Eq, Hash, Drop)]
@@ -13,13 +13,8 @@ pub struct Prefix {
 #[derive(Debug, Drop)]
 pub struct PubRow {
     pub id: u32,
-    /// Whom its publications are for.
-    pub destination: Locality,
     pub key: KeyExpr<'static>,
     /// The declared part of its key, if it was named by one.
     pub prefix: Option<Prefix>,
-    /// Of its puts that name none.
-    pub encoding: Text,
-    pub qos: QoSType,
-    pub reliable: bool,
+    pub settings: Shared<PublisherSettings>,
 }

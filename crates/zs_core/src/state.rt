@@ -1,20 +1,16 @@
-ghost use Rattle.std.specs.Prelude.{◌≡◌, None, [], IfOk, OnOk, OnErr};
-ghost use Rattle.zs_core.specs.Turns.{decision_of, decision, with_listeners, closed_cause};
+ghost use Rattle.std.specs.Prelude.{◌≡◌, None, [], true, IfOk, OnOk, OnErr};
+ghost use Rattle.zs_core.specs.Turns.{decision_of, decision, open_decision, with_listeners, closed_cause};
 ghost use Rattle.zs_core.specs.Changes.{Fits, with_change};
+ghost use Rattle.zs_core.specs.Exchanges.{is_exchange};
 
-use self::answers::ReplyQuality;
-use self::content::{
-    delete_body, error_value, local_content, publisher_delete, publisher_put, put_body,
-};
-use self::questions::{QuerierQuestion, Question};
 use crate::change::{Change, Decision};
+use crate::entity_table::EntityTable;
 use crate::id_set::IdSet;
 use crate::key_holders::KeyHolderCounts;
 use crate::liveliness::Liveliness;
 use crate::matching::Matching;
-use crate::pub_table::PubTable;
-use crate::querier::QuerierSettings;
-use crate::querier_table::QuerierTable;
+use crate::publisher::PubRow;
+use crate::querier::QuerierRow;
 use crate::settings::Settings;
 use std::alloc::{AllocError, Global};
 use std::marker::Model;
@@ -60,9 +56,9 @@ pub struct SessionState {
     next_key: u16,
     tables: Tables,
     holders: KeyHolderCounts,
-    publishers: PubTable,
+    publishers: EntityTable<PubRow>,
     queryables: QueryableTable,
-    queriers: QuerierTable,
+    queriers: EntityTable<QuerierRow>,
     left_subs: IdSet,
     left_queryables: IdSet,
     groups: Groups,
@@ -70,8 +66,8 @@ pub struct SessionState {
     liveliness: Liveliness,
     matching: Matching,
     handing: RequestTable,
-    next_token: u32,
-    taken_tokens: IdSet,
+    next_cancellation_token: u32,
+    taken_cancellation_tokens: IdSet,
 }
 
 impl Model for SessionState {
@@ -98,7 +94,7 @@ impl Model for SessionState {
       liveliness = s.liveliness;
       matching = shown s.matching;
       handing = s.handing;
-      cancelling = record { next = s.next_token; taken = s.taken_tokens };
+      cancelling = record { next = s.next_cancellation_token; taken = s.taken_cancellation_tokens };
     } };
 
     ghost use Rattle.zs_core.specs.Bounds.{AreBelow};
@@ -130,251 +126,107 @@ impl SessionState {
         if self.closed {
             return Ok(closed_decision(self.alloc, event));
         }
+        self.decide_open(event)
+    }
+
+    /// What an open session makes of an event.
+    fn decide_open(&self, event: &Event) -> Result<Decision, AllocError>
+        ensures { IfOk result (λ made. made ≡ open_decision self.now event.now) }
+    {
         match event {
             Event::Key { key } => self.decide_key(key),
             Event::UndeclareKey { key } => self.decide_undeclare_key(key),
-            Event::Sub { origin, key } => self.decide_sub(*origin, key),
-            Event::Undeclare {
-                kind: EntityKind::Sub,
-                id,
-            } => self.decide_undeclare_sub(*id),
-            Event::Pub {
-                destination,
-                key,
-                encoding,
-                qos,
-                reliable,
-            } => self.decide_pub(*destination, key, encoding, *qos, *reliable),
-            Event::Undeclare {
-                kind: EntityKind::Pub,
-                id,
-            } => self.decide_undeclare_pub(*id),
+            Event::Sub { origin, key, .. } => self.decide_sub(*origin, key),
+            Event::Pub { key, settings } => self.decide_pub(key, settings),
             Event::Queryable {
                 origin,
                 complete,
                 key,
             } => self.decide_queryable(*origin, *complete, key),
-            Event::Undeclare {
-                kind: EntityKind::Queryable,
-                id,
-            } => self.decide_undeclare_queryable(*id),
-            Event::Querier {
-                destination,
-                key,
-                target,
-                consolidation,
-                timeout,
-                qos,
-                any_key,
-            } => {
-                let settings = QuerierSettings {
-                    destination: *destination,
-                    target: *target,
-                    consolidation: *consolidation,
-                    timeout: *timeout,
-                    qos: *qos,
-                    any_key: *any_key,
-                };
-                self.decide_querier(key, settings)
-            }
-            Event::Undeclare {
-                kind: EntityKind::Querier,
-                id,
-            } => self.decide_undeclare_querier(*id),
-            Event::Token { key } => self.decide_token(key),
-            Event::Undeclare {
-                kind: EntityKind::Token,
-                id,
-            } => self.decide_undeclare_token(*id),
-            Event::Lsub { history, key } => self.decide_lsub(*history, key),
-            Event::Undeclare {
-                kind: EntityKind::Lsub,
-                id,
-            } => self.decide_undeclare_lsub(*id),
-            Event::Background {
-                kind: BackgroundKind::Lsub,
-                id,
-            } => self.decide_background_lsub(*id),
-            Event::LivelinessGet {
-                key,
-                timeout,
-                token,
-            } => self.decide_liveliness_get(key, *timeout, *token),
-            Event::Background {
-                kind: BackgroundKind::Sub,
-                id,
-            } => self.decide_background_sub(*id),
-            Event::Background {
-                kind: BackgroundKind::Queryable,
-                id,
-            } => self.decide_background_queryable(*id),
-            Event::Put {
-                destination,
-                key,
-                payload,
-                encoding,
-                timestamp,
-                qos,
-                reliable,
-                source,
-                attachment,
-            } => {
-                let body = put_body(
-                    self.alloc, payload, encoding, *timestamp, *source, attachment,
-                )?;
-                self.decide_own(key, local_content(*destination, body, *qos, *reliable))
-            }
-            Event::Delete {
-                destination,
-                key,
-                timestamp,
-                qos,
-                reliable,
-                source,
-                attachment,
-            } => {
-                let body = delete_body(self.alloc, *timestamp, *source, attachment)?;
-                self.decide_own(key, local_content(*destination, body, *qos, *reliable))
-            }
-            Event::PublisherPut {
-                id,
-                payload,
-                encoding,
-                timestamp,
-                source,
-                attachment,
-            } => {
-                let content = publisher_put(
-                    self.alloc, payload, encoding, *timestamp, *source, attachment,
-                )?;
-                self.decide_published(*id, content)
-            }
-            Event::PublisherDelete {
-                id,
-                timestamp,
-                source,
-                attachment,
-            } => {
-                let content = publisher_delete(self.alloc, *timestamp, *source, attachment)?;
-                self.decide_published(*id, content)
-            }
-            Event::Get {
-                destination,
-                key,
-                parameters,
-                target,
-                consolidation,
-                timeout,
-                value,
-                qos,
-                source,
-                attachment,
-                any_key,
-                token,
-            } => {
-                let question = Question {
-                    destination: *destination,
-                    parameters,
-                    target: *target,
-                    consolidation: *consolidation,
-                    timeout: *timeout,
-                    value,
-                    qos: *qos,
-                    source: *source,
-                    attachment,
-                    any_key: *any_key,
-                    querier: None,
-                    token: *token,
-                };
-                self.decide_get(key, question)
-            }
-            Event::QuerierGet {
-                id,
-                parameters,
-                value,
-                source,
-                attachment,
-                token,
-            } => {
-                let question = QuerierQuestion {
-                    parameters,
-                    value,
-                    source: *source,
-                    attachment,
-                    token: *token,
-                };
-                self.decide_querier_get(*id, question)
-            }
-            Event::CancelToken => self.decide_cancel_token(),
-            Event::Cancel { token } => self.decide_cancel(*token),
-            Event::Reply {
-                value,
-                key,
-                payload,
-                encoding,
-                timestamp,
-                priority,
-                congestion,
-                express,
-                source,
-                attachment,
-            } => {
-                let body = put_body(
-                    self.alloc, payload, encoding, *timestamp, *source, attachment,
-                )?;
-                let quality = ReplyQuality {
-                    priority: *priority,
-                    congestion: *congestion,
-                    express: *express,
-                };
-                self.decide_answer(*value, key, body, quality)
-            }
-            Event::ReplyDelete {
-                value,
-                key,
-                timestamp,
-                priority,
-                congestion,
-                express,
-                source,
-                attachment,
-            } => {
-                let body = delete_body(self.alloc, *timestamp, *source, attachment)?;
-                let quality = ReplyQuality {
-                    priority: *priority,
-                    congestion: *congestion,
-                    express: *express,
-                };
-                self.decide_answer(*value, key, body, quality)
-            }
-            Event::ReplyErr {
-                value,
-                payload,
-                encoding,
-            } => {
-                let error = error_value(self.alloc, payload, encoding)?;
-                self.decide_error_answer(*value, error)
-            }
+            Event::Querier { key, settings } => self.decide_querier(key, *settings),
             Event::Listen { parent, id } => self.decide_listen(*parent, *id),
             Event::Status { parent, id } => self.decide_status(*parent, *id),
-            Event::Undeclare {
-                kind: EntityKind::Listener,
-                id,
-            } => self.decide_undeclare_listener(*id),
-            Event::Background {
-                kind: BackgroundKind::Listener,
-                id,
-            } => self.decide_background_listener(*id),
+            Event::Token { key } => self.decide_token(key),
+            Event::Lsub { history, key } => self.decide_lsub(*history, key),
+            Event::Undeclare { kind, id } => self.decide_undeclare(*kind, *id),
+            Event::Background { kind, id } => self.decide_background(*kind, *id),
+            Event::CancelToken => self.decide_cancel_token(),
+            Event::Cancel { token } => self.decide_cancel(*token),
             Event::Share { value } => self.decide_share(*value),
             Event::Finish { value } => self.decide_finish(*value),
             Event::Tick { now } => self.decide_tick(*now),
             Event::Close => self.decide_close(),
-            Event::Net(message) => self.decide_message(message),
+            Event::Net(message) => self.decide_message(message.get()),
+            _ => self.decide_exchange(event),
         }
     }
 
-    /// Makes a change. At an `Err` the session is as it was.
-    fn apply(&mut self, change: Change) -> Result<(), AllocError>
+    /// What it makes of one by which the application says values, asks for them or answers.
+    fn decide_exchange(&self, event: &Event) -> Result<Decision, AllocError>
+        requires { is_exchange event.now ≡ true }
+        ensures { IfOk result (λ made. made ≡ open_decision self.now event.now) }
+    {
+        match event {
+            Event::Publish {
+                destination,
+                key,
+                update,
+                quality,
+            } => self.decide_publish(*destination, key, update.get(), *quality),
+            Event::PublishBy { id, update } => self.decide_published(*id, update.get()),
+            Event::Get {
+                key,
+                settings,
+                inquiry,
+                ..
+            } => self.decide_get(key, *settings, inquiry.get()),
+            Event::QuerierGet { id, inquiry, .. } => self.decide_querier_get(*id, inquiry.get()),
+            Event::LivelinessGet {
+                key,
+                timeout,
+                cancellation_token,
+                ..
+            } => self.decide_liveliness_get(key, *timeout, *cancellation_token),
+            Event::Reply {
+                value,
+                key,
+                update,
+                quality,
+            } => self.decide_reply_to(*value, key, update.get(), *quality),
+            Event::ReplyErr { value, error } => self.decide_error_to(*value, error.get()),
+            _ => unreachable!(),
+        }
+    }
+
+    /// What an open session makes of the end of an entity.
+    fn decide_undeclare(&self, kind: EntityKind, id: u32) -> Result<Decision, AllocError>
+        ensures { IfOk result (λ made. made ≡ open_decision self.now (Event.Undeclare kind id)) }
+    {
+        match kind {
+            EntityKind::Sub => self.decide_undeclare_sub(id),
+            EntityKind::Pub => self.decide_undeclare_pub(id),
+            EntityKind::Queryable => self.decide_undeclare_queryable(id),
+            EntityKind::Querier => self.decide_undeclare_querier(id),
+            EntityKind::Listener => self.decide_undeclare_listener(id),
+            EntityKind::Token => self.decide_undeclare_token(id),
+            EntityKind::Lsub => self.decide_undeclare_lsub(id),
+        }
+    }
+
+    /// What it makes of one that is left to itself.
+    fn decide_background(&self, kind: BackgroundKind, id: u32) -> Result<Decision, AllocError>
+        ensures { IfOk result (λ made. made ≡ open_decision self.now (Event.Background kind id)) }
+    {
+        match kind {
+            BackgroundKind::Sub => self.decide_background_sub(id),
+            BackgroundKind::Queryable => self.decide_background_queryable(id),
+            BackgroundKind::Listener => self.decide_background_listener(id),
+            BackgroundKind::Lsub => self.decide_background_lsub(id),
+        }
+    }
+
+    /// Makes a change that fits. At an `Err` the session is as it was.
+    pub fn apply(&mut self, change: Change) -> Result<(), AllocError>
         requires { Fits self.old change }
         ensures ok { OnOk result (self.new ≡ with_change change self.old) }
         ensures err { OnErr result (self.new ≡ self.old) }
@@ -387,7 +239,7 @@ impl SessionState {
             Change::OfGets(change) => self.change_gets(change),
             Change::OfLiveliness(change) => self.change_liveliness(change),
             Change::OfValues(change) => self.change_values(change),
-            Change::OfTokens(change) => self.change_tokens(change),
+            Change::OfCancellation(change) => self.change_cancellation(change),
             Change::OfMatching(change) => self.change_matching(change),
             Change::Shut => {
                 self.shut();
@@ -405,7 +257,6 @@ fn closed_decision(alloc: Global, event: &Event) -> Decision
         Event::Undeclare { .. }
         | Event::Background { .. }
         | Event::Reply { .. }
-        | Event::ReplyDelete { .. }
         | Event::ReplyErr { .. }
         | Event::Finish { .. }
         | Event::Cancel { .. }
@@ -426,10 +277,8 @@ fn closed_decision(alloc: Global, event: &Event) -> Decision
         | Event::Status { .. }
         | Event::CancelToken
         | Event::Share { .. }
-        | Event::Put { .. }
-        | Event::Delete { .. }
-        | Event::PublisherPut { .. }
-        | Event::PublisherDelete { .. }
+        | Event::Publish { .. }
+        | Event::PublishBy { .. }
         | Event::Get { .. } => Decision::refused(alloc, Refusal::SessionClosedError),
     }
 }

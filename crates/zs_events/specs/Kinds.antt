@@ -1,18 +1,27 @@
 -- Each kind of event, said once: who says it, the key that it names, what it draws, whom it names and what it publishes, with the
 -- texts in them. What is said of all events is read off these rows.
-use Rattle.std.specs.Prelude.{ℕ, Bool, true, false, not, ◌==◌, List, [], ◌∷◌, length, Option, Some, None, codes, encode_utf8_all, if◌then◌else◌}
+use Rattle.std.specs.Prelude.{ℕ, Bool, true, false, not, ◌==◌, ◌&&◌, List, [], ◌∷◌, length, Option, Some, None, encode_utf8_all, if◌then◌else◌}
 use Rattle.zs_events.specs.declared.event.Event.{Event}
-use Rattle.zs_events.specs.declared.event.Event.TheVariants.{Key, UndeclareKey, Sub, Pub, Undeclare, Background, Put, Delete, PublisherPut, PublisherDelete, Close, Net, Get, Tick, Queryable, Reply as reply_event, ReplyDelete, ReplyErr, Share, Finish, Querier, QuerierGet, CancelToken, Cancel, Listen, Status, Token, Lsub, LivelinessGet}
-use Rattle.zs_events.specs.declared.event.EntityKind.{EntityKind}
-use Rattle.zs_events.specs.declared.event.EntityKind.TheVariants.{Sub as sub_kind, Pub as pub_kind, Queryable as queryable_kind, Querier as querier_kind, Listener as listener_kind, Token as token_kind, Lsub as lsub_kind}
-use Rattle.zs_events.specs.declared.event.BackgroundKind.{BackgroundKind}
-use Rattle.zs_events.specs.declared.event.BackgroundKind.TheVariants.{Sub as background_sub, Queryable as background_queryable, Listener as background_listener, Lsub as background_lsub}
-use Rattle.zs_events.specs.declared.event.ParentKind.{ParentKind}
-use Rattle.zs_events.specs.declared.event.ParentKind.TheVariants.{Pub as pub_parent, Querier as querier_parent}
-use Rattle.zs_events.specs.declared.event.KeyArg.{KeyArg}
-use Rattle.zs_events.specs.declared.event.KeyArg.TheVariants.{Text, Number, Declared}
+use Rattle.zs_events.specs.declared.event.Event.TheVariants.{Key, UndeclareKey, Sub, Pub, Undeclare, Background, Publish, PublishBy, Close, Net, Get, Tick, Queryable, Reply as reply_event, ReplyErr, Share, Finish, Querier, QuerierGet, CancelToken, Cancel, Listen, Status, Token, Lsub, LivelinessGet}
+use Rattle.zs_events.specs.declared.entity_kind.EntityKind.{EntityKind}
+use Rattle.zs_events.specs.declared.entity_kind.EntityKind.TheVariants.{Sub as sub_kind, Pub as pub_kind, Queryable as queryable_kind, Querier as querier_kind, Listener as listener_kind, Token as token_kind, Lsub as lsub_kind}
+use Rattle.zs_events.specs.declared.entity_kind.BackgroundKind.{BackgroundKind}
+use Rattle.zs_events.specs.declared.entity_kind.BackgroundKind.TheVariants.{Sub as background_sub, Queryable as background_queryable, Listener as background_listener, Lsub as background_lsub}
+use Rattle.zs_events.specs.declared.entity_kind.ParentKind.{ParentKind}
+use Rattle.zs_events.specs.declared.entity_kind.ParentKind.TheVariants.{Pub as pub_parent, Querier as querier_parent}
+use Rattle.zs_events.specs.declared.key_arg.KeyArg.{KeyArg}
+use Rattle.zs_events.specs.declared.key_arg.KeyArg.TheVariants.{Text, Number, Declared}
 use Rattle.zs_events.specs.declared.turn.Kind.{Kind}
-use Rattle.zs_events.specs.declared.turn.Kind.TheVariants.{Subscriber, Publisher, Queryable as kind_queryable, Querier as kind_querier, Listener as kind_listener, Token as kind_token, LivelinessSubscriber}
+use Rattle.zs_events.specs.declared.turn.Kind.TheVariants.{Subscriber, Publisher, Queryable as kind_queryable, Querier as kind_querier, Listener as kind_listener, Token as kind_token, LivelinessSubscriber, Get as kind_get, LivelinessGet as kind_tokens}
+use Rattle.zs_events.specs.declared.chan.Chan.{Chan}
+use Rattle.zs_events.specs.declared.chan.Chan.TheVariants.{Print}
+use Rattle.zs_events.specs.declared.inquiry.Inquiry.{Inquiry}
+use Rattle.zs_events.specs.declared.inquiry.QuerySettings.{QuerySettings}
+use Rattle.zs_events.specs.declared.publication.Content.{Content}
+use Rattle.zs_events.specs.declared.publication.PublicationQuality.{PublicationQuality}
+use Rattle.zs_events.specs.declared.publication.ReplyQuality.{ReplyQuality}
+use Rattle.zs_events.specs.declared.update.Update.{Update}
+use Rattle.zs_events.specs.Updates.{body_of, texts_by}
 use Rattle.zs_sample.specs.Encoding.{encoding_of}
 use Rattle.zs_sample.specs.declared.locality.Locality.{Locality}
 use Rattle.zs_sample.specs.declared.locality.Locality.TheVariants.{Any}
@@ -20,19 +29,11 @@ use Rattle.zs_wire.specs.declared.body.Body.{Body}
 use Rattle.zs_wire.specs.declared.body.Value.{Value}
 use Rattle.zs_wire.specs.declared.message.Message.{Message}
 use Rattle.zs_wire.specs.declared.message.Message.TheVariants.{DeclareKeyExpr, UndeclareKeyExpr, DeclareSubscriber, UndeclareSubscriber, DeclareQueryable, UndeclareQueryable, DeclareToken, UndeclareToken, DeclareFinal, Interest, Push as push_message, Request as request_message, Response as response_message, ResponseFinal, Close as close_message}
-use Rattle.zs_wire.specs.declared.origin.SourceInfo.{SourceInfo}
-use Rattle.zs_wire.specs.declared.origin.Timestamp.{Timestamp}
 use Rattle.zs_wire.specs.declared.push.Push.{Push}
-use Rattle.zs_wire.specs.declared.quality.QoSType.{QoSType}
-use Rattle.zs_wire.specs.declared.quality.CongestionControl.{CongestionControl}
-use Rattle.zs_wire.specs.declared.request.ConsolidationMode.{ConsolidationMode}
-use Rattle.zs_wire.specs.declared.request.QueryTarget.{QueryTarget}
 use Rattle.zs_wire.specs.declared.request.Request.{Request}
 use Rattle.zs_wire.specs.declared.response.Answered.{Answered}
 use Rattle.zs_wire.specs.declared.response.Answered.TheVariants.{Reply, Err as Error}
 use Rattle.zs_wire.specs.declared.response.Response.{Response}
-use Rattle.zs_wire.specs.declared.sample_kind.SampleKind.{SampleKind}
-use Rattle.zs_wire.specs.declared.sample_kind.SampleKind.TheVariants.{Put as put_kind, Delete as delete_kind}
 use Rattle.zs_wire.specs.declared.wire_expr.WireExpr.{WireExpr}
 
 -- who says an event: the application, to an open session alone or at any time, or the network
@@ -56,80 +57,44 @@ pub data Draws : Type 0 where
   EntityNumber : Draws
   QueryNumber : Draws
   ValueNumber : Draws
-  TokenNumber : Draws
+  CancellationNumber : Draws
   KeyNumber : Draws
   StatusOf : (kind : Kind) (id : ℕ) → Draws
+
+-- whether a number is answered
+abbrev pub is_numbered : Draws → Bool
+is_numbered NoNumber = false
+is_numbered draws = true
 
 -- an entity by its kind and number
 pub record Named : Type 0 where
   pub kind : Kind
   pub id : ℕ
 
--- a publication but for its key: made here for a destination, or come in
-pub record Content : Type 0 where
-  pub local : Bool
-  pub destination : Locality
-  pub body : Body
-  pub qos : QoSType
-  pub reliable : Bool
-
--- what a publisher is told to publish: without an encoding it has the publisher's
-pub record PublisherContent : Type 0 where
-  pub kind : SampleKind
-  pub payload : List (List ℕ)
-  pub encoding : Option (List ℕ)
-  pub timestamp : Option Timestamp
-  pub source : Option SourceInfo
-  pub attachment : Option (List (List ℕ))
-
--- what an event publishes: nothing, content with qualities of its own, or content with those of a publisher
+-- what an event publishes: nothing, content with qualities of its own, or an update with those of a publisher
 pub data Publishes : Type 0 where
   NoContent : Publishes
   OwnContent : (content : Content) → Publishes
-  ByPublisher : (id : ℕ) (content : PublisherContent) → Publishes
+  ByPublisher : (id : ℕ) (update : Update) → Publishes
 
--- what a get asks, but for its key
+-- what a get asks, but for its key: how, and what, and the querier that asks, if one does
 pub record Question : Type 0 where
-  pub destination : Locality
-  pub parameters : List ℕ
-  pub target : QueryTarget
-  pub consolidation : ConsolidationMode
-  pub timeout : Option ℕ
-  pub value : Option Value
-  pub qos : QoSType
-  pub source : Option SourceInfo
-  pub attachment : Option (List (List ℕ))
-  pub any_key : Bool
-  -- the querier that asks, if one does, and the cancellation token
+  pub settings : QuerySettings
+  pub inquiry : Inquiry
   pub querier : Option ℕ
-  pub token : Option ℕ
-
--- what a get of a querier asks, but for what the querier says
-pub record QuerierQuestion : Type 0 where
-  pub parameters : List ℕ
-  pub value : Option Value
-  pub source : Option SourceInfo
-  pub attachment : Option (List (List ℕ))
-  pub token : Option ℕ
 
 -- what an event is to gets: nothing, a get, a get of a querier, a response to one, the network's final for one, a moment, the end of
 -- those that a querier asked, of those that a cancellation token cancels, or of all
 pub data ToGets : Type 0 where
   NoGet : ToGets
   Asks : (question : Question) → ToGets
-  AsksBy : (id : ℕ) (question : QuerierQuestion) → ToGets
+  AsksBy : (id : ℕ) (inquiry : Inquiry) → ToGets
   Answers : (response : Response) → ToGets
   EndsSide : (number : ℕ) → ToGets
   Reaches : (moment : ℕ) → ToGets
   EndsQuerier : (id : ℕ) → ToGets
   Cancels : (token : ℕ) → ToGets
   EndsAll : ToGets
-
--- the quality of service of a reply, where it is not the query's
-pub record ReplyQuality : Type 0 where
-  pub priority : Option ℕ
-  pub congestion : Option CongestionControl
-  pub express : Option Bool
 
 -- what an event does with query values: nothing, it hands them out for a request from the network, answers one, answers one with
 -- an error, draws one more of the same query, or gives one back
@@ -153,8 +118,8 @@ pub data ToLiveliness : Type 0 where
 
 -- the cancellation token with which an event asks, if it asks with one, by what it is to gets and to liveliness
 abbrev pub asking_token : ToGets → ToLiveliness → Option ℕ
-asking_token (Asks question) to = question.token
-asking_token (AsksBy id question) to = question.token
+asking_token (Asks question) to = question.inquiry.cancellation_token
+asking_token (AsksBy id inquiry) to = inquiry.cancellation_token
 asking_token _ (AsksTokens timeout token) = token
 asking_token _ _ = None
 
@@ -172,6 +137,13 @@ pub data ToMatching : Type 0 where
   TellsQueryable : (id : ℕ) (complete : Bool) → ToMatching
   EndsQueryable : (id : ℕ) → ToMatching
 
+-- what an event is to entities: nothing, it declares one of this kind, it ends one, or it leaves one to itself
+pub data ToEntities : Type 0 where
+  NoEntity : ToEntities
+  Declares : (kind : Kind) → ToEntities
+  EndsEntity : (kind : Kind) (id : ℕ) → ToEntities
+  LeavesEntity : (kind : Kind) (id : ℕ) → ToEntities
+
 -- what is said of a kind of event
 pub record Row : Type 0 where
   pub says : Speaker
@@ -185,6 +157,11 @@ pub record Row : Type 0 where
   -- the number under which it says that its key's text is held
   pub claims : Option ℕ
   pub publishes : Publishes
+  pub to_entities : ToEntities
+  -- the kind of what is handed over, or told, under the number that it draws
+  pub handled : Option Kind
+  -- where that goes beside
+  pub channel : Chan
   pub to_gets : ToGets
   pub to_values : ToValues
   pub to_liveliness : ToLiveliness
@@ -203,6 +180,9 @@ said_by speaker = record {
   gives_part = false;
   claims = None;
   publishes = NoContent;
+  to_entities = NoEntity;
+  handled = None;
+  channel = Print;
   to_gets = NoGet;
   to_values = NoValue;
   to_liveliness = NoToken;
@@ -266,39 +246,14 @@ gets_ended listener_kind id = NoGet
 gets_ended token_kind id = NoGet
 gets_ended lsub_kind id = NoGet
 
--- the encoding where none is named
-abbrev pub default_encoding : List ℕ
-default_encoding = codes "zenoh/bytes"
-
--- what a put says of its key, and a deletion: the empty encoding is the default
-abbrev pub put_body : List (List ℕ) → List ℕ → Option Timestamp → Option SourceInfo → Option (List (List ℕ)) → Body
-put_body payload encoding timestamp source attachment = record {
-  kind = put_kind;
-  payload = payload;
-  encoding = encoding_of encoding;
-  timestamp = timestamp;
-  source = source;
-  attachment = attachment;
-}
-
-abbrev pub delete_body : Option Timestamp → Option SourceInfo → Option (List (List ℕ)) → Body
-delete_body timestamp source attachment = record {
-  kind = delete_kind;
-  payload = [];
-  encoding = default_encoding;
-  timestamp = timestamp;
-  source = source;
-  attachment = attachment;
-}
-
 -- a publication made here, and one that came in
-abbrev pub local_content : Locality → Body → QoSType → Bool → Content
-local_content destination body qos reliable = record {
+abbrev pub local_content : Locality → Body → PublicationQuality → Content
+local_content destination body quality = record {
   local = true;
   destination = destination;
   body = body;
-  qos = qos;
-  reliable = reliable;
+  qos = quality.qos;
+  reliable = quality.reliable;
 }
 
 abbrev pub incoming_content : Push → Content
@@ -312,20 +267,18 @@ publisher_named id = Some (record { kind = Publisher; id = id })
 abbrev pub querier_named : ℕ → Option Named
 querier_named id = Some (record { kind = kind_querier; id = id })
 
--- the text that there is, if there is one
-abbrev pub text_if : Option (List ℕ) → List (List ℕ)
-text_if None = []
-text_if (Some text) = text ∷ []
-
 -- the texts of a value, if there is one
 abbrev pub value_texts : Option Value → List (List ℕ)
 value_texts None = []
 value_texts (Some value) = value.encoding ∷ []
 
--- the key from the network that there is, if there is one
+-- the key from the network that there is, if there is one: no number and no text are none
+abbrev pub is_blank : WireExpr → Bool
+is_blank wire = wire.scope == 0 && is_nothing wire.suffix
+
 abbrev pub wire_key : Option WireExpr → NamedKey
 wire_key None = NoKey
-wire_key (Some wire) = WireKey wire
+wire_key (Some wire) = if is_blank wire then NoKey else WireKey wire
 
 -- a response with a value names a key, one with an error doesn't
 abbrev pub response_key : Answered → WireExpr → NamedKey
@@ -365,110 +318,84 @@ message_row (response_message response) = record (said_by Network) {
 message_row (ResponseFinal rid) = record (said_by Network) { to_gets = EndsSide rid }
 message_row close_message = said_by Network
 
+-- an application's declaration of an entity of this kind on a key
+abbrev pub declared_on : Kind → KeyArg → Row
+declared_on kind key = record (said_by Application) { key = OwnKey key; draws = EntityNumber; to_entities = Declares kind }
+
 -- the row of each kind
 abbrev pub row_of : Event → Row
 row_of (Key key) = record (said_by Application) { key = OwnKey key; draws = KeyNumber }
 row_of (UndeclareKey key) = record (said_by Application) { key = OwnKey key; gives_part = not (is_whole key); claims = claim_of key }
-row_of (Sub origin key) = record (said_by Application) { key = OwnKey key; draws = EntityNumber }
-row_of (Pub destination key encoding qos reliable) = record (said_by Application) {
-  key = OwnKey key;
+row_of (Sub origin key to) = record (declared_on Subscriber key) { handled = Some Subscriber; channel = to }
+row_of (Pub key settings) = record (declared_on Publisher key) { texts = settings.encoding ∷ [] }
+row_of (Queryable origin complete key) = record (declared_on kind_queryable key) { handled = Some kind_queryable }
+row_of (Querier key settings) = declared_on kind_querier key
+row_of (Listen parent id) = record (said_by Application) {
   draws = EntityNumber;
-  texts = encoding ∷ [];
+  names = Some (record { kind = parent_kind_of parent; id = id });
+  to_entities = Declares kind_listener;
+  handled = Some kind_listener;
 }
-row_of (Queryable origin complete key) = record (said_by Application) { key = OwnKey key; draws = EntityNumber }
-row_of (Querier destination key target consolidation timeout qos any_key) = record (said_by Application) { key = OwnKey key; draws = EntityNumber }
-row_of (Listen parent id) = record (said_by Application) { draws = EntityNumber; names = Some (record { kind = parent_kind_of parent; id = id }) }
 row_of (Status parent id) = record (said_by Application) {
   draws = StatusOf (parent_kind_of parent) id;
   names = Some (record { kind = parent_kind_of parent; id = id });
 }
-row_of (Token key) = record (said_by Application) { key = OwnKey key; draws = EntityNumber }
-row_of (Lsub history key) = record (said_by Application) { key = OwnKey key; draws = EntityNumber; to_liveliness = Subscribes history }
-row_of (LivelinessGet key timeout token) = record (said_by Application) { key = OwnKey key; draws = EntityNumber; to_liveliness = AsksTokens timeout token }
-row_of (Undeclare kind id) = record (said_by Anytime) { names = Some (record { kind = kind_of kind; id = id }); to_gets = gets_ended kind id }
-row_of (Background kind id) = record (said_by Anytime) { names = Some (record { kind = background_kind_of kind; id = id }) }
-row_of (Put destination key payload encoding timestamp qos reliable source attachment) = record (said_by Application) {
+row_of (Token key) = declared_on kind_token key
+row_of (Lsub history key) = record (declared_on LivelinessSubscriber key) { handled = Some LivelinessSubscriber; to_liveliness = Subscribes history }
+row_of (LivelinessGet key timeout token to) = record (said_by Application) {
   key = OwnKey key;
-  publishes = OwnContent (local_content destination (put_body payload encoding timestamp source attachment) qos reliable);
-  texts = encoding ∷ [];
+  draws = EntityNumber;
+  handled = Some kind_tokens;
+  channel = to;
+  to_liveliness = AsksTokens timeout token;
 }
-row_of (Delete destination key timestamp qos reliable source attachment) = record (said_by Application) {
+row_of (Undeclare kind id) = record (said_by Anytime) {
+  names = Some (record { kind = kind_of kind; id = id });
+  to_entities = EndsEntity (kind_of kind) id;
+  to_gets = gets_ended kind id;
+}
+row_of (Background kind id) = record (said_by Anytime) {
+  names = Some (record { kind = background_kind_of kind; id = id });
+  to_entities = LeavesEntity (background_kind_of kind) id;
+}
+row_of (Publish destination key update quality) = record (said_by Application) {
   key = OwnKey key;
-  publishes = OwnContent (local_content destination (delete_body timestamp source attachment) qos reliable);
+  publishes = OwnContent (local_content destination (body_of [] update) quality);
+  texts = texts_by update.body;
 }
-row_of (PublisherPut id payload encoding timestamp source attachment) = record (said_by Application) {
+row_of (PublishBy id update) = record (said_by Application) {
   key = PublisherKey id;
   names = publisher_named id;
-  publishes = ByPublisher id (record {
-    kind = put_kind;
-    payload = payload;
-    encoding = encoding;
-    timestamp = timestamp;
-    source = source;
-    attachment = attachment;
-  });
-  texts = text_if encoding;
+  publishes = ByPublisher id update;
+  texts = texts_by update.body;
 }
-row_of (PublisherDelete id timestamp source attachment) = record (said_by Application) {
-  key = PublisherKey id;
-  names = publisher_named id;
-  publishes = ByPublisher id (record {
-    kind = delete_kind;
-    payload = [];
-    encoding = Some default_encoding;
-    timestamp = timestamp;
-    source = source;
-    attachment = attachment;
-  });
-}
-row_of CancelToken = record (said_by Application) { draws = TokenNumber }
+row_of CancelToken = record (said_by Application) { draws = CancellationNumber }
 row_of (Cancel token) = record (said_by Anytime) { to_gets = Cancels token }
-row_of (Get destination key parameters target consolidation timeout value qos source attachment any_key token) = record (said_by Application) {
+row_of (Get key settings inquiry to) = record (said_by Application) {
   key = OwnKey key;
   draws = QueryNumber;
-  to_gets = Asks (record {
-    destination = destination;
-    parameters = parameters;
-    target = target;
-    consolidation = consolidation;
-    timeout = timeout;
-    value = value;
-    qos = qos;
-    source = source;
-    attachment = attachment;
-    any_key = any_key;
-    querier = None;
-    token = token;
-  });
-  texts = parameters ∷ value_texts value;
+  handled = Some kind_get;
+  channel = to;
+  to_gets = Asks (record { settings = settings; inquiry = inquiry; querier = None });
+  texts = inquiry.parameters ∷ value_texts inquiry.value;
 }
-row_of (QuerierGet id parameters value source attachment token) = record (said_by Application) {
+row_of (QuerierGet id inquiry to) = record (said_by Application) {
   key = QuerierKey id;
   draws = QueryNumber;
   names = querier_named id;
-  to_gets = AsksBy id (record { parameters = parameters; value = value; source = source; attachment = attachment; token = token });
-  texts = parameters ∷ value_texts value;
+  handled = Some kind_get;
+  channel = to;
+  to_gets = AsksBy id inquiry;
+  texts = inquiry.parameters ∷ value_texts inquiry.value;
 }
-row_of (reply_event value key payload encoding timestamp priority congestion express source attachment) = record (said_by Anytime) {
+row_of (reply_event value key update quality) = record (said_by Anytime) {
   key = OwnKey key;
-  to_values = AnswersBy value (put_body payload encoding timestamp source attachment) (record {
-    priority = priority;
-    congestion = congestion;
-    express = express;
-  });
-  texts = encoding ∷ [];
+  to_values = AnswersBy value (body_of [] update) quality;
+  texts = texts_by update.body;
 }
-row_of (ReplyDelete value key timestamp priority congestion express source attachment) = record (said_by Anytime) {
-  key = OwnKey key;
-  to_values = AnswersBy value (delete_body timestamp source attachment) (record {
-    priority = priority;
-    congestion = congestion;
-    express = express;
-  });
-}
-row_of (ReplyErr value payload encoding) = record (said_by Anytime) {
-  to_values = AnswersError value (record { payload = payload; encoding = encoding_of encoding });
-  texts = encoding ∷ [];
+row_of (ReplyErr value error) = record (said_by Anytime) {
+  to_values = AnswersError value (record error { encoding = encoding_of error.encoding });
+  texts = error.encoding ∷ [];
 }
 row_of (Share value) = record (said_by Application) { draws = ValueNumber; to_values = SharesValue value }
 row_of (Finish value) = record (said_by Anytime) { to_values = GivesBack value }

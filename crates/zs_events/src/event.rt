@@ -1,58 +1,18 @@
-use zs_sample::{
-    CongestionControl, ConsolidationMode, Locality, QoSType, QueryTarget, SourceInfo, Text,
-    Timestamp, ZBytes,
-};
+ghost use Rattle.std.specs.Prelude.{◌≡◌};
+ghost use Rattle.zs_events.specs.Kinds.{row_of};
+
+use crate::chan::Chan;
+use crate::entity_kind::{BackgroundKind, EntityKind, ParentKind};
+use crate::inquiry::{Inquiry, QuerySettings};
+use crate::key_arg::KeyArg;
+use crate::publication::{PublicationQuality, PublisherSettings, ReplyQuality};
+use crate::turn::Kind;
+use crate::update::Update;
+use zs_sample::Locality;
+use zs_shared::Shared;
 use zs_wire::{Message, Value};
 
-/// The key of an event, as the application gave it.
-#[derive(Debug, Drop)]
-pub enum KeyArg {
-    /// A text, not tested yet.
-    Text(Text),
-    /// A number that this session declared for a key, and a text behind that key.
-    Number {
-        number: u16,
-        /// It may be empty: then it is the declared key itself.
-        suffix: Text,
-    },
-    /// A key with a declaration of this session. The number is used where it is held and stands for the first
-    /// `prefix_len` bytes of the text; otherwise the key is its text alone.
-    Declared {
-        text: Text,
-        number: u16,
-        prefix_len: u32,
-    },
-}
-
-/// The sorts of entities that an application can undeclare.
-#[derive(Clone, Copy, Debug, PartialEq, Eq, Hash)]
-pub enum EntityKind {
-    Sub,
-    Pub,
-    Queryable,
-    Querier,
-    Listener,
-    Token,
-    Lsub,
-}
-
-/// The sorts of entities that can be left to themselves: they live on, and can no longer be named.
-#[derive(Clone, Copy, Debug, PartialEq, Eq, Hash)]
-pub enum BackgroundKind {
-    Sub,
-    Queryable,
-    Listener,
-    Lsub,
-}
-
-/// The sorts of entities whose matching can be asked for.
-#[derive(Clone, Copy, Debug, PartialEq, Eq, Hash)]
-pub enum ParentKind {
-    Pub,
-    Querier,
-}
-
-/// What can happen to a session.
+/// What can happen to a session. It is small: what it carries stands in places that can be shared.
 #[derive(Debug, Drop)]
 pub enum Event {
     /// The application declares a key, which is from then on held under a number.
@@ -67,15 +27,12 @@ pub enum Event {
     Sub {
         origin: Locality,
         key: KeyArg,
+        to: Chan,
     },
-    /// The application declares a publisher, whose publications go to this destination, with these qualities.
+    /// The application declares a publisher.
     Pub {
-        destination: Locality,
         key: KeyArg,
-        /// Of its puts that name none. The empty text is the default encoding.
-        encoding: Text,
-        qos: QoSType,
-        reliable: bool,
+        settings: Shared<PublisherSettings>,
     },
     /// The application declares a queryable, which is handed the requests of this origin whose keys meet its own.
     Queryable {
@@ -84,17 +41,10 @@ pub enum Event {
         complete: bool,
         key: KeyArg,
     },
-    /// The application declares a querier, whose gets ask queryables of this destination, in this way.
+    /// The application declares a querier, whose gets ask in this way.
     Querier {
-        destination: Locality,
         key: KeyArg,
-        target: QueryTarget,
-        consolidation: ConsolidationMode,
-        /// After how many milliseconds its gets end, in place of what the settings say.
-        timeout: Option<u64>,
-        qos: QoSType,
-        /// Whether its gets take replies on any key.
-        any_key: bool,
+        settings: QuerySettings,
     },
     /// The application declares a listener, which is told from now on whether anyone matches that publisher or querier.
     Listen {
@@ -126,45 +76,17 @@ pub enum Event {
         kind: BackgroundKind,
         id: u32,
     },
-    /// The application puts a value on a key, for subscribers of this destination.
-    Put {
+    /// The application puts or deletes a key's value, for subscribers of this destination.
+    Publish {
         destination: Locality,
         key: KeyArg,
-        payload: ZBytes,
-        /// The empty text is the default encoding.
-        encoding: Text,
-        timestamp: Option<Timestamp>,
-        qos: QoSType,
-        reliable: bool,
-        source: Option<SourceInfo>,
-        attachment: Option<ZBytes>,
+        update: Shared<Update>,
+        quality: PublicationQuality,
     },
-    /// The application deletes a key's value, for subscribers of this destination.
-    Delete {
-        destination: Locality,
-        key: KeyArg,
-        timestamp: Option<Timestamp>,
-        qos: QoSType,
-        reliable: bool,
-        source: Option<SourceInfo>,
-        attachment: Option<ZBytes>,
-    },
-    /// A publisher puts a value on its key.
-    PublisherPut {
+    /// A publisher puts or deletes the value of its key.
+    PublishBy {
         id: u32,
-        payload: ZBytes,
-        /// Without one it is the publisher's.
-        encoding: Option<Text>,
-        timestamp: Option<Timestamp>,
-        source: Option<SourceInfo>,
-        attachment: Option<ZBytes>,
-    },
-    /// A publisher deletes its key's value.
-    PublisherDelete {
-        id: u32,
-        timestamp: Option<Timestamp>,
-        source: Option<SourceInfo>,
-        attachment: Option<ZBytes>,
+        update: Shared<Update>,
     },
     /// The application makes a cancellation token, which gets can be given.
     CancelToken,
@@ -172,35 +94,18 @@ pub enum Event {
     Cancel {
         token: u32,
     },
-    /// The application asks for values of a key, of queryables of this destination.
+    /// The application asks for values of a key.
     Get {
-        destination: Locality,
         key: KeyArg,
-        /// What stands behind the `?` of the selector.
-        parameters: Text,
-        target: QueryTarget,
-        consolidation: ConsolidationMode,
-        /// After how many milliseconds it ends whatever is missing, in place of what the settings say.
-        timeout: Option<u64>,
-        /// What the queryables are told beside the parameters.
-        value: Option<Value>,
-        qos: QoSType,
-        source: Option<SourceInfo>,
-        attachment: Option<ZBytes>,
-        /// Whether replies are taken on any key. The parameters can say so too.
-        any_key: bool,
-        /// The cancellation token by which it can be cancelled.
-        token: Option<u32>,
+        settings: QuerySettings,
+        inquiry: Shared<Inquiry>,
+        to: Chan,
     },
     /// A querier asks for values of its key.
     QuerierGet {
         id: u32,
-        parameters: Text,
-        value: Option<Value>,
-        source: Option<SourceInfo>,
-        attachment: Option<ZBytes>,
-        /// The cancellation token by which it can be cancelled.
-        token: Option<u32>,
+        inquiry: Shared<Inquiry>,
+        to: Chan,
     },
     /// The application asks for the liveliness tokens that are alive.
     LivelinessGet {
@@ -208,41 +113,21 @@ pub enum Event {
         /// After how many milliseconds it ends whatever is missing, in place of what the settings say.
         timeout: Option<u64>,
         /// The cancellation token by which it can be cancelled.
-        token: Option<u32>,
+        cancellation_token: Option<u32>,
+        to: Chan,
     },
-    /// The application answers a query with a value on a key.
+    /// The application answers a query with what it says of a key.
     Reply {
         /// The number under which the query was handed to its queryable.
         value: u32,
         key: KeyArg,
-        payload: ZBytes,
-        /// The empty text is the default encoding.
-        encoding: Text,
-        timestamp: Option<Timestamp>,
-        /// Without one it is the query's, as with the two that follow.
-        priority: Option<u8>,
-        congestion: Option<CongestionControl>,
-        express: Option<bool>,
-        source: Option<SourceInfo>,
-        attachment: Option<ZBytes>,
+        update: Shared<Update>,
+        quality: ReplyQuality,
     },
-    /// The application answers a query by saying that a key's value is deleted.
-    ReplyDelete {
-        value: u32,
-        key: KeyArg,
-        timestamp: Option<Timestamp>,
-        priority: Option<u8>,
-        congestion: Option<CongestionControl>,
-        express: Option<bool>,
-        source: Option<SourceInfo>,
-        attachment: Option<ZBytes>,
-    },
-    /// The application answers a query with an error.
+    /// The application answers a query with an error. The empty encoding is the default one.
     ReplyErr {
         value: u32,
-        payload: ZBytes,
-        /// The empty text is the default encoding.
-        encoding: Text,
+        error: Shared<Value>,
     },
     /// The application asks for one more number of a query, which is to be given back like the first.
     Share {
@@ -260,5 +145,37 @@ pub enum Event {
     /// The application closes the session.
     Close,
     /// A message comes in from the network.
-    Net(Message),
+    Net(Shared<Message>),
+}
+
+impl Event {
+    /// The kind of what is handed to the application, or told it, under the number that the event draws, if it draws one
+    /// with a handler.
+    pub fn handled(&self) -> Option<Kind>
+        ensures { result ≡ (row_of self.now).handled }
+    {
+        match self {
+            Event::Sub { .. } => Some(Kind::Subscriber),
+            Event::Queryable { .. } => Some(Kind::Queryable),
+            Event::Lsub { .. } => Some(Kind::LivelinessSubscriber),
+            Event::Listen { .. } => Some(Kind::Listener),
+            Event::Get { .. } => Some(Kind::Get),
+            Event::QuerierGet { .. } => Some(Kind::Get),
+            Event::LivelinessGet { .. } => Some(Kind::LivelinessGet),
+            _ => None,
+        }
+    }
+
+    /// Where that goes beside being handed over.
+    pub fn channel(&self) -> Chan
+        ensures { result ≡ (row_of self.now).channel }
+    {
+        match self {
+            Event::Sub { to, .. } => *to,
+            Event::Get { to, .. } => *to,
+            Event::QuerierGet { to, .. } => *to,
+            Event::LivelinessGet { to, .. } => *to,
+            _ => Chan::Print,
+        }
+    }
 }

@@ -6,6 +6,7 @@ use std::alloc::{AllocError, Global};
 use std::marker::Model;
 use zs_query::QueryData;
 use zs_sample::{Reply, Sample};
+use zs_shared::Shared;
 use zs_wire::Message;
 
 /// Why a session refused an event. Nothing else follows from a refused event.
@@ -54,49 +55,49 @@ pub enum Kind {
     LivelinessGet,
 }
 
-/// Something that is handed to the application.
+/// Something that is handed to the application. Who else is handed the same holds it in the same place.
 #[derive(Drop)]
 pub enum HandOver {
     /// A sample for a subscriber.
     Sample {
         kind: Kind,
         id: u32,
-        sample: Sample,
+        sample: Shared<Sample>,
     },
     /// A reply for a get.
     Reply {
         kind: Kind,
         id: u32,
-        reply: Reply,
+        reply: Shared<Reply>,
     },
     /// A query for the queryable of that number, with the number under which it is answered and given back.
     Query {
         id: u32,
         value: u32,
-        query: QueryData,
+        query: Shared<QueryData>,
     },
 }
 
 impl HandOver {
     /// The same, in memory that both share.
-    pub fn try_clone(&self, alloc: Global) -> Result<HandOver, AllocError>
+    pub fn try_clone(&self) -> Result<HandOver, AllocError>
         ensures { IfOk result (λ copy. copy ≡ self.now) }
     {
         match self {
             HandOver::Sample { kind, id, sample } => Ok(HandOver::Sample {
                 kind: *kind,
                 id: *id,
-                sample: sample.try_clone(alloc)?,
+                sample: sample.try_clone()?,
             }),
             HandOver::Reply { kind, id, reply } => Ok(HandOver::Reply {
                 kind: *kind,
                 id: *id,
-                reply: reply.try_clone(alloc)?,
+                reply: reply.try_clone()?,
             }),
             HandOver::Query { id, value, query } => Ok(HandOver::Query {
                 id: *id,
                 value: *value,
-                query: query.try_clone(alloc)?,
+                query: query.try_clone()?,
             }),
         }
     }
@@ -106,7 +107,7 @@ impl HandOver {
 #[derive(Drop)]
 pub enum Effect {
     /// A message goes to the network.
-    Send(Message),
+    Send(Shared<Message>),
     /// A handler of the application is called.
     Hand(HandOver),
     /// A handler is called no more.
@@ -116,13 +117,13 @@ pub enum Effect {
 }
 
 impl Effect {
-    /// The same effect. It shares the memory of texts, payloads and attachments.
-    pub fn try_clone(&self, alloc: Global) -> Result<Effect, AllocError>
+    /// The same effect, in memory that both share.
+    pub fn try_clone(&self) -> Result<Effect, AllocError>
         ensures { IfOk result (λ copy. copy ≡ self.now) }
     {
         Ok(match self {
-            Effect::Send(message) => Effect::Send(message.try_clone(alloc)?),
-            Effect::Hand(item) => Effect::Hand(item.try_clone(alloc)?),
+            Effect::Send(message) => Effect::Send(message.try_clone()?),
+            Effect::Hand(item) => Effect::Hand(item.try_clone()?),
             Effect::End { kind, id } => Effect::End {
                 kind: *kind,
                 id: *id,
@@ -217,7 +218,7 @@ fn clone_all(effects: &[Effect], alloc: Global) -> Result<Effects, AllocError>
 {
     let mut copies = Effects::new(alloc);
     for effect in effects {
-        copies.push(effect.try_clone(alloc)?)?;
+        copies.push(effect.try_clone()?)?;
     }
     Ok(copies)
 }

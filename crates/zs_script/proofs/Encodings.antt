@@ -3,7 +3,7 @@ use Rattle.std.proofs.Common.{ℕ, ◌≡◌, List, [], ◌∷◌, refl, codes}
 use Rattle.std.specs.Str.{chars}
 use Rattle.std.proofs.lemmas.Str.{chars-nil}
 use Rattle.zs_sample.specs.Encoding.{encoding_of}
-use Rattle.zs_events.specs.Kinds.{default_encoding}
+use Rattle.zs_events.specs.Updates.{default_encoding}
 
 -- the default encoding's own characters
 pub default_chars : chars (codes "zenoh/bytes") ≡ codes "zenoh/bytes"

@@ -1,5 +1,4 @@
 pub mod Choosing
-pub mod Cuts
 pub mod Encodings
 pub mod PlainPieces
 pub mod PlainSymbols
@@ -13,7 +12,4 @@ pub mod Examples
 pub mod QueryExamples
 pub mod LivelinessExamples
 pub mod ChannelExamples
-pub mod FirstLine
-pub mod Answering
 pub mod ReadingFields
-pub mod Pieces

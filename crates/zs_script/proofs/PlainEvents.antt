@@ -1,26 +1,34 @@
 -- What lines without line feeds say is plain.
-use Rattle.std.proofs.Common.{ℕ, ◌≡◌, true, false, List, [], ◌∷◌, length, Option, Some, None, IfSome, refl, subst, arith, cond, codes}
+use Rattle.std.proofs.Common.{ℕ, ◌≡◌, Bool, true, false, ◌&&◌, List, [], ◌∷◌, length, Option, Some, None, IfSome, refl, subst, arith, cond, codes}
 use Rattle.std.specs.Str.{is_utf8, bytes_eq}
 use Rattle.std.proofs.lemmas.Bool.{and_parts, and_from}
 use Rattle.std.proofs.lemmas.Str.{IsUtf8-from_is_utf8}
+use Rattle.zs_wire.specs.declared.message.Message.{Message}
 use Rattle.zs_wire.specs.declared.message.Message.TheVariants.{UndeclareToken}
+use Rattle.zs_wire.specs.declared.sample_kind.SampleKind.{SampleKind}
+use Rattle.zs_wire.specs.declared.sample_kind.SampleKind.TheVariants.{Put as put_kind, Delete as delete_kind}
 use Rattle.zs_wire.specs.declared.wire_expr.WireExpr.{WireExpr}
-use Rattle.zs_events.specs.declared.event.EntityKind.{EntityKind}
+use Rattle.zs_events.specs.declared.entity_kind.EntityKind.{EntityKind}
 use Rattle.zs_events.specs.declared.event.Event.{Event}
 use Rattle.zs_events.specs.declared.event.Event.TheVariants.{Undeclare, Net}
 use Rattle.zs_events.specs.declared.script_event.ScriptEvent.{ScriptEvent}
-use Rattle.zs_script.specs.Lines.{fields}
+use Rattle.zs_events.specs.declared.script_event.ScriptEvent.TheVariants.{Core}
+use Rattle.zs_events.specs.Kinds.{NoKey, WireKey, is_blank}
+use Rattle.zs_lines.specs.Lines.{fields}
 use Rattle.zs_script.specs.Symbols.{u32_max, entity_kind_of}
 use Rattle.zs_script.specs.Parts.{number, form}
-use Rattle.zs_script.specs.Grammar.{by_word, declare_of, sub_of, pub_of, queryable_of, querier_of, token_of, lsub_of, listen_of, status_of, undeclare_entity_of, undeclared_by, undeclare_of, background_of, put_of, delete_of, publisher_put_of, publisher_delete_of, cancel_token_of, cancel_of, get_of, querier_get_of, liveliness_get_of, recv_of, reply_of, reply_delete_of, reply_error_of, share_of, finish_of, tick_of, close_of, key_expr_of, unkey_expr_of, net_sub_of, net_unsub_of, net_queryable_of, net_unqueryable_of, net_token_of, net_untoken_of, declare_final_of, push_put_of, push_delete_of, push_by, push_of, request_of, response_put_of, response_delete_of, response_error_of, response_by, response_on, response_of, response_final_of, net_close_of, net_by, net_of, plain_by, printed, event_by, event_of_fields, event_of}
-use Rattle.zs_script.specs.Plain.{has_no_line_feed}
+use Rattle.zs_script.specs.Grammar.{by_word, update_of, declare_of, sub_of, pub_of, queryable_of, querier_of, token_of, lsub_of, listen_of, status_of, undeclare_entity_of, undeclared_by, undeclare_of, background_of, publish_of, publish_by_of, cancel_token_of, cancel_of, get_of, querier_get_of, liveliness_get_of, recv_of, reply_of, reply_error_of, share_of, finish_of, tick_of, close_of, key_expr_of, unkey_expr_of, net_sub_of, net_unsub_of, net_queryable_of, net_unqueryable_of, net_token_of, net_untoken_of, declare_final_of, push_value_of, push_by, push_of, request_of, response_value_of, response_error_of, response_by, response_on, response_of, response_final_of, net_close_of, message_by, message_of, net_of, core_by, event_by, event_of_fields, event_of}
+use Rattle.zs_script.specs.Plain.{has_no_line_feed, is_plain_named}
 use Rattle.zs_script.specs.Laws.{EventsArePlain}
 use Rattle.zs_script.proofs.PlainTexts.{fields-plain}
-use Rattle.zs_script.proofs.PlainSymbols.{PlainWire, on-then, on-any, on-choice, fields-utf8, both-texts}
-use Rattle.zs_script.proofs.PlainParts.{AreTexts, PlainWireIf, PlainEvent, PlainLine, default-plain, wire-read, number-read, form-plain, line-plain}
+use Rattle.zs_script.proofs.PlainSymbols.{PlainWire, on-map, on-then, on-any, on-choice, fields-utf8, both-texts}
+use Rattle.zs_script.proofs.PlainParts.{AreTexts, PlainWireIf, PlainEvent, PlainMessage, PlainLine, body-plain, wire-read, number-read, form-plain, message-plain, line-plain}
 
 abbrev IsPlainIf : Option Event → Type 0
 IsPlainIf found = IfSome found PlainEvent
+
+abbrev IsMessageIf : Option Message → Type 0
+IsMessageIf found = IfSome found PlainMessage
 
 abbrev IsLineIf : Option ScriptEvent → Type 0
 IsLineIf found = IfSome found PlainLine
@@ -35,11 +43,11 @@ by-word P choose each (word ∷ rest) h = each word rest h.1
 declare-plain : (rest : List (List ℕ)) → AreTexts rest → IsPlainIf (declare_of rest)
 declare-plain = form-plain _ _ (λ _ k. and_from _ _ k refl)
 
-sub-plain : (rest : List (List ℕ)) → AreTexts rest → IsLineIf (sub_of rest)
-sub-plain = line-plain _ _ (λ _ _ _ k _ _. and_from _ _ k refl)
+sub-plain : (rest : List (List ℕ)) → AreTexts rest → IsPlainIf (sub_of rest)
+sub-plain = form-plain _ _ (λ _ _ _ k _ _. and_from _ _ k refl)
 
 pub-plain : (rest : List (List ℕ)) → AreTexts rest → IsPlainIf (pub_of rest)
-pub-plain = form-plain _ _ (λ _ _ _ k _ e _ _ _ _. and_from _ _ k (and_from _ _ e refl))
+pub-plain = form-plain _ _ (λ _ _ _ k _ e _ _. and_from _ _ k (and_from _ _ e refl))
 
 queryable-plain : (rest : List (List ℕ)) → AreTexts rest → IsPlainIf (queryable_of rest)
 queryable-plain = form-plain _ _ (λ _ _ _ _ _ k. and_from _ _ k refl)
@@ -72,17 +80,11 @@ undeclare-plain word rest h =
 background-plain : (rest : List (List ℕ)) → AreTexts rest → IsPlainIf (background_of rest)
 background-plain = form-plain _ _ (λ _ _ _ _. refl)
 
-put-plain : (rest : List (List ℕ)) → AreTexts rest → IsPlainIf (put_of rest)
-put-plain = form-plain _ _ (λ _ _ _ k _ _ _ e _ _ _ _ _ _ _ _ _ _. and_from _ _ k (and_from _ _ e refl))
+publish-plain : (kind : SampleKind) (rest : List (List ℕ)) → AreTexts rest → IsPlainIf (publish_of kind rest)
+publish-plain kind = form-plain _ _ (λ _ _ _ k _ e _ _ _ _ _ _ _ _. and_from _ _ k e)
 
-delete-plain : (rest : List (List ℕ)) → AreTexts rest → IsPlainIf (delete_of rest)
-delete-plain = form-plain _ _ (λ _ _ _ k _ _ _ _ _ _ _ _ _ _. and_from _ _ k refl)
-
-publisher-put-plain : (rest : List (List ℕ)) → AreTexts rest → IsPlainIf (publisher_put_of rest)
-publisher-put-plain = form-plain _ _ (λ _ _ _ _ _ e _ _ _ _ _ _. e)
-
-publisher-delete-plain : (rest : List (List ℕ)) → AreTexts rest → IsPlainIf (publisher_delete_of rest)
-publisher-delete-plain = form-plain _ _ (λ _ _ _ _ _ _ _ _. refl)
+publish-by-plain : (kind : SampleKind) (rest : List (List ℕ)) → AreTexts rest → IsPlainIf (publish_by_of kind rest)
+publish-by-plain kind = form-plain _ _ (λ _ _ _ e _ _ _ _ _ _. e)
 
 cancel-token-plain : (rest : List (List ℕ)) → AreTexts rest → IsPlainIf (cancel_token_of rest)
 cancel-token-plain = form-plain _ _ refl
@@ -90,23 +92,20 @@ cancel-token-plain = form-plain _ _ refl
 cancel-plain : (rest : List (List ℕ)) → AreTexts rest → IsPlainIf (cancel_of rest)
 cancel-plain = form-plain _ _ (λ _ _. refl)
 
-get-plain : (rest : List (List ℕ)) → AreTexts rest → IsLineIf (get_of rest)
-get-plain = line-plain _ _ (λ _ _ _ s _ _ _ _ _ _ _ v _ _ _ _ _ _ _ _ _ _ _ _. and_from _ _ s.0 (and_from _ _ s.1 v))
+get-plain : (rest : List (List ℕ)) → AreTexts rest → IsPlainIf (get_of rest)
+get-plain = form-plain _ _ (λ _ _ _ s _ _ _ _ _ _ _ v _ _ _ _ _ _ _ _ _ _ _ _. and_from _ _ s.0 (and_from _ _ s.1 v))
 
-querier-get-plain : (rest : List (List ℕ)) → AreTexts rest → IsLineIf (querier_get_of rest)
-querier-get-plain = line-plain _ _ (λ _ _ _ t _ v _ _ _ _ _ _ _ _. and_from _ _ t v)
+querier-get-plain : (rest : List (List ℕ)) → AreTexts rest → IsPlainIf (querier_get_of rest)
+querier-get-plain = form-plain _ _ (λ _ _ _ t _ v _ _ _ _ _ _ _ _. and_from _ _ t v)
 
-liveliness-get-plain : (rest : List (List ℕ)) → AreTexts rest → IsLineIf (liveliness_get_of rest)
-liveliness-get-plain = line-plain _ _ (λ _ k _ _ _ _ _ _. and_from _ _ k refl)
+liveliness-get-plain : (rest : List (List ℕ)) → AreTexts rest → IsPlainIf (liveliness_get_of rest)
+liveliness-get-plain = form-plain _ _ (λ _ k _ _ _ _ _ _. and_from _ _ k refl)
 
 recv-plain : (rest : List (List ℕ)) → AreTexts rest → IsLineIf (recv_of rest)
 recv-plain = line-plain _ _ (λ _ _ _ _. refl)
 
-reply-plain : (rest : List (List ℕ)) → AreTexts rest → IsPlainIf (reply_of rest)
-reply-plain = form-plain _ _ (λ _ _ _ k _ _ _ e _ _ _ _ _ _ _ _ _ _ _ _. and_from _ _ k (and_from _ _ e refl))
-
-reply-delete-plain : (rest : List (List ℕ)) → AreTexts rest → IsPlainIf (reply_delete_of rest)
-reply-delete-plain = form-plain _ _ (λ _ _ _ k _ _ _ _ _ _ _ _ _ _ _ _. and_from _ _ k refl)
+reply-plain : (kind : SampleKind) (rest : List (List ℕ)) → AreTexts rest → IsPlainIf (reply_of kind rest)
+reply-plain kind = form-plain _ _ (λ _ _ _ k _ e _ _ _ _ _ _ _ _. and_from _ _ k e)
 
 reply-error-plain : (rest : List (List ℕ)) → AreTexts rest → IsPlainIf (reply_error_of rest)
 reply-error-plain = form-plain _ _ (λ _ _ _ _ _ e. and_from _ _ e refl)
@@ -128,116 +127,123 @@ unfolding undeclare_of
 undeclare-event rest h = by-word PlainEvent undeclared_by undeclare-plain rest h
 
 -- messages
-key-expr-plain : (rest : List (List ℕ)) → AreTexts rest → IsPlainIf (key_expr_of rest)
-key-expr-plain = form-plain _ _ (λ _ _ _ w. and_from _ _ w refl)
+key-expr-plain : (rest : List (List ℕ)) → AreTexts rest → IsMessageIf (key_expr_of rest)
+key-expr-plain = message-plain _ _ (λ _ _ _ w. and_from _ _ w refl)
 
-unkey-expr-plain : (rest : List (List ℕ)) → AreTexts rest → IsPlainIf (unkey_expr_of rest)
-unkey-expr-plain = form-plain _ _ (λ _ _. refl)
+unkey-expr-plain : (rest : List (List ℕ)) → AreTexts rest → IsMessageIf (unkey_expr_of rest)
+unkey-expr-plain = message-plain _ _ (λ _ _. refl)
 
-net-sub-plain : (rest : List (List ℕ)) → AreTexts rest → IsPlainIf (net_sub_of rest)
-net-sub-plain = form-plain _ _ (λ _ _ _ w. and_from _ _ w refl)
+net-sub-plain : (rest : List (List ℕ)) → AreTexts rest → IsMessageIf (net_sub_of rest)
+net-sub-plain = message-plain _ _ (λ _ _ _ w. and_from _ _ w refl)
 
-net-unsub-plain : (rest : List (List ℕ)) → AreTexts rest → IsPlainIf (net_unsub_of rest)
-net-unsub-plain = form-plain _ _ (λ _ _. refl)
+net-unsub-plain : (rest : List (List ℕ)) → AreTexts rest → IsMessageIf (net_unsub_of rest)
+net-unsub-plain = message-plain _ _ (λ _ _. refl)
 
-net-queryable-plain : (rest : List (List ℕ)) → AreTexts rest → IsPlainIf (net_queryable_of rest)
-net-queryable-plain = form-plain _ _ (λ _ _ _ _ _ w. and_from _ _ w refl)
+net-queryable-plain : (rest : List (List ℕ)) → AreTexts rest → IsMessageIf (net_queryable_of rest)
+net-queryable-plain = message-plain _ _ (λ _ _ _ _ _ w. and_from _ _ w refl)
 
-net-unqueryable-plain : (rest : List (List ℕ)) → AreTexts rest → IsPlainIf (net_unqueryable_of rest)
-net-unqueryable-plain = form-plain _ _ (λ _ _. refl)
+net-unqueryable-plain : (rest : List (List ℕ)) → AreTexts rest → IsMessageIf (net_unqueryable_of rest)
+net-unqueryable-plain = message-plain _ _ (λ _ _. refl)
 
-net-token-plain : (rest : List (List ℕ)) → AreTexts rest → IsPlainIf (net_token_of rest)
-net-token-plain = form-plain _ _ (λ _ _ _ w _ _. and_from _ _ w refl)
+net-token-plain : (rest : List (List ℕ)) → AreTexts rest → IsMessageIf (net_token_of rest)
+net-token-plain = message-plain _ _ (λ _ _ _ w _ _. and_from _ _ w refl)
 
-untoken-plain : (n : ℕ) (w : Option WireExpr) (asked : Option ℕ) → PlainWireIf w → PlainEvent (Net (UndeclareToken n w asked))
+untoken-plain : (n : ℕ) (w : Option WireExpr) (asked : Option ℕ) → PlainWireIf w → PlainMessage (UndeclareToken n w asked)
 untoken-plain n None asked k = refl
-untoken-plain n (Some w) asked k = and_from _ _ (and_parts _ true k).0 refl
+untoken-plain n (Some w) asked k = go (is_blank w) (and_parts _ true k).0
+  where
+    go : (b : Bool) → PlainWire w → is_plain_named (cond b NoKey (WireKey w)) && true ≡ true
+    go true k = refl
+    go false k = and_from _ _ k refl
 
-net-untoken-plain : (rest : List (List ℕ)) → AreTexts rest → IsPlainIf (net_untoken_of rest)
-net-untoken-plain = form-plain _ _ (λ n _ w k asked _. untoken-plain n w asked k)
+net-untoken-plain : (rest : List (List ℕ)) → AreTexts rest → IsMessageIf (net_untoken_of rest)
+net-untoken-plain = message-plain _ _ (λ n _ w k asked _. untoken-plain n w asked k)
 
-declare-final-plain : (rest : List (List ℕ)) → AreTexts rest → IsPlainIf (declare_final_of rest)
-declare-final-plain = form-plain _ _ (λ _ _. refl)
+declare-final-plain : (rest : List (List ℕ)) → AreTexts rest → IsMessageIf (declare_final_of rest)
+declare-final-plain = message-plain _ _ (λ _ _. refl)
 
-push-put-plain : (wire : WireExpr) → PlainWire wire → (rest : List (List ℕ)) → AreTexts rest → IsPlainIf (push_put_of wire rest)
-push-put-plain wire w = form-plain _ _ (λ _ _ _ e _ _ _ _ _ _ _ _ _ _. and_from _ _ w (and_from _ _ e refl))
+push-value-plain : (wire : WireExpr) → PlainWire wire → (kind : SampleKind) (rest : List (List ℕ)) → AreTexts rest → IsMessageIf (push_value_of wire kind rest)
+push-value-plain wire w kind =
+    message-plain _ _ (λ what e time _ _ _ _ _ origin _ beside _.
+    and_from _ _ w (and_from _ _ (body-plain what (update_of what time origin beside) e) refl))
 
-push-delete-plain : (wire : WireExpr) → PlainWire wire → (rest : List (List ℕ)) → AreTexts rest → IsPlainIf (push_delete_of wire rest)
-push-delete-plain wire w = form-plain _ _ (λ _ _ _ _ _ _ _ _ _ _. and_from _ _ w (and_from _ _ default-plain refl))
-
-push-by-plain : (wire : WireExpr) → PlainWire wire → (word : List ℕ) (rest : List (List ℕ)) → AreTexts rest → IsPlainIf (push_by wire word rest)
+push-by-plain : (wire : WireExpr) → PlainWire wire → (word : List ℕ) (rest : List (List ℕ)) → AreTexts rest → IsMessageIf (push_by wire word rest)
 push-by-plain wire w word rest h =
-    on-choice (bytes_eq word (codes "put")) PlainEvent (push_put_of wire rest) _ (push-put-plain wire w rest h)
-    (on-choice (bytes_eq word (codes "del")) PlainEvent (push_delete_of wire rest) None (push-delete-plain wire w rest h) tt)
+    on-choice (bytes_eq word (codes "put")) PlainMessage (push_value_of wire put_kind rest) _ (push-value-plain wire w put_kind rest h)
+    (on-choice (bytes_eq word (codes "del")) PlainMessage (push_value_of wire delete_kind rest) None (push-value-plain wire w delete_kind rest h) tt)
 
-push-plain : (rest : List (List ℕ)) → AreTexts rest → IsPlainIf (push_of rest)
+push-plain : (rest : List (List ℕ)) → AreTexts rest → IsMessageIf (push_of rest)
 unfolding push_of
 push-plain rest h =
-    on-then {A = WireExpr × List (List ℕ)} {B = Event} (λ found. by_word (push_by found.0) found.1)
-    (λ found. PlainWire found.0 × AreTexts found.1) PlainEvent
-    (λ found k. by-word PlainEvent (push_by found.0) (push-by-plain found.0 k.0) found.1 k.1) _ (wire-read rest h)
+    on-then {A = WireExpr × List (List ℕ)} {B = Message} (λ found. by_word (push_by found.0) found.1)
+    (λ found. PlainWire found.0 × AreTexts found.1) PlainMessage
+    (λ found k. by-word PlainMessage (push_by found.0) (push-by-plain found.0 k.0) found.1 k.1) _ (wire-read rest h)
 
-request-plain : (rest : List (List ℕ)) → AreTexts rest → IsPlainIf (request_of rest)
-request-plain = form-plain _ _ (λ _ _ _ w _ t _ _ _ _ _ _ _ v _ _ _ _ _ _. and_from _ _ w (and_from _ _ t v))
+request-plain : (rest : List (List ℕ)) → AreTexts rest → IsMessageIf (request_of rest)
+request-plain = message-plain _ _ (λ _ _ _ w _ t _ _ _ _ _ _ _ v _ _ _ _ _ _. and_from _ _ w (and_from _ _ t v))
 
-response-put-plain : (n : ℕ) (wire : WireExpr) → PlainWire wire → (rest : List (List ℕ)) → AreTexts rest → IsPlainIf (response_put_of n wire rest)
-response-put-plain n wire w = form-plain _ _ (λ _ _ _ e _ _ _ _ _ _ _ _ _ _. and_from _ _ w (and_from _ _ e refl))
+response-value-plain : (n : ℕ) (wire : WireExpr) → PlainWire wire → (kind : SampleKind) (rest : List (List ℕ)) → AreTexts rest
+    → IsMessageIf (response_value_of n wire kind rest)
+response-value-plain n wire w kind =
+    message-plain _ _ (λ what e time _ _ _ origin _ beside _ _ _.
+    and_from _ _ w (and_from _ _ (body-plain what (update_of what time origin beside) e) refl))
 
-response-delete-plain : (n : ℕ) (wire : WireExpr) → PlainWire wire → (rest : List (List ℕ)) → AreTexts rest → IsPlainIf (response_delete_of n wire rest)
-response-delete-plain n wire w = form-plain _ _ (λ _ _ _ _ _ _ _ _ _ _. and_from _ _ w (and_from _ _ default-plain refl))
+response-error-plain : (n : ℕ) (wire : WireExpr) (rest : List (List ℕ)) → AreTexts rest → IsMessageIf (response_error_of n wire rest)
+response-error-plain n wire = message-plain _ _ (λ _ _ _ e _ _ _ _. and_from _ _ e refl)
 
-response-error-plain : (n : ℕ) (wire : WireExpr) (rest : List (List ℕ)) → AreTexts rest → IsPlainIf (response_error_of n wire rest)
-response-error-plain n wire = form-plain _ _ (λ _ _ _ e _ _ _ _. and_from _ _ e refl)
-
-response-by-plain : (n : ℕ) (wire : WireExpr) → PlainWire wire → (word : List ℕ) (rest : List (List ℕ)) → AreTexts rest → IsPlainIf (response_by n wire word rest)
+response-by-plain : (n : ℕ) (wire : WireExpr) → PlainWire wire → (word : List ℕ) (rest : List (List ℕ)) → AreTexts rest → IsMessageIf (response_by n wire word rest)
 response-by-plain n wire w word rest h =
-    on-choice (bytes_eq word (codes "put")) PlainEvent (response_put_of n wire rest) _ (response-put-plain n wire w rest h)
-    (on-choice (bytes_eq word (codes "del")) PlainEvent (response_delete_of n wire rest) _ (response-delete-plain n wire w rest h)
-    (on-choice (bytes_eq word (codes "err")) PlainEvent (response_error_of n wire rest) None (response-error-plain n wire rest h) tt))
+    on-choice (bytes_eq word (codes "put")) PlainMessage (response_value_of n wire put_kind rest) _ (response-value-plain n wire w put_kind rest h)
+    (on-choice (bytes_eq word (codes "del")) PlainMessage (response_value_of n wire delete_kind rest) _ (response-value-plain n wire w delete_kind rest h)
+    (on-choice (bytes_eq word (codes "err")) PlainMessage (response_error_of n wire rest) None (response-error-plain n wire rest h) tt))
 
-response-on-plain : (n : ℕ) (rest : List (List ℕ)) → AreTexts rest → IsPlainIf (response_on n rest)
+response-on-plain : (n : ℕ) (rest : List (List ℕ)) → AreTexts rest → IsMessageIf (response_on n rest)
 unfolding response_on
 response-on-plain n rest h =
-    on-then {A = WireExpr × List (List ℕ)} {B = Event} (λ found. by_word (response_by n found.0) found.1)
-    (λ found. PlainWire found.0 × AreTexts found.1) PlainEvent
-    (λ found k. by-word PlainEvent (response_by n found.0) (response-by-plain n found.0 k.0) found.1 k.1) _ (wire-read rest h)
+    on-then {A = WireExpr × List (List ℕ)} {B = Message} (λ found. by_word (response_by n found.0) found.1)
+    (λ found. PlainWire found.0 × AreTexts found.1) PlainMessage
+    (λ found k. by-word PlainMessage (response_by n found.0) (response-by-plain n found.0 k.0) found.1 k.1) _ (wire-read rest h)
 
-response-plain : (rest : List (List ℕ)) → AreTexts rest → IsPlainIf (response_of rest)
+response-plain : (rest : List (List ℕ)) → AreTexts rest → IsMessageIf (response_of rest)
 unfolding response_of
 response-plain rest h =
-    on-then {A = ℕ × List (List ℕ)} {B = Event} (λ found. response_on found.0 found.1) (λ found. AreTexts found.1) PlainEvent
+    on-then {A = ℕ × List (List ℕ)} {B = Message} (λ found. response_on found.0 found.1) (λ found. AreTexts found.1) PlainMessage
     (λ found k. response-on-plain found.0 found.1 k) _ (number-read u32_max rest h)
 
-response-final-plain : (rest : List (List ℕ)) → AreTexts rest → IsPlainIf (response_final_of rest)
-response-final-plain = form-plain _ _ (λ _ _. refl)
+response-final-plain : (rest : List (List ℕ)) → AreTexts rest → IsMessageIf (response_final_of rest)
+response-final-plain = message-plain _ _ (λ _ _. refl)
 
-net-close-plain : (rest : List (List ℕ)) → AreTexts rest → IsPlainIf (net_close_of rest)
-net-close-plain = form-plain _ _ refl
+net-close-plain : (rest : List (List ℕ)) → AreTexts rest → IsMessageIf (net_close_of rest)
+net-close-plain = message-plain _ _ refl
 
-net-plain : (word : List ℕ) (rest : List (List ℕ)) → AreTexts rest → IsPlainIf (net_by word rest)
-net-plain word rest h =
-    on-choice (bytes_eq word (codes "keyexpr")) PlainEvent (key_expr_of rest) _ (key-expr-plain rest h)
-    (on-choice (bytes_eq word (codes "unkeyexpr")) PlainEvent (unkey_expr_of rest) _ (unkey-expr-plain rest h)
-    (on-choice (bytes_eq word (codes "sub")) PlainEvent (net_sub_of rest) _ (net-sub-plain rest h)
-    (on-choice (bytes_eq word (codes "unsub")) PlainEvent (net_unsub_of rest) _ (net-unsub-plain rest h)
-    (on-choice (bytes_eq word (codes "queryable")) PlainEvent (net_queryable_of rest) _ (net-queryable-plain rest h)
-    (on-choice (bytes_eq word (codes "unqueryable")) PlainEvent (net_unqueryable_of rest) _ (net-unqueryable-plain rest h)
-    (on-choice (bytes_eq word (codes "token")) PlainEvent (net_token_of rest) _ (net-token-plain rest h)
-    (on-choice (bytes_eq word (codes "untoken")) PlainEvent (net_untoken_of rest) _ (net-untoken-plain rest h)
-    (on-choice (bytes_eq word (codes "declarefinal")) PlainEvent (declare_final_of rest) _ (declare-final-plain rest h)
-    (on-choice (bytes_eq word (codes "push")) PlainEvent (push_of rest) _ (push-plain rest h)
-    (on-choice (bytes_eq word (codes "request")) PlainEvent (request_of rest) _ (request-plain rest h)
-    (on-choice (bytes_eq word (codes "response")) PlainEvent (response_of rest) _ (response-plain rest h)
-    (on-choice (bytes_eq word (codes "responsefinal")) PlainEvent (response_final_of rest) _ (response-final-plain rest h)
-    (on-choice (bytes_eq word (codes "close")) PlainEvent (net_close_of rest) None (net-close-plain rest h) tt)))))))))))))
+by-message-plain : (word : List ℕ) (rest : List (List ℕ)) → AreTexts rest → IsMessageIf (message_by word rest)
+by-message-plain word rest h =
+    on-choice (bytes_eq word (codes "keyexpr")) PlainMessage (key_expr_of rest) _ (key-expr-plain rest h)
+    (on-choice (bytes_eq word (codes "unkeyexpr")) PlainMessage (unkey_expr_of rest) _ (unkey-expr-plain rest h)
+    (on-choice (bytes_eq word (codes "sub")) PlainMessage (net_sub_of rest) _ (net-sub-plain rest h)
+    (on-choice (bytes_eq word (codes "unsub")) PlainMessage (net_unsub_of rest) _ (net-unsub-plain rest h)
+    (on-choice (bytes_eq word (codes "queryable")) PlainMessage (net_queryable_of rest) _ (net-queryable-plain rest h)
+    (on-choice (bytes_eq word (codes "unqueryable")) PlainMessage (net_unqueryable_of rest) _ (net-unqueryable-plain rest h)
+    (on-choice (bytes_eq word (codes "token")) PlainMessage (net_token_of rest) _ (net-token-plain rest h)
+    (on-choice (bytes_eq word (codes "untoken")) PlainMessage (net_untoken_of rest) _ (net-untoken-plain rest h)
+    (on-choice (bytes_eq word (codes "declarefinal")) PlainMessage (declare_final_of rest) _ (declare-final-plain rest h)
+    (on-choice (bytes_eq word (codes "push")) PlainMessage (push_of rest) _ (push-plain rest h)
+    (on-choice (bytes_eq word (codes "request")) PlainMessage (request_of rest) _ (request-plain rest h)
+    (on-choice (bytes_eq word (codes "response")) PlainMessage (response_of rest) _ (response-plain rest h)
+    (on-choice (bytes_eq word (codes "responsefinal")) PlainMessage (response_final_of rest) _ (response-final-plain rest h)
+    (on-choice (bytes_eq word (codes "close")) PlainMessage (net_close_of rest) None (net-close-plain rest h) tt)))))))))))))
 
-net-event : (rest : List (List ℕ)) → AreTexts rest → IsPlainIf (net_of rest)
-unfolding net_of
-net-event rest h = by-word PlainEvent net_by net-plain rest h
+by-messages : (rest : List (List ℕ)) → AreTexts rest → IsMessageIf (message_of rest)
+unfolding message_of
+by-messages rest h = by-word PlainMessage message_by by-message-plain rest h
 
-plain-by-plain : (word : List ℕ) (rest : List (List ℕ)) → AreTexts rest → IsPlainIf (plain_by word rest)
-plain-by-plain word rest h =
+net-plain : (rest : List (List ℕ)) → AreTexts rest → IsPlainIf (net_of rest)
+net-plain rest h = on-map {A = Message} {B = Event} Net PlainMessage PlainEvent (λ _ k. k) (message_of rest) (by-messages rest h)
+
+core-plain : (word : List ℕ) (rest : List (List ℕ)) → AreTexts rest → IsPlainIf (core_by word rest)
+core-plain word rest h =
     on-choice (bytes_eq word (codes "key")) PlainEvent (declare_of rest) _ (declare-plain rest h)
+    (on-choice (bytes_eq word (codes "sub")) PlainEvent (sub_of rest) _ (sub-plain rest h)
     (on-choice (bytes_eq word (codes "pub")) PlainEvent (pub_of rest) _ (pub-plain rest h)
     (on-choice (bytes_eq word (codes "queryable")) PlainEvent (queryable_of rest) _ (queryable-plain rest h)
     (on-choice (bytes_eq word (codes "querier")) PlainEvent (querier_of rest) _ (querier-plain rest h)
@@ -247,33 +253,28 @@ plain-by-plain word rest h =
     (on-choice (bytes_eq word (codes "status")) PlainEvent (status_of rest) _ (status-plain rest h)
     (on-choice (bytes_eq word (codes "undeclare")) PlainEvent (undeclare_of rest) _ (undeclare-event rest h)
     (on-choice (bytes_eq word (codes "background")) PlainEvent (background_of rest) _ (background-plain rest h)
-    (on-choice (bytes_eq word (codes "put")) PlainEvent (put_of rest) _ (put-plain rest h)
-    (on-choice (bytes_eq word (codes "delete")) PlainEvent (delete_of rest) _ (delete-plain rest h)
-    (on-choice (bytes_eq word (codes "pput")) PlainEvent (publisher_put_of rest) _ (publisher-put-plain rest h)
-    (on-choice (bytes_eq word (codes "pdel")) PlainEvent (publisher_delete_of rest) _ (publisher-delete-plain rest h)
+    (on-choice (bytes_eq word (codes "put")) PlainEvent (publish_of put_kind rest) _ (publish-plain put_kind rest h)
+    (on-choice (bytes_eq word (codes "delete")) PlainEvent (publish_of delete_kind rest) _ (publish-plain delete_kind rest h)
+    (on-choice (bytes_eq word (codes "pput")) PlainEvent (publish_by_of put_kind rest) _ (publish-by-plain put_kind rest h)
+    (on-choice (bytes_eq word (codes "pdel")) PlainEvent (publish_by_of delete_kind rest) _ (publish-by-plain delete_kind rest h)
     (on-choice (bytes_eq word (codes "ctoken")) PlainEvent (cancel_token_of rest) _ (cancel-token-plain rest h)
     (on-choice (bytes_eq word (codes "cancel")) PlainEvent (cancel_of rest) _ (cancel-plain rest h)
-    (on-choice (bytes_eq word (codes "reply")) PlainEvent (reply_of rest) _ (reply-plain rest h)
-    (on-choice (bytes_eq word (codes "replydel")) PlainEvent (reply_delete_of rest) _ (reply-delete-plain rest h)
+    (on-choice (bytes_eq word (codes "get")) PlainEvent (get_of rest) _ (get-plain rest h)
+    (on-choice (bytes_eq word (codes "qget")) PlainEvent (querier_get_of rest) _ (querier-get-plain rest h)
+    (on-choice (bytes_eq word (codes "lget")) PlainEvent (liveliness_get_of rest) _ (liveliness-get-plain rest h)
+    (on-choice (bytes_eq word (codes "reply")) PlainEvent (reply_of put_kind rest) _ (reply-plain put_kind rest h)
+    (on-choice (bytes_eq word (codes "replydel")) PlainEvent (reply_of delete_kind rest) _ (reply-plain delete_kind rest h)
     (on-choice (bytes_eq word (codes "replyerr")) PlainEvent (reply_error_of rest) _ (reply-error-plain rest h)
     (on-choice (bytes_eq word (codes "share")) PlainEvent (share_of rest) _ (share-plain rest h)
     (on-choice (bytes_eq word (codes "finish")) PlainEvent (finish_of rest) _ (finish-plain rest h)
     (on-choice (bytes_eq word (codes "tick")) PlainEvent (tick_of rest) _ (tick-plain rest h)
     (on-choice (bytes_eq word (codes "close")) PlainEvent (close_of rest) _ (close-plain rest h)
-    (on-choice (bytes_eq word (codes "net")) PlainEvent (net_of rest) None (net-event rest h) tt)))))))))))))))))))))))
-
-printed-plain : (event : Option Event) → IsPlainIf event → IsLineIf (printed event)
-printed-plain None h = tt
-printed-plain (Some event) h = h
+    (on-choice (bytes_eq word (codes "net")) PlainEvent (net_of rest) None (net-plain rest h) tt)))))))))))))))))))))))))))
 
 event-plain : (word : List ℕ) (rest : List (List ℕ)) → AreTexts rest → IsLineIf (event_by word rest)
 event-plain word rest h =
-    on-choice (bytes_eq word (codes "sub")) PlainLine (sub_of rest) _ (sub-plain rest h)
-    (on-choice (bytes_eq word (codes "get")) PlainLine (get_of rest) _ (get-plain rest h)
-    (on-choice (bytes_eq word (codes "qget")) PlainLine (querier_get_of rest) _ (querier-get-plain rest h)
-    (on-choice (bytes_eq word (codes "lget")) PlainLine (liveliness_get_of rest) _ (liveliness-get-plain rest h)
-    (on-choice (bytes_eq word (codes "recv")) PlainLine (recv_of rest) _ (recv-plain rest h)
-    (printed-plain (plain_by word rest) (plain-by-plain word rest h))))))
+    on-choice (bytes_eq word (codes "recv")) PlainLine (recv_of rest) _ (recv-plain rest h)
+    (on-map {A = Event} {B = ScriptEvent} Core PlainEvent PlainLine (λ _ k. k) (core_by word rest) (core-plain word rest h))
 
 fields-event : (parts : List (List ℕ)) → AreTexts parts → IsLineIf (event_of_fields parts)
 fields-event parts h = by-word PlainLine event_by event-plain parts h

@@ -2,18 +2,27 @@
 use Rattle.std.proofs.Common.{ℕ, ◌≡◌, Bool, true, false, cond, nat_lt, List, [], ◌∷◌, Option, Some, None, IfSome, refl, lit<, codes, option_map, option_and_then}
 use Rattle.std.specs.List.{list_all, AllByRecursion}
 use Rattle.std.specs.Str.{chars}
-use Rattle.std.proofs.lemmas.Bool.{and_from}
+use Rattle.std.proofs.lemmas.Bool.{and_parts, and_from}
 use Rattle.zs_sample.specs.Encoding.{encoding_of}
 use Rattle.zs_wire.specs.declared.quality.CongestionControl.{CongestionControl}
+use Rattle.zs_wire.specs.declared.quality.CongestionControl.TheVariants.{Drop}
+use Rattle.zs_wire.specs.declared.sample_kind.SampleKind.{SampleKind}
+use Rattle.zs_wire.specs.declared.sample_kind.SampleKind.TheVariants.{Put as put_kind, Delete as delete_kind}
 use Rattle.zs_wire.specs.declared.wire_expr.WireExpr.{WireExpr}
+use Rattle.zs_wire.specs.declared.message.Message.{Message}
 use Rattle.zs_events.specs.declared.event.Event.{Event}
+use Rattle.zs_events.specs.declared.event.Event.TheVariants.{Net}
 use Rattle.zs_events.specs.declared.script_event.ScriptEvent.{ScriptEvent}
-use Rattle.zs_events.specs.Kinds.{default_encoding, text_if, value_texts}
+use Rattle.zs_events.specs.declared.update.PushBody.{PushBody}
+use Rattle.zs_events.specs.declared.update.PushBody.TheVariants.{Put, Delete}
+use Rattle.zs_events.specs.declared.update.Update.{Update}
+use Rattle.zs_events.specs.Updates.{default_encoding, body_by, texts_by}
+use Rattle.zs_events.specs.Kinds.{value_texts}
 use Rattle.zs_script.specs.Symbols.{number_of, u32_max, u64_max, locality_of, background_kind_of, parent_of, complete_of, history_of, key_of, payload_of, wire_of, names_nothing, naming}
 use Rattle.zs_script.specs.Options.{timestamp_of, entity_of, source_of, encoding_text_of, priority_of, congestion_of, flag_of, target_of, consolidation_of, any_key_of, value_of}
 use Rattle.zs_script.specs.Channels.{channel_of, channel_kind_of}
-use Rattle.zs_script.specs.Parts.{Part, number, locality, background_kind, parent, complete, history, key, selector, wire, wire_if, payload, parameters, target, consolidation, timeout, value, encoding, own_encoding, timestamp, qos, own_priority, own_congestion, own_express, reliable, source, attachment, responder, any_key, token, interest, channel, handed_to, channel_kind, Value, first_of, behind, first_in, named_in, taken, option_in, maybe_in, named_wire_in, qos_in, value_in, selector_of, read, Maker, form}
-use Rattle.zs_script.specs.Plain.{is_field_text, is_plain_event, is_plain_script_event, suffix_if}
+use Rattle.zs_script.specs.Parts.{Part, number, locality, background_kind, parent, complete, history, key, selector, wire, wire_if, payload, push_body, parameters, target, consolidation, timeout, value, encoding, timestamp, qos, reliable, quality, reply_quality, source, attachment, responder, any_key, cancellation_token, interest, channel, handed_to, channel_kind, Value, first_of, behind, first_in, named_in, taken, option_in, maybe_in, named_wire_in, qos_in, quality_in, reply_quality_in, named_encoding_in, encoded, body_in, value_in, selector_of, read, Maker, form}
+use Rattle.zs_script.specs.Plain.{is_field_text, is_plain_event, is_plain_script_event, suffix_if, text_if}
 use Rattle.zs_script.proofs.PlainSymbols.{IsText, PlainKey, PlainChars, PlainWire, on-map, on-then, on-any, prefix-text, chars-plain, key-plain, wire-plain, before-sign, behind-sign}
 
 abbrev pub AreTexts : List (List ℕ) → Type 0
@@ -24,6 +33,10 @@ AllPlain texts = list_all is_field_text texts ≡ true
 
 abbrev pub PlainEvent : Event → Type 0
 PlainEvent event = is_plain_event event ≡ true
+
+-- the same of a message that comes in
+abbrev pub PlainMessage : Message → Type 0
+PlainMessage message = PlainEvent (Net message)
 
 abbrev pub PlainLine : ScriptEvent → Type 0
 PlainLine event = is_plain_script_event event ≡ true
@@ -85,11 +98,38 @@ encoding-text (c ∷ cs) h = h
 encoding-plain : (field : List ℕ) → IsText field → PlainChars (encoding_of (chars field))
 encoding-plain field h = encoding-text (chars field) (chars-plain field h)
 
-own-encoding-plain : (fields : List (List ℕ)) → AreTexts fields
+-- of a value, where it is named
+given-encoding-plain : (fields : List (List ℕ)) → AreTexts fields
     → Reads (λ text. AllPlain (text_if text)) (maybe_in (codes "enc=") encoding_text_of fields)
-own-encoding-plain fields h =
+given-encoding-plain fields h =
     option-plain (codes "enc=") (λ text. option_map Some (encoding_text_of text)) None (λ text. AllPlain (text_if text))
     refl refl (λ text k. and_from _ _ (encoding-plain text k) refl) fields h
+
+-- of an update, as it is named
+named-encoding-plain : (fields : List (List ℕ)) → AreTexts fields → Reads (λ text. AllPlain (text_if text)) (named_encoding_in fields)
+named-encoding-plain fields h =
+    option-plain (codes "enc=") (λ text. option_map Some (Some (chars text))) None (λ text. AllPlain (text_if text))
+    refl refl (λ text k. and_from _ _ (chars-plain text k) refl) fields h
+
+-- what is put
+put-texts : (bytes : List (List ℕ)) (text : Option (List ℕ)) → AllPlain (text_if text) → AllPlain (texts_by (Put bytes text))
+put-texts bytes None h = refl
+put-texts bytes (Some text) h = h
+
+body-texts : (kind : SampleKind) (fields : List (List ℕ)) → AreTexts fields
+    → IfSome {T = PushBody × List (List ℕ)} (body_in kind fields) (λ found. AllPlain (texts_by found.0) × AreTexts found.1)
+body-texts put_kind fields h =
+    on-map {A = List (List ℕ) × List (List ℕ)} {B = PushBody × List (List ℕ)} (λ found. encoded found.0 (named_encoding_in found.1))
+    (Reads (λ _. Unit {0})) (λ found. AllPlain (texts_by found.0) × AreTexts found.1)
+    (λ found k. let text = named-encoding-plain found.1 k.1 in (put-texts found.0 (named_encoding_in found.1).0 text.0, text.1))
+    (first_in payload_of fields) (first-any payload_of fields h)
+body-texts delete_kind fields h = (refl, h)
+
+-- and as it stands in a message
+pub body-plain : (what : PushBody) (update : Update) → AllPlain (texts_by what) → PlainChars (body_by what [] update).encoding
+body-plain (Put bytes None) update h = default-plain
+body-plain (Put bytes (Some text)) update h = encoding-text text (and_parts _ true h).0
+body-plain Delete update h = default-plain
 
 -- compound parts
 abbrev pub PlainWireIf : Option WireExpr → Type 0
@@ -123,6 +163,21 @@ qos-texts least absent fields h =
           (option-any (codes "prio=") (priority_of least) 5 fields h).1).1).1,
     )
 
+quality-texts : (fields : List (List ℕ)) → AreTexts fields → Reads (λ _. Unit {0}) (quality_in fields)
+quality-texts fields h =
+    let service = qos_in 1 Drop fields in
+    (tt, (option-any (codes "rel=") flag_of true service.1 (qos-texts 1 Drop fields h).1).1)
+
+reply-quality-texts : (fields : List (List ℕ)) → AreTexts fields → Reads (λ _. Unit {0}) (reply_quality_in fields)
+reply-quality-texts fields h =
+    let priority = maybe_in (codes "prio=") (priority_of 1) fields in
+    let congestion = maybe_in (codes "cc=") congestion_of priority.1 in (
+      tt,
+      (maybe-any (codes "express=") flag_of congestion.1
+          (maybe-any (codes "cc=") congestion_of priority.1
+          (maybe-any (codes "prio=") (priority_of 1) fields h).1).1).1,
+    )
+
 value-made : (bytes : Option (List (List ℕ))) (text : Option (List ℕ)) → AllPlain (text_if text) → AllPlain (value_texts (value_of bytes text))
 value-made None None h = refl
 value-made None (Some text) h = h
@@ -132,7 +187,7 @@ value-made (Some bytes) (Some text) h = h
 value-plain : (fields : List (List ℕ)) → AreTexts fields → Reads (λ v. AllPlain (value_texts v)) (value_in fields)
 value-plain fields h =
     let bytes = maybe_in (codes "payload=") payload_of fields in
-    let text = own-encoding-plain bytes.1 (maybe-any (codes "payload=") payload_of fields h).1 in
+    let text = given-encoding-plain bytes.1 (maybe-any (codes "payload=") payload_of fields h).1 in
     (value-made bytes.0 (maybe_in (codes "enc=") encoding_text_of bytes.1).0 text.0, text.1)
 
 -- the texts of what a part is read as
@@ -141,10 +196,10 @@ IsPlainValue key k = PlainKey k
 IsPlainValue selector s = PlainKey s.0 × PlainChars s.1
 IsPlainValue wire w = PlainWire w
 IsPlainValue wire_if w = PlainWireIf w
+IsPlainValue (push_body kind) what = AllPlain (texts_by what)
 IsPlainValue parameters text = PlainChars text
 IsPlainValue value v = AllPlain (value_texts v)
 IsPlainValue encoding text = PlainChars text
-IsPlainValue own_encoding text = AllPlain (text_if text)
 IsPlainValue part v = Unit {0}
 
 read-plain : (part : Part) (fields : List (List ℕ)) → AreTexts fields
@@ -163,24 +218,23 @@ read-plain selector fields h =
 read-plain wire fields h = first-plain wire_of PlainWire wire-plain fields h
 read-plain wire_if fields h = named-wire-plain fields h
 read-plain payload fields h = first-any payload_of fields h
+read-plain (push_body kind) fields h = body-texts kind fields h
 read-plain parameters fields h = option-plain (codes "params=") (λ text. Some (chars text)) [] PlainChars refl refl chars-plain fields h
 read-plain target fields h = option-any (codes "target=") target_of _ fields h
 read-plain consolidation fields h = option-any (codes "cons=") consolidation_of _ fields h
 read-plain timeout fields h = maybe-any (codes "timeout=") (number_of u64_max) fields h
 read-plain value fields h = value-plain fields h
 read-plain encoding fields h = option-plain (codes "enc=") encoding_text_of default_encoding PlainChars refl default-plain encoding-plain fields h
-read-plain own_encoding fields h = own-encoding-plain fields h
 read-plain timestamp fields h = maybe-any (codes "ts=") timestamp_of fields h
 read-plain (qos least absent) fields h = qos-texts least absent fields h
-read-plain own_priority fields h = maybe-any (codes "prio=") (priority_of 1) fields h
-read-plain own_congestion fields h = maybe-any (codes "cc=") congestion_of fields h
-read-plain own_express fields h = maybe-any (codes "express=") flag_of fields h
 read-plain reliable fields h = option-any (codes "rel=") flag_of _ fields h
+read-plain quality fields h = quality-texts fields h
+read-plain reply_quality fields h = reply-quality-texts fields h
 read-plain source fields h = maybe-any (codes "src=") source_of fields h
 read-plain attachment fields h = maybe-any (codes "att=") payload_of fields h
 read-plain responder fields h = maybe-any (codes "by=") entity_of fields h
 read-plain any_key fields h = option-any (codes "accept=") any_key_of _ fields h
-read-plain token fields h = maybe-any (codes "token=") (number_of u32_max) fields h
+read-plain cancellation_token fields h = maybe-any (codes "token=") (number_of u32_max) fields h
 read-plain interest fields h = maybe-any (codes "interest=") (number_of u32_max) fields h
 read-plain channel fields h = taken-plain _ (λ _. Unit {0}) tt fields h (option_and_then channel_of (first_of fields)) (on-any _)
 read-plain handed_to fields h = option-any (codes "to=") channel_of _ fields h
@@ -216,6 +270,10 @@ made-plain {A = A} P (part ∷ parts) make plain fields h =
 pub form-plain : (parts : List Part) (make : Maker parts Event) → MakesPlain PlainEvent parts make → (fields : List (List ℕ)) → AreTexts fields
     → IfSome (form parts make fields) PlainEvent
 form-plain parts make plain fields h = made-plain PlainEvent parts make plain fields h
+
+pub message-plain : (parts : List Part) (make : Maker parts Message) → MakesPlain PlainMessage parts make → (fields : List (List ℕ)) → AreTexts fields
+    → IfSome (form parts make fields) PlainMessage
+message-plain parts make plain fields h = made-plain PlainMessage parts make plain fields h
 
 pub line-plain : (parts : List Part) (make : Maker parts ScriptEvent) → MakesPlain PlainLine parts make → (fields : List (List ℕ)) → AreTexts fields
     → IfSome (form parts make fields) PlainLine

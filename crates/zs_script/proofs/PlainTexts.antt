@@ -5,7 +5,7 @@ use Rattle.std.specs.List.{list_all, onto_first}
 use Rattle.std.proofs.lemmas.Bool.{and_parts, and_from, ne_eqb, not_from_false, not-true}
 use Rattle.std.proofs.lemmas.List.Folds.{list_all-append}
 use Rattle.zs_bytes.specs.Payload.{bytes_of}
-use Rattle.zs_script.specs.Lines.{lines, onto_line, fields}
+use Rattle.zs_lines.specs.Lines.{lines, onto_line, fields}
 use Rattle.zs_script.specs.Words.{hex_digit, hex_digits, hex_text, byte_digits, bytes_text}
 use Rattle.zs_script.specs.Printing.{tabbed}
 use Rattle.zs_script.specs.Plain.{has_no_line_feed, is_plain}

@@ -1,43 +1,65 @@
 -- What a line says, if it says something.
 use Rattle.std.specs.Prelude.{ℕ, Bool, List, [], ◌∷◌, Option, None, option_map, option_and_then, unwrap_or, codes, if◌then◌else◌}
 use Rattle.std.specs.Str.{bytes_eq, is_utf8}
+use Rattle.zs_sample.specs.declared.locality.Locality.{Locality}
+use Rattle.zs_wire.specs.declared.message.Message.{Message}
 use Rattle.zs_wire.specs.declared.message.Message.TheVariants.{DeclareKeyExpr, UndeclareKeyExpr, DeclareSubscriber, UndeclareSubscriber, DeclareQueryable, UndeclareQueryable, DeclareToken, UndeclareToken, DeclareFinal, Push, Request as request_message, Response as response_message, ResponseFinal, Close as close_message}
-use Rattle.zs_wire.specs.declared.body.Body.{Body}
+use Rattle.zs_wire.specs.declared.body.Value.{Value}
 use Rattle.zs_wire.specs.declared.origin.EntityGlobalId.{EntityGlobalId}
 use Rattle.zs_wire.specs.declared.origin.SourceInfo.{SourceInfo}
 use Rattle.zs_wire.specs.declared.origin.Timestamp.{Timestamp}
 use Rattle.zs_wire.specs.declared.quality.CongestionControl.TheVariants.{Drop, Block}
 use Rattle.zs_wire.specs.declared.quality.QoSType.{QoSType}
+use Rattle.zs_wire.specs.declared.request.ConsolidationMode.{ConsolidationMode}
+use Rattle.zs_wire.specs.declared.request.QueryTarget.{QueryTarget}
 use Rattle.zs_wire.specs.declared.response.Answered.{Answered}
 use Rattle.zs_wire.specs.declared.response.Answered.TheVariants.{Reply, Err as error_reply}
-use Rattle.zs_wire.specs.declared.sample_kind.SampleKind.TheVariants.{Put as put_kind}
+use Rattle.zs_wire.specs.declared.sample_kind.SampleKind.{SampleKind}
+use Rattle.zs_wire.specs.declared.sample_kind.SampleKind.TheVariants.{Put as put_kind, Delete as delete_kind}
 use Rattle.zs_wire.specs.declared.wire_expr.WireExpr.{WireExpr}
-use Rattle.zs_events.specs.declared.chan.Chan.TheVariants.{Print}
 use Rattle.zs_events.specs.declared.event.Event.{Event}
-use Rattle.zs_events.specs.declared.event.Event.TheVariants.{Key, UndeclareKey, Sub, Pub, Queryable, Querier, Token, Lsub, Listen, Status, Undeclare, Background, Put, Delete, PublisherPut, PublisherDelete, CancelToken, Cancel, Get, QuerierGet, LivelinessGet, Reply as reply_event, ReplyDelete, ReplyErr, Share, Finish, Tick, Close, Net}
+use Rattle.zs_events.specs.declared.event.Event.TheVariants.{Key, UndeclareKey, Sub, Pub, Queryable, Querier, Token, Lsub, Listen, Status, Undeclare, Background, Publish, PublishBy, CancelToken, Cancel, Get, QuerierGet, LivelinessGet, Reply as reply_event, ReplyErr, Share, Finish, Tick, Close, Net}
 use Rattle.zs_events.specs.declared.script_event.ScriptEvent.{ScriptEvent}
 use Rattle.zs_events.specs.declared.script_event.ScriptEvent.TheVariants.{Core, Recv}
-use Rattle.zs_events.specs.Kinds.{delete_body}
-use Rattle.zs_script.specs.Lines.{fields}
+use Rattle.zs_events.specs.declared.inquiry.Inquiry.{Inquiry}
+use Rattle.zs_events.specs.declared.inquiry.QuerySettings.{QuerySettings}
+use Rattle.zs_events.specs.declared.update.PushBody.{PushBody}
+use Rattle.zs_events.specs.declared.update.Update.{Update}
+use Rattle.zs_events.specs.Updates.{body_of}
+use Rattle.zs_lines.specs.Lines.{fields}
 use Rattle.zs_script.specs.Symbols.{u16_max, u32_max, u64_max, entity_kind_of}
-use Rattle.zs_script.specs.Parts.{number, locality, background_kind, parent, complete, history, key, selector, wire, wire_if, payload, parameters, target, consolidation, timeout, value, encoding, own_encoding, timestamp, qos, own_priority, own_congestion, own_express, reliable, source, attachment, responder, any_key, token, interest, channel, handed_to, channel_kind, read, form}
+use Rattle.zs_script.specs.Parts.{number, locality, background_kind, parent, complete, history, key, selector, wire, wire_if, payload, push_body, parameters, target, consolidation, timeout, value, encoding, timestamp, qos, reliable, quality, reply_quality, source, attachment, responder, any_key, cancellation_token, interest, channel, handed_to, channel_kind, read, form}
 
 -- what a choice by the first field makes of the fields behind it
 abbrev pub by_word : {A : Type 0} → (List ℕ → List (List ℕ) → Option A) → List (List ℕ) → Option A
 by_word choice [] = None
 by_word choice (word ∷ rest) = choice word rest
 
+-- what an application says of a key, how a get asks, and what it asks
+abbrev pub update_of : PushBody → Option Timestamp → Option SourceInfo → Option (List (List ℕ)) → Update
+update_of what time origin beside = record { body = what; timestamp = time; source = origin; attachment = beside }
+
+abbrev pub settings_of : Locality → QueryTarget → ConsolidationMode → Option ℕ → QoSType → Bool → QuerySettings
+settings_of where_to whom mode time service any =
+    record { destination = where_to; target = whom; consolidation = mode; timeout = time; qos = service; any_key = any }
+
+abbrev pub inquiry_of : List ℕ → Option Value → Option SourceInfo → Option (List (List ℕ)) → Option ℕ → Inquiry
+inquiry_of text given origin beside cancel =
+    record { parameters = text; value = given; source = origin; attachment = beside; cancellation_token = cancel }
+
 -- `key KEY`
 abbrev pub declare_of : List (List ℕ) → Option Event
 declare_of rest = form (key ∷ []) Key rest
 
 -- `sub LOC KEY`, `sub LOC KEY CHAN`
-abbrev pub sub_of : List (List ℕ) → Option ScriptEvent
-sub_of rest = form (locality ∷ key ∷ channel ∷ []) (λ origin k out. Core (Sub origin k) out) rest
+abbrev pub sub_of : List (List ℕ) → Option Event
+sub_of rest = form (locality ∷ key ∷ channel ∷ []) Sub rest
 
 -- `pub LOC KEY` and its options
 abbrev pub pub_of : List (List ℕ) → Option Event
-pub_of rest = form (locality ∷ key ∷ encoding ∷ qos 1 Drop ∷ reliable ∷ []) Pub rest
+pub_of rest =
+    form (locality ∷ key ∷ encoding ∷ quality ∷ [])
+    (λ where_to k text how. Pub k (record { destination = where_to; encoding = text; quality = how })) rest
 
 -- `queryable LOC complete KEY`, `queryable LOC partial KEY`
 abbrev pub queryable_of : List (List ℕ) → Option Event
@@ -45,7 +67,9 @@ queryable_of rest = form (locality ∷ complete ∷ key ∷ []) Queryable rest
 
 -- `querier LOC KEY` and its options
 abbrev pub querier_of : List (List ℕ) → Option Event
-querier_of rest = form (locality ∷ key ∷ target ∷ consolidation ∷ timeout ∷ qos 1 Block ∷ any_key ∷ []) Querier rest
+querier_of rest =
+    form (locality ∷ key ∷ target ∷ consolidation ∷ timeout ∷ qos 1 Block ∷ any_key ∷ [])
+    (λ where_to k whom mode time service any. Querier k (settings_of where_to whom mode time service any)) rest
 
 -- `token KEY`
 abbrev pub token_of : List (List ℕ) → Option Event
@@ -79,23 +103,17 @@ undeclare_of rest = by_word undeclared_by rest
 abbrev pub background_of : List (List ℕ) → Option Event
 background_of rest = form (background_kind ∷ number u32_max ∷ []) Background rest
 
--- `put LOC KEY BYTES` and its options
-abbrev pub put_of : List (List ℕ) → Option Event
-put_of rest =
-    form (locality ∷ key ∷ payload ∷ encoding ∷ timestamp ∷ qos 1 Drop ∷ reliable ∷ source ∷ attachment ∷ []) Put rest
+-- `put LOC KEY BYTES` or `delete LOC KEY`, and the options
+abbrev pub publish_of : SampleKind → List (List ℕ) → Option Event
+publish_of kind rest =
+    form (locality ∷ key ∷ push_body kind ∷ timestamp ∷ quality ∷ source ∷ attachment ∷ [])
+    (λ where_to k what time how origin beside. Publish where_to k (update_of what time origin beside) how) rest
 
--- `delete LOC KEY` and its options
-abbrev pub delete_of : List (List ℕ) → Option Event
-delete_of rest = form (locality ∷ key ∷ timestamp ∷ qos 1 Drop ∷ reliable ∷ source ∷ attachment ∷ []) Delete rest
-
--- `pput N BYTES` and its options: without an encoding it has the publisher's
-abbrev pub publisher_put_of : List (List ℕ) → Option Event
-publisher_put_of rest =
-    form (number u32_max ∷ payload ∷ own_encoding ∷ timestamp ∷ source ∷ attachment ∷ []) PublisherPut rest
-
--- `pdel N` and its options
-abbrev pub publisher_delete_of : List (List ℕ) → Option Event
-publisher_delete_of rest = form (number u32_max ∷ timestamp ∷ source ∷ attachment ∷ []) PublisherDelete rest
+-- `pput N BYTES` or `pdel N`, and the options: without an encoding a put has the publisher's
+abbrev pub publish_by_of : SampleKind → List (List ℕ) → Option Event
+publish_by_of kind rest =
+    form (number u32_max ∷ push_body kind ∷ timestamp ∷ source ∷ attachment ∷ [])
+    (λ n what time origin beside. PublishBy n (update_of what time origin beside)) rest
 
 -- `ctoken`
 abbrev pub cancel_token_of : List (List ℕ) → Option Event
@@ -106,40 +124,36 @@ abbrev pub cancel_of : List (List ℕ) → Option Event
 cancel_of rest = form (number u32_max ∷ []) Cancel rest
 
 -- `get LOC SELECTOR` and its options: the selector is a key and the parameters
-abbrev pub get_of : List (List ℕ) → Option ScriptEvent
+abbrev pub get_of : List (List ℕ) → Option Event
 get_of rest =
-    form (locality ∷ selector ∷ target ∷ consolidation ∷ timeout ∷ value ∷ qos 1 Block ∷ source ∷ attachment ∷ any_key ∷ token ∷ handed_to ∷ [])
-    (λ where_to chosen whom mode time given quality origin beside any cancel out.
-    Core (Get where_to chosen.0 chosen.1 whom mode time given quality origin beside any cancel) out) rest
+    form (locality ∷ selector ∷ target ∷ consolidation ∷ timeout ∷ value ∷ qos 1 Block ∷ source ∷ attachment ∷ any_key ∷ cancellation_token ∷ handed_to ∷ [])
+    (λ where_to chosen whom mode time given service origin beside any cancel out.
+    Get chosen.0 (settings_of where_to whom mode time service any) (inquiry_of chosen.1 given origin beside cancel) out) rest
 
 -- `qget N` and its options: the others are the querier's
-abbrev pub querier_get_of : List (List ℕ) → Option ScriptEvent
+abbrev pub querier_get_of : List (List ℕ) → Option Event
 querier_get_of rest =
-    form (number u32_max ∷ parameters ∷ value ∷ source ∷ attachment ∷ token ∷ handed_to ∷ [])
-    (λ n text given origin beside cancel out. Core (QuerierGet n text given origin beside cancel) out) rest
+    form (number u32_max ∷ parameters ∷ value ∷ source ∷ attachment ∷ cancellation_token ∷ handed_to ∷ [])
+    (λ n text given origin beside cancel out. QuerierGet n (inquiry_of text given origin beside cancel) out) rest
 
 -- `lget KEY` and its options
-abbrev pub liveliness_get_of : List (List ℕ) → Option ScriptEvent
-liveliness_get_of rest = form (key ∷ timeout ∷ token ∷ handed_to ∷ []) (λ k time cancel out. Core (LivelinessGet k time cancel) out) rest
+abbrev pub liveliness_get_of : List (List ℕ) → Option Event
+liveliness_get_of rest = form (key ∷ timeout ∷ cancellation_token ∷ handed_to ∷ []) LivelinessGet rest
 
 -- `recv sub N`, `recv get N`, `recv lget N`
 abbrev pub recv_of : List (List ℕ) → Option ScriptEvent
 recv_of rest = form (channel_kind ∷ number u32_max ∷ []) Recv rest
 
--- `reply N KEY BYTES` and its options: what is not given is as in the query
-abbrev pub reply_of : List (List ℕ) → Option Event
-reply_of rest =
-    form (number u32_max ∷ key ∷ payload ∷ encoding ∷ timestamp ∷ own_priority ∷ own_congestion ∷ own_express ∷ source ∷ attachment ∷ [])
-    reply_event rest
-
--- `replydel N KEY` and its options
-abbrev pub reply_delete_of : List (List ℕ) → Option Event
-reply_delete_of rest =
-    form (number u32_max ∷ key ∷ timestamp ∷ own_priority ∷ own_congestion ∷ own_express ∷ source ∷ attachment ∷ []) ReplyDelete rest
+-- `reply N KEY BYTES` or `replydel N KEY`, and the options: what is not given is as in the query
+abbrev pub reply_of : SampleKind → List (List ℕ) → Option Event
+reply_of kind rest =
+    form (number u32_max ∷ key ∷ push_body kind ∷ timestamp ∷ reply_quality ∷ source ∷ attachment ∷ [])
+    (λ n k what time how origin beside. reply_event n k (update_of what time origin beside) how) rest
 
 -- `replyerr N BYTES` and its option
 abbrev pub reply_error_of : List (List ℕ) → Option Event
-reply_error_of rest = form (number u32_max ∷ payload ∷ encoding ∷ []) ReplyErr rest
+reply_error_of rest =
+    form (number u32_max ∷ payload ∷ encoding ∷ []) (λ n bytes text. ReplyErr n (record { payload = bytes; encoding = text })) rest
 
 -- `share N`
 abbrev pub share_of : List (List ℕ) → Option Event
@@ -158,76 +172,56 @@ abbrev pub close_of : List (List ℕ) → Option Event
 close_of rest = form [] Close rest
 
 -- `keyexpr N WIRE`, behind `net`
-abbrev pub key_expr_of : List (List ℕ) → Option Event
-key_expr_of rest = form (number u16_max ∷ wire ∷ []) (λ n w. Net (DeclareKeyExpr n w)) rest
+abbrev pub key_expr_of : List (List ℕ) → Option Message
+key_expr_of rest = form (number u16_max ∷ wire ∷ []) DeclareKeyExpr rest
 
 -- `unkeyexpr N`, behind `net`
-abbrev pub unkey_expr_of : List (List ℕ) → Option Event
-unkey_expr_of rest = form (number u16_max ∷ []) (λ n. Net (UndeclareKeyExpr n)) rest
+abbrev pub unkey_expr_of : List (List ℕ) → Option Message
+unkey_expr_of rest = form (number u16_max ∷ []) UndeclareKeyExpr rest
 
 -- `sub N WIRE`, behind `net`
-abbrev pub net_sub_of : List (List ℕ) → Option Event
-net_sub_of rest = form (number u32_max ∷ wire ∷ []) (λ n w. Net (DeclareSubscriber n w)) rest
+abbrev pub net_sub_of : List (List ℕ) → Option Message
+net_sub_of rest = form (number u32_max ∷ wire ∷ []) DeclareSubscriber rest
 
 -- `unsub N`, behind `net`
-abbrev pub net_unsub_of : List (List ℕ) → Option Event
-net_unsub_of rest = form (number u32_max ∷ []) (λ n. Net (UndeclareSubscriber n)) rest
+abbrev pub net_unsub_of : List (List ℕ) → Option Message
+net_unsub_of rest = form (number u32_max ∷ []) UndeclareSubscriber rest
 
 -- `queryable N complete WIRE`, `queryable N partial WIRE`, behind `net`
-abbrev pub net_queryable_of : List (List ℕ) → Option Event
-net_queryable_of rest = form (number u32_max ∷ complete ∷ wire ∷ []) (λ n whole w. Net (DeclareQueryable n whole w)) rest
+abbrev pub net_queryable_of : List (List ℕ) → Option Message
+net_queryable_of rest = form (number u32_max ∷ complete ∷ wire ∷ []) DeclareQueryable rest
 
 -- `unqueryable N`, behind `net`
-abbrev pub net_unqueryable_of : List (List ℕ) → Option Event
-net_unqueryable_of rest = form (number u32_max ∷ []) (λ n. Net (UndeclareQueryable n)) rest
+abbrev pub net_unqueryable_of : List (List ℕ) → Option Message
+net_unqueryable_of rest = form (number u32_max ∷ []) UndeclareQueryable rest
 
 -- `token N WIRE` and its option, behind `net`
-abbrev pub net_token_of : List (List ℕ) → Option Event
-net_token_of rest = form (number u32_max ∷ wire ∷ interest ∷ []) (λ n w asked. Net (DeclareToken n w asked)) rest
+abbrev pub net_token_of : List (List ℕ) → Option Message
+net_token_of rest = form (number u32_max ∷ wire ∷ interest ∷ []) DeclareToken rest
 
 -- `untoken N` or `untoken N WIRE`, and its option, behind `net`
-abbrev pub net_untoken_of : List (List ℕ) → Option Event
-net_untoken_of rest = form (number u32_max ∷ wire_if ∷ interest ∷ []) (λ n w asked. Net (UndeclareToken n w asked)) rest
+abbrev pub net_untoken_of : List (List ℕ) → Option Message
+net_untoken_of rest = form (number u32_max ∷ wire_if ∷ interest ∷ []) UndeclareToken rest
 
 -- `declarefinal` and its option, behind `net`
-abbrev pub declare_final_of : List (List ℕ) → Option Event
-declare_final_of rest = form (interest ∷ []) (λ asked. Net (DeclareFinal asked)) rest
+abbrev pub declare_final_of : List (List ℕ) → Option Message
+declare_final_of rest = form (interest ∷ []) DeclareFinal rest
 
--- a publication that comes in
-abbrev pub pushed : WireExpr → Body → QoSType → Bool → Event
-pushed w body quality flag = Net (Push (record { wire = w; body = body; qos = quality; reliable = flag }))
-
--- what a put that comes in says of its key, with the encoding as it was read
-abbrev pub value_body : List (List ℕ) → List ℕ → Option Timestamp → Option SourceInfo → Option (List (List ℕ)) → Body
-value_body bytes text time origin beside = record {
-  kind = put_kind;
-  payload = bytes;
-  encoding = text;
-  timestamp = time;
-  source = origin;
-  attachment = beside;
-}
-
--- `BYTES` and its options, behind `push WIRE put`
-abbrev pub push_put_of : WireExpr → List (List ℕ) → Option Event
-push_put_of w rest =
-    form (payload ∷ encoding ∷ timestamp ∷ qos 0 Drop ∷ reliable ∷ source ∷ attachment ∷ [])
-    (λ bytes text time quality flag origin beside. pushed w (value_body bytes text time origin beside) quality flag) rest
-
--- the options behind `push WIRE del`
-abbrev pub push_delete_of : WireExpr → List (List ℕ) → Option Event
-push_delete_of w rest =
-    form (timestamp ∷ qos 0 Drop ∷ reliable ∷ source ∷ attachment ∷ [])
-    (λ time quality flag origin beside. pushed w (delete_body time origin beside) quality flag) rest
+-- `put BYTES` or `del`, and the options, behind `push WIRE`
+abbrev pub push_value_of : WireExpr → SampleKind → List (List ℕ) → Option Message
+push_value_of w kind rest =
+    form (push_body kind ∷ timestamp ∷ qos 0 Drop ∷ reliable ∷ source ∷ attachment ∷ [])
+    (λ what time service flag origin beside.
+    Push (record { wire = w; body = body_of [] (update_of what time origin beside); qos = service; reliable = flag })) rest
 
 -- `put` or `del` and what follows, behind `push WIRE`
-abbrev pub push_by : WireExpr → List ℕ → List (List ℕ) → Option Event
+abbrev pub push_by : WireExpr → List ℕ → List (List ℕ) → Option Message
 push_by w word rest =
-    if bytes_eq word (codes "put") then push_put_of w rest else
-    if bytes_eq word (codes "del") then push_delete_of w rest else None
+    if bytes_eq word (codes "put") then push_value_of w put_kind rest else
+    if bytes_eq word (codes "del") then push_value_of w delete_kind rest else None
 
 -- `push WIRE put BYTES` and `push WIRE del`, behind `net`
-unfoldable pub push_of : List (List ℕ) → Option Event
+unfoldable pub push_of : List (List ℕ) → Option Message
 push_of rest = option_and_then (λ found. by_word (push_by found.0) found.1) (read wire rest)
 
 -- the timeout of a request that says none
@@ -235,10 +229,10 @@ abbrev pub request_timeout : ℕ
 request_timeout = 10000
 
 -- `request N WIRE` and its options, behind `net`
-abbrev pub request_of : List (List ℕ) → Option Event
+abbrev pub request_of : List (List ℕ) → Option Message
 request_of rest =
     form (number u32_max ∷ wire ∷ parameters ∷ target ∷ consolidation ∷ timeout ∷ value ∷ qos 0 Block ∷ source ∷ attachment ∷ [])
-    (λ n w text whom mode time given quality origin beside. Net (request_message (record {
+    (λ n w text whom mode time given service origin beside. request_message (record {
       rid = n;
       wire = w;
       parameters = text;
@@ -246,60 +240,54 @@ request_of rest =
       consolidation = mode;
       timeout = unwrap_or time request_timeout;
       value = given;
-      qos = quality;
+      qos = service;
       source = origin;
       attachment = beside;
-    }))) rest
+    })) rest
 
 -- what a get is told
-abbrev pub responded : ℕ → WireExpr → Answered → QoSType → Option EntityGlobalId → Event
-responded n w answered quality who =
-    Net (response_message (record { rid = n; wire = w; answered = answered; qos = quality; responder = who }))
+abbrev pub responded : ℕ → WireExpr → Answered → QoSType → Option EntityGlobalId → Message
+responded n w answered service who =
+    response_message (record { rid = n; wire = w; answered = answered; qos = service; responder = who })
 
--- `BYTES` and its options, behind `response N WIRE put`
-abbrev pub response_put_of : ℕ → WireExpr → List (List ℕ) → Option Event
-response_put_of n w rest =
-    form (payload ∷ encoding ∷ timestamp ∷ qos 0 Block ∷ source ∷ attachment ∷ responder ∷ [])
-    (λ bytes text time quality origin beside who. responded n w (Reply (value_body bytes text time origin beside)) quality who) rest
-
--- the options behind `response N WIRE del`
-abbrev pub response_delete_of : ℕ → WireExpr → List (List ℕ) → Option Event
-response_delete_of n w rest =
-    form (timestamp ∷ qos 0 Block ∷ source ∷ attachment ∷ responder ∷ [])
-    (λ time quality origin beside who. responded n w (Reply (delete_body time origin beside)) quality who) rest
+-- `put BYTES` or `del`, and the options, behind `response N WIRE`
+abbrev pub response_value_of : ℕ → WireExpr → SampleKind → List (List ℕ) → Option Message
+response_value_of n w kind rest =
+    form (push_body kind ∷ timestamp ∷ qos 0 Block ∷ source ∷ attachment ∷ responder ∷ [])
+    (λ what time service origin beside who. responded n w (Reply (body_of [] (update_of what time origin beside))) service who) rest
 
 -- `BYTES` and its options, behind `response N WIRE err`
-abbrev pub response_error_of : ℕ → WireExpr → List (List ℕ) → Option Event
+abbrev pub response_error_of : ℕ → WireExpr → List (List ℕ) → Option Message
 response_error_of n w rest =
     form (payload ∷ encoding ∷ qos 0 Block ∷ responder ∷ [])
-    (λ bytes text quality who. responded n w (error_reply (record { payload = bytes; encoding = text })) quality who) rest
+    (λ bytes text service who. responded n w (error_reply (record { payload = bytes; encoding = text })) service who) rest
 
 -- `put`, `del` or `err` and what follows, behind `response N WIRE`
-abbrev pub response_by : ℕ → WireExpr → List ℕ → List (List ℕ) → Option Event
+abbrev pub response_by : ℕ → WireExpr → List ℕ → List (List ℕ) → Option Message
 response_by n w word rest =
-    if bytes_eq word (codes "put") then response_put_of n w rest else
-    if bytes_eq word (codes "del") then response_delete_of n w rest else
+    if bytes_eq word (codes "put") then response_value_of n w put_kind rest else
+    if bytes_eq word (codes "del") then response_value_of n w delete_kind rest else
     if bytes_eq word (codes "err") then response_error_of n w rest else None
 
 -- `WIRE` and what follows, behind `response N`
-unfoldable pub response_on : ℕ → List (List ℕ) → Option Event
+unfoldable pub response_on : ℕ → List (List ℕ) → Option Message
 response_on n rest = option_and_then (λ found. by_word (response_by n found.0) found.1) (read wire rest)
 
 -- `response N WIRE put BYTES`, `response N WIRE del` and `response N WIRE err BYTES`, behind `net`
-unfoldable pub response_of : List (List ℕ) → Option Event
+unfoldable pub response_of : List (List ℕ) → Option Message
 response_of rest = option_and_then (λ found. response_on found.0 found.1) (read (number u32_max) rest)
 
 -- `responsefinal N`, behind `net`
-abbrev pub response_final_of : List (List ℕ) → Option Event
-response_final_of rest = form (number u32_max ∷ []) (λ n. Net (ResponseFinal n)) rest
+abbrev pub response_final_of : List (List ℕ) → Option Message
+response_final_of rest = form (number u32_max ∷ []) ResponseFinal rest
 
 -- `close`, behind `net`
-abbrev pub net_close_of : List (List ℕ) → Option Event
-net_close_of rest = form [] (Net close_message) rest
+abbrev pub net_close_of : List (List ℕ) → Option Message
+net_close_of rest = form [] close_message rest
 
--- `net MESSAGE`: a message that comes in
-abbrev pub net_by : List ℕ → List (List ℕ) → Option Event
-net_by word rest =
+-- a message, behind `net`
+abbrev pub message_by : List ℕ → List (List ℕ) → Option Message
+message_by word rest =
     if bytes_eq word (codes "keyexpr") then key_expr_of rest else
     if bytes_eq word (codes "unkeyexpr") then unkey_expr_of rest else
     if bytes_eq word (codes "sub") then net_sub_of rest else
@@ -315,13 +303,18 @@ net_by word rest =
     if bytes_eq word (codes "responsefinal") then response_final_of rest else
     if bytes_eq word (codes "close") then net_close_of rest else None
 
-unfoldable pub net_of : List (List ℕ) → Option Event
-net_of rest = by_word net_by rest
+unfoldable pub message_of : List (List ℕ) → Option Message
+message_of rest = by_word message_by rest
 
--- an event of the session by the first field of its line, where the line has no channel
-abbrev pub plain_by : List ℕ → List (List ℕ) → Option Event
-plain_by word rest =
+-- `net MESSAGE`: a message that comes in
+abbrev pub net_of : List (List ℕ) → Option Event
+net_of rest = option_map Net (message_of rest)
+
+-- an event of the session, by the first field of its line
+abbrev pub core_by : List ℕ → List (List ℕ) → Option Event
+core_by word rest =
     if bytes_eq word (codes "key") then declare_of rest else
+    if bytes_eq word (codes "sub") then sub_of rest else
     if bytes_eq word (codes "pub") then pub_of rest else
     if bytes_eq word (codes "queryable") then queryable_of rest else
     if bytes_eq word (codes "querier") then querier_of rest else
@@ -331,14 +324,17 @@ plain_by word rest =
     if bytes_eq word (codes "status") then status_of rest else
     if bytes_eq word (codes "undeclare") then undeclare_of rest else
     if bytes_eq word (codes "background") then background_of rest else
-    if bytes_eq word (codes "put") then put_of rest else
-    if bytes_eq word (codes "delete") then delete_of rest else
-    if bytes_eq word (codes "pput") then publisher_put_of rest else
-    if bytes_eq word (codes "pdel") then publisher_delete_of rest else
+    if bytes_eq word (codes "put") then publish_of put_kind rest else
+    if bytes_eq word (codes "delete") then publish_of delete_kind rest else
+    if bytes_eq word (codes "pput") then publish_by_of put_kind rest else
+    if bytes_eq word (codes "pdel") then publish_by_of delete_kind rest else
     if bytes_eq word (codes "ctoken") then cancel_token_of rest else
     if bytes_eq word (codes "cancel") then cancel_of rest else
-    if bytes_eq word (codes "reply") then reply_of rest else
-    if bytes_eq word (codes "replydel") then reply_delete_of rest else
+    if bytes_eq word (codes "get") then get_of rest else
+    if bytes_eq word (codes "qget") then querier_get_of rest else
+    if bytes_eq word (codes "lget") then liveliness_get_of rest else
+    if bytes_eq word (codes "reply") then reply_of put_kind rest else
+    if bytes_eq word (codes "replydel") then reply_of delete_kind rest else
     if bytes_eq word (codes "replyerr") then reply_error_of rest else
     if bytes_eq word (codes "share") then share_of rest else
     if bytes_eq word (codes "finish") then finish_of rest else
@@ -346,18 +342,9 @@ plain_by word rest =
     if bytes_eq word (codes "close") then close_of rest else
     if bytes_eq word (codes "net") then net_of rest else None
 
--- a line of an event that hands nothing to a channel
-abbrev pub printed : Option Event → Option ScriptEvent
-printed event = option_map (λ e. Core e Print) event
-
--- what a line says, by its first field
+-- what a line says, by its first field: a read of a channel, or an event of the session
 abbrev pub event_by : List ℕ → List (List ℕ) → Option ScriptEvent
-event_by word rest =
-    if bytes_eq word (codes "sub") then sub_of rest else
-    if bytes_eq word (codes "get") then get_of rest else
-    if bytes_eq word (codes "qget") then querier_get_of rest else
-    if bytes_eq word (codes "lget") then liveliness_get_of rest else
-    if bytes_eq word (codes "recv") then recv_of rest else printed (plain_by word rest)
+event_by word rest = if bytes_eq word (codes "recv") then recv_of rest else option_map Core (core_by word rest)
 
 abbrev pub event_of_fields : List (List ℕ) → Option ScriptEvent
 event_of_fields rest = by_word event_by rest

@@ -1,4 +1,3 @@
-pub mod Lines
 pub mod Fields
 pub mod Hexadecimal
 pub mod Symbols
@@ -9,7 +8,5 @@ pub mod Grammar
 pub mod Words
 pub mod Pieces
 pub mod Printing
-pub mod Reading
-pub mod Writing
 pub mod Plain
 pub mod Laws

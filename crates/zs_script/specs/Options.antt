@@ -13,7 +13,7 @@ use Rattle.zs_wire.specs.declared.request.ConsolidationMode.{ConsolidationMode}
 use Rattle.zs_wire.specs.declared.request.ConsolidationMode.TheVariants.{Auto, None as keep_all, Monotonic, Latest}
 use Rattle.zs_wire.specs.declared.request.QueryTarget.{QueryTarget}
 use Rattle.zs_wire.specs.declared.request.QueryTarget.TheVariants.{BestMatching, All, AllComplete}
-use Rattle.zs_events.specs.Kinds.{default_encoding}
+use Rattle.zs_events.specs.Updates.{default_encoding}
 use Rattle.zs_script.specs.Hexadecimal.{hex_of}
 use Rattle.zs_script.specs.Symbols.{number_of, u32_max, u64_max, is_colon}
 

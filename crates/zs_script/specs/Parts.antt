@@ -8,19 +8,26 @@ use Rattle.zs_wire.specs.declared.origin.EntityGlobalId.{EntityGlobalId}
 use Rattle.zs_wire.specs.declared.origin.SourceInfo.{SourceInfo}
 use Rattle.zs_wire.specs.declared.origin.Timestamp.{Timestamp}
 use Rattle.zs_wire.specs.declared.quality.CongestionControl.{CongestionControl}
+use Rattle.zs_wire.specs.declared.quality.CongestionControl.TheVariants.{Drop}
 use Rattle.zs_wire.specs.declared.quality.QoSType.{QoSType}
 use Rattle.zs_wire.specs.declared.request.ConsolidationMode.{ConsolidationMode}
 use Rattle.zs_wire.specs.declared.request.ConsolidationMode.TheVariants.{Auto}
 use Rattle.zs_wire.specs.declared.request.QueryTarget.{QueryTarget}
 use Rattle.zs_wire.specs.declared.request.QueryTarget.TheVariants.{BestMatching}
+use Rattle.zs_wire.specs.declared.sample_kind.SampleKind.{SampleKind}
+use Rattle.zs_wire.specs.declared.sample_kind.SampleKind.TheVariants.{Put as put_kind, Delete as delete_kind}
 use Rattle.zs_wire.specs.declared.wire_expr.WireExpr.{WireExpr}
 use Rattle.zs_events.specs.declared.chan.Chan.{Chan}
 use Rattle.zs_events.specs.declared.chan.Chan.TheVariants.{Print}
-use Rattle.zs_events.specs.declared.event.BackgroundKind.{BackgroundKind}
-use Rattle.zs_events.specs.declared.event.KeyArg.{KeyArg}
-use Rattle.zs_events.specs.declared.event.ParentKind.{ParentKind}
+use Rattle.zs_events.specs.declared.entity_kind.BackgroundKind.{BackgroundKind}
+use Rattle.zs_events.specs.declared.key_arg.KeyArg.{KeyArg}
+use Rattle.zs_events.specs.declared.entity_kind.ParentKind.{ParentKind}
+use Rattle.zs_events.specs.declared.publication.PublicationQuality.{PublicationQuality}
+use Rattle.zs_events.specs.declared.publication.ReplyQuality.{ReplyQuality}
 use Rattle.zs_events.specs.declared.turn.Kind.{Kind}
-use Rattle.zs_events.specs.Kinds.{default_encoding}
+use Rattle.zs_events.specs.declared.update.PushBody.{PushBody}
+use Rattle.zs_events.specs.declared.update.PushBody.TheVariants.{Put, Delete}
+use Rattle.zs_events.specs.Updates.{default_encoding}
 use Rattle.zs_script.specs.Symbols.{number_of, u32_max, u64_max, locality_of, background_kind_of, parent_of, complete_of, history_of, key_of, payload_of, after_prefix, wire_of, naming}
 use Rattle.zs_script.specs.Options.{timestamp_of, entity_of, source_of, encoding_text_of, priority_of, congestion_of, flag_of, target_of, consolidation_of, any_key_of, value_of}
 use Rattle.zs_script.specs.Channels.{channel_of, channel_kind_of}
@@ -38,6 +45,8 @@ pub data Part : Type 0 where
   wire : Part
   wire_if : Part
   payload : Part
+  -- what is put, with the encoding that it names, or nothing to read where a value is deleted
+  push_body : (kind : SampleKind) → Part
   -- options of queries
   parameters : Part
   target : Part
@@ -46,18 +55,16 @@ pub data Part : Type 0 where
   value : Part
   -- options of publications, and most of them also of queries and replies
   encoding : Part
-  own_encoding : Part
   timestamp : Part
   qos : (least : ℕ) (absent : CongestionControl) → Part
-  own_priority : Part
-  own_congestion : Part
-  own_express : Part
   reliable : Part
+  quality : Part
+  reply_quality : Part
   source : Part
   attachment : Part
   responder : Part
   any_key : Part
-  token : Part
+  cancellation_token : Part
   interest : Part
   -- where items go, as a field that may be left out and as an option, and what has a channel
   channel : Part
@@ -77,24 +84,23 @@ Value selector = KeyArg × List ℕ
 Value wire = WireExpr
 Value wire_if = Option WireExpr
 Value payload = List (List ℕ)
+Value (push_body kind) = PushBody
 Value parameters = List ℕ
 Value target = QueryTarget
 Value consolidation = ConsolidationMode
 Value timeout = Option ℕ
 Value value = Option QueryValue
 Value encoding = List ℕ
-Value own_encoding = Option (List ℕ)
 Value timestamp = Option Timestamp
 Value (qos least absent) = QoSType
-Value own_priority = Option ℕ
-Value own_congestion = Option CongestionControl
-Value own_express = Option Bool
 Value reliable = Bool
+Value quality = PublicationQuality
+Value reply_quality = ReplyQuality
 Value source = Option SourceInfo
 Value attachment = Option (List (List ℕ))
 Value responder = Option EntityGlobalId
 Value any_key = Bool
-Value token = Option ℕ
+Value cancellation_token = Option ℕ
 Value interest = Option ℕ
 Value channel = Chan
 Value handed_to = Chan
@@ -144,6 +150,32 @@ qos_in least absent fields =
     let express = option_in (codes "express=") flag_of false congestion.1 in
     (record { priority = priority.0; congestion = congestion.0; express = express.0 }, express.1)
 
+-- quality of service of a publication, and of a reply, which is as its query has it where it says nothing
+abbrev pub quality_in : List (List ℕ) → PublicationQuality × List (List ℕ)
+quality_in fields =
+    let service = qos_in 1 Drop fields in
+    let flag = option_in (codes "rel=") flag_of true service.1 in
+    (record { qos = service.0; reliable = flag.0 }, flag.1)
+
+abbrev pub reply_quality_in : List (List ℕ) → ReplyQuality × List (List ℕ)
+reply_quality_in fields =
+    let priority = maybe_in (codes "prio=") (priority_of 1) fields in
+    let congestion = maybe_in (codes "cc=") congestion_of priority.1 in
+    let express = maybe_in (codes "express=") flag_of congestion.1 in
+    (record { priority = priority.0; congestion = congestion.0; express = express.0 }, express.1)
+
+-- an encoding as it was named, if one was
+abbrev pub named_encoding_in : List (List ℕ) → Option (List ℕ) × List (List ℕ)
+named_encoding_in fields = maybe_in (codes "enc=") (λ text. Some (chars text)) fields
+
+-- what is put: a payload, and the encoding that it names
+abbrev pub encoded : List (List ℕ) → Option (List ℕ) × List (List ℕ) → PushBody × List (List ℕ)
+encoded bytes text = (Put bytes text.0, text.1)
+
+abbrev pub body_in : SampleKind → List (List ℕ) → Option (PushBody × List (List ℕ))
+body_in put_kind fields = option_map (λ found. encoded found.0 (named_encoding_in found.1)) (first_in payload_of fields)
+body_in delete_kind fields = Some (Delete, fields)
+
 -- a value: two options
 abbrev pub value_in : List (List ℕ) → Option QueryValue × List (List ℕ)
 value_in fields =
@@ -168,24 +200,23 @@ read selector fields = first_in (λ field. Some (selector_of field)) fields
 read wire fields = first_in wire_of fields
 read wire_if fields = Some (named_wire_in fields)
 read payload fields = first_in payload_of fields
+read (push_body kind) fields = body_in kind fields
 read parameters fields = Some (option_in (codes "params=") (λ text. Some (chars text)) [] fields)
 read target fields = Some (option_in (codes "target=") target_of BestMatching fields)
 read consolidation fields = Some (option_in (codes "cons=") consolidation_of Auto fields)
 read timeout fields = Some (maybe_in (codes "timeout=") (number_of u64_max) fields)
 read value fields = Some (value_in fields)
 read encoding fields = Some (option_in (codes "enc=") encoding_text_of default_encoding fields)
-read own_encoding fields = Some (maybe_in (codes "enc=") encoding_text_of fields)
 read timestamp fields = Some (maybe_in (codes "ts=") timestamp_of fields)
 read (qos least absent) fields = Some (qos_in least absent fields)
-read own_priority fields = Some (maybe_in (codes "prio=") (priority_of 1) fields)
-read own_congestion fields = Some (maybe_in (codes "cc=") congestion_of fields)
-read own_express fields = Some (maybe_in (codes "express=") flag_of fields)
 read reliable fields = Some (option_in (codes "rel=") flag_of true fields)
+read quality fields = Some (quality_in fields)
+read reply_quality fields = Some (reply_quality_in fields)
 read source fields = Some (maybe_in (codes "src=") source_of fields)
 read attachment fields = Some (maybe_in (codes "att=") payload_of fields)
 read responder fields = Some (maybe_in (codes "by=") entity_of fields)
 read any_key fields = Some (option_in (codes "accept=") any_key_of false fields)
-read token fields = Some (maybe_in (codes "token=") (number_of u32_max) fields)
+read cancellation_token fields = Some (maybe_in (codes "token=") (number_of u32_max) fields)
 read interest fields = Some (maybe_in (codes "interest=") (number_of u32_max) fields)
 read channel fields = Some (taken Print fields (option_and_then channel_of (first_of fields)))
 read handed_to fields = Some (option_in (codes "to=") channel_of Print fields)

@@ -10,14 +10,14 @@ use Rattle.zs_wire.specs.declared.message.Message.TheVariants.{DeclareKeyExpr, U
 use Rattle.zs_wire.specs.declared.response.Answered.{Answered}
 use Rattle.zs_wire.specs.declared.response.Answered.TheVariants.{Reply, Err as error_reply}
 use Rattle.zs_wire.specs.declared.wire_expr.WireExpr.{WireExpr}
-use Rattle.zs_events.specs.declared.event.KeyArg.{KeyArg}
-use Rattle.zs_events.specs.declared.event.KeyArg.TheVariants.{Text, Number, Declared}
+use Rattle.zs_events.specs.declared.key_arg.KeyArg.{KeyArg}
+use Rattle.zs_events.specs.declared.key_arg.KeyArg.TheVariants.{Text, Number, Declared}
 use Rattle.zs_events.specs.declared.event.Event.{Event}
 use Rattle.zs_events.specs.declared.received.Received.{Received}
 use Rattle.zs_events.specs.declared.received.Received.TheVariants.{Item, Empty, Disconnected, Deleted}
 use Rattle.zs_events.specs.declared.script_event.ScriptEvent.{ScriptEvent}
 use Rattle.zs_events.specs.declared.script_event.ScriptEvent.TheVariants.{Core, Recv}
-use Rattle.zs_events.specs.Kinds.{NamedKey, NoKey, OwnKey, PublisherKey, QuerierKey, WireKey, text_if, value_texts, row_of}
+use Rattle.zs_events.specs.Kinds.{NamedKey, NoKey, OwnKey, PublisherKey, QuerierKey, WireKey, value_texts, row_of}
 use Rattle.zs_events.specs.declared.turn.Effect.{Effect}
 use Rattle.zs_events.specs.declared.turn.Effect.TheVariants.{Send, Hand, End, Matching}
 use Rattle.zs_events.specs.declared.turn.HandOver.{HandOver}
@@ -59,7 +59,7 @@ is_plain_event e = is_plain_named (row_of e).key && list_all is_field_text (row_
 
 -- the same of what a line says
 abbrev pub is_plain_script_event : ScriptEvent → Bool
-is_plain_script_event (Core event to) = is_plain_event event
+is_plain_script_event (Core event) = is_plain_event event
 is_plain_script_event (Recv kind number) = true
 
 -- the text of a wire expression, if there is one
@@ -97,6 +97,11 @@ is_plain_sample sample = is_plain sample.key_expr.text && is_plain_text sample.e
 abbrev pub is_plain_outcome : Result SampleFields ErrorFields → Bool
 is_plain_outcome (Ok sample) = is_plain_sample sample
 is_plain_outcome (Err e) = is_plain_text e.encoding
+
+-- a text, if there is one
+abbrev pub text_if : Option (List ℕ) → List (List ℕ)
+text_if None = []
+text_if (Some text) = text ∷ []
 
 -- the same of what a queryable is handed of a query
 abbrev pub is_plain_query : Query → Bool

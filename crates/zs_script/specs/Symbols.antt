@@ -10,14 +10,14 @@ use Rattle.zs_sample.specs.declared.locality.Locality.TheVariants.{SessionLocal,
 use Rattle.zs_wire.specs.declared.wire_expr.Mapping.{Mapping}
 use Rattle.zs_wire.specs.declared.wire_expr.Mapping.TheVariants.{Sender, Receiver}
 use Rattle.zs_wire.specs.declared.wire_expr.WireExpr.{WireExpr}
-use Rattle.zs_events.specs.declared.event.BackgroundKind.{BackgroundKind}
-use Rattle.zs_events.specs.declared.event.BackgroundKind.TheVariants.{Sub as background_sub, Queryable as background_queryable, Listener as background_listener, Lsub as background_lsub}
-use Rattle.zs_events.specs.declared.event.EntityKind.{EntityKind}
-use Rattle.zs_events.specs.declared.event.EntityKind.TheVariants.{Sub as sub_kind, Pub as pub_kind, Queryable as queryable_kind, Querier as querier_kind, Listener as listener_kind, Token as token_kind, Lsub as lsub_kind}
-use Rattle.zs_events.specs.declared.event.ParentKind.{ParentKind}
-use Rattle.zs_events.specs.declared.event.ParentKind.TheVariants.{Pub as pub_parent, Querier as querier_parent}
-use Rattle.zs_events.specs.declared.event.KeyArg.{KeyArg}
-use Rattle.zs_events.specs.declared.event.KeyArg.TheVariants.{Text, Number}
+use Rattle.zs_events.specs.declared.entity_kind.BackgroundKind.{BackgroundKind}
+use Rattle.zs_events.specs.declared.entity_kind.BackgroundKind.TheVariants.{Sub as background_sub, Queryable as background_queryable, Listener as background_listener, Lsub as background_lsub}
+use Rattle.zs_events.specs.declared.entity_kind.EntityKind.{EntityKind}
+use Rattle.zs_events.specs.declared.entity_kind.EntityKind.TheVariants.{Sub as sub_kind, Pub as pub_kind, Queryable as queryable_kind, Querier as querier_kind, Listener as listener_kind, Token as token_kind, Lsub as lsub_kind}
+use Rattle.zs_events.specs.declared.entity_kind.ParentKind.{ParentKind}
+use Rattle.zs_events.specs.declared.entity_kind.ParentKind.TheVariants.{Pub as pub_parent, Querier as querier_parent}
+use Rattle.zs_events.specs.declared.key_arg.KeyArg.{KeyArg}
+use Rattle.zs_events.specs.declared.key_arg.KeyArg.TheVariants.{Text, Number}
 use Rattle.zs_events.specs.Kinds.{is_nothing}
 
 -- a decimal digit

@@ -2,12 +2,12 @@
 
 ghost use Rattle.std.specs.Prelude.{◌≡◌};
 ghost use Rattle.zs_script.specs.Channels.{size_of, channel_of, channel_kind_of};
-ghost use Rattle.zs_script.specs.Grammar.{recv_of, printed};
+ghost use Rattle.zs_script.specs.Grammar.{recv_of};
 
 use crate::numbers::parse_number;
 use crate::parts::Fields;
 use crate::symbols::after_prefix;
-use zs_events::{Chan, Event, Kind, ScriptEvent};
+use zs_events::{Chan, Kind, ScriptEvent};
 
 /// The greatest size of a channel.
 const SIZE_MAX: u64 = u16::MAX as u64;
@@ -58,16 +58,5 @@ pub(crate) fn parse_recv(fields: &mut Fields<'_>) -> Option<ScriptEvent>
 {
     let kind = fields.channel_kind()?;
     let number = fields.id()?;
-    fields.finish_line(ScriptEvent::Recv { kind, number })
-}
-
-/// An event that hands nothing to a channel.
-pub(crate) fn printed(event: Option<Event>) -> Option<ScriptEvent>
-    ensures { result ≡ printed event }
-{
-    let event = event?;
-    Some(ScriptEvent::Core {
-        event,
-        to: Chan::Print,
-    })
+    fields.finish(ScriptEvent::Recv { kind, number })
 }

@@ -5,7 +5,6 @@ ghost use Rattle.zs_script.specs.Grammar.{net_sub_of, net_unsub_of, net_queryabl
 
 use crate::parts::Fields;
 use std::alloc::{AllocError, Global};
-use zs_events::Event;
 use zs_wire::Message;
 
 /// `sub N WIRE`
@@ -13,7 +12,7 @@ use zs_wire::Message;
 pub(crate) fn parse_net_sub(
     alloc: Global,
     fields: &mut Fields<'_>,
-) -> Result<Option<Event>, AllocError>
+) -> Result<Option<Message>, AllocError>
     ensures { IfOk result (λ found. found ≡ net_sub_of fields.old) }
 {
     let Some(id) = fields.id() else {
@@ -22,16 +21,16 @@ pub(crate) fn parse_net_sub(
     let Some(wire) = fields.wire(alloc)? else {
         return Ok(None);
     };
-    Ok(fields.finish(Event::Net(Message::DeclareSubscriber { id, wire })))
+    Ok(fields.finish(Message::DeclareSubscriber { id, wire }))
 }
 
 /// `unsub N`
 #[tactic(auto, unfolding(crate::specs::Parts::form))]
-pub(crate) fn parse_net_unsub(fields: &mut Fields<'_>) -> Option<Event>
+pub(crate) fn parse_net_unsub(fields: &mut Fields<'_>) -> Option<Message>
     ensures { result ≡ net_unsub_of fields.old }
 {
     let id = fields.id()?;
-    fields.finish(Event::Net(Message::UndeclareSubscriber { id }))
+    fields.finish(Message::UndeclareSubscriber { id })
 }
 
 /// `queryable N complete WIRE`, `queryable N partial WIRE`
@@ -39,7 +38,7 @@ pub(crate) fn parse_net_unsub(fields: &mut Fields<'_>) -> Option<Event>
 pub(crate) fn parse_net_queryable(
     alloc: Global,
     fields: &mut Fields<'_>,
-) -> Result<Option<Event>, AllocError>
+) -> Result<Option<Message>, AllocError>
     ensures { IfOk result (λ found. found ≡ net_queryable_of fields.old) }
 {
     let Some(id) = fields.id() else {
@@ -52,16 +51,16 @@ pub(crate) fn parse_net_queryable(
         return Ok(None);
     };
     let message = Message::DeclareQueryable { id, complete, wire };
-    Ok(fields.finish(Event::Net(message)))
+    Ok(fields.finish(message))
 }
 
 /// `unqueryable N`
 #[tactic(auto, unfolding(crate::specs::Parts::form))]
-pub(crate) fn parse_net_unqueryable(fields: &mut Fields<'_>) -> Option<Event>
+pub(crate) fn parse_net_unqueryable(fields: &mut Fields<'_>) -> Option<Message>
     ensures { result ≡ net_unqueryable_of fields.old }
 {
     let id = fields.id()?;
-    fields.finish(Event::Net(Message::UndeclareQueryable { id }))
+    fields.finish(Message::UndeclareQueryable { id })
 }
 
 /// `token N WIRE` and its option
@@ -69,7 +68,7 @@ pub(crate) fn parse_net_unqueryable(fields: &mut Fields<'_>) -> Option<Event>
 pub(crate) fn parse_net_token(
     alloc: Global,
     fields: &mut Fields<'_>,
-) -> Result<Option<Event>, AllocError>
+) -> Result<Option<Message>, AllocError>
     ensures { IfOk result (λ found. found ≡ net_token_of fields.old) }
 {
     let Some(id) = fields.id() else {
@@ -80,7 +79,7 @@ pub(crate) fn parse_net_token(
     };
     let interest = fields.interest();
     let message = Message::DeclareToken { id, wire, interest };
-    Ok(fields.finish(Event::Net(message)))
+    Ok(fields.finish(message))
 }
 
 /// `untoken N` or `untoken N WIRE`, and its option
@@ -88,7 +87,7 @@ pub(crate) fn parse_net_token(
 pub(crate) fn parse_net_untoken(
     alloc: Global,
     fields: &mut Fields<'_>,
-) -> Result<Option<Event>, AllocError>
+) -> Result<Option<Message>, AllocError>
     ensures { IfOk result (λ found. found ≡ net_untoken_of fields.old) }
 {
     let Some(id) = fields.id() else {
@@ -97,14 +96,14 @@ pub(crate) fn parse_net_untoken(
     let wire = fields.wire_if(alloc)?;
     let interest = fields.interest();
     let message = Message::UndeclareToken { id, wire, interest };
-    Ok(fields.finish(Event::Net(message)))
+    Ok(fields.finish(message))
 }
 
 /// `declarefinal` and its option
 #[tactic(auto, unfolding(crate::specs::Parts::form))]
-pub(crate) fn parse_declare_final(fields: &mut Fields<'_>) -> Option<Event>
+pub(crate) fn parse_declare_final(fields: &mut Fields<'_>) -> Option<Message>
     ensures { result ≡ declare_final_of fields.old }
 {
     let interest = fields.interest();
-    fields.finish(Event::Net(Message::DeclareFinal { interest }))
+    fields.finish(Message::DeclareFinal { interest })
 }

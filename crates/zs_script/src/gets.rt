@@ -5,7 +5,7 @@ ghost use Rattle.zs_script.specs.Grammar.{cancel_token_of, cancel_of, get_of, qu
 
 use crate::parts::Fields;
 use std::alloc::{AllocError, Global};
-use zs_events::{Event, ScriptEvent};
+use zs_events::{Event, Inquiry, QuerySettings, Shared};
 use zs_wire::CongestionControl;
 
 /// `ctoken`
@@ -26,10 +26,7 @@ pub(crate) fn parse_cancel(fields: &mut Fields<'_>) -> Option<Event>
 
 /// `get LOC SELECTOR` and its options
 #[tactic(auto, unfolding(crate::specs::Parts::form))]
-pub(crate) fn parse_get(
-    alloc: Global,
-    fields: &mut Fields<'_>,
-) -> Result<Option<ScriptEvent>, AllocError>
+pub(crate) fn parse_get(alloc: Global, fields: &mut Fields<'_>) -> Result<Option<Event>, AllocError>
     ensures { IfOk result (λ found. found ≡ get_of fields.old) }
 {
     let Some(destination) = fields.locality() else {
@@ -38,22 +35,36 @@ pub(crate) fn parse_get(
     let Some((key, parameters)) = fields.selector(alloc)? else {
         return Ok(None);
     };
-    let event = Event::Get {
+    let target = fields.target();
+    let consolidation = fields.consolidation();
+    let timeout = fields.timeout();
+    let value = fields.value(alloc)?;
+    let qos = fields.qos(1, CongestionControl::Block);
+    let source = fields.source();
+    let attachment = fields.attachment(alloc)?;
+    let settings = QuerySettings {
         destination,
-        key,
-        parameters,
-        target: fields.target(),
-        consolidation: fields.consolidation(),
-        timeout: fields.timeout(),
-        value: fields.value(alloc)?,
-        qos: fields.qos(1, CongestionControl::Block),
-        source: fields.source(),
-        attachment: fields.attachment(alloc)?,
+        target,
+        consolidation,
+        timeout,
+        qos,
         any_key: fields.any_key(),
-        token: fields.token(),
+    };
+    let inquiry = Inquiry {
+        parameters,
+        value,
+        source,
+        attachment,
+        cancellation_token: fields.cancellation_token(),
     };
     let to = fields.handed_to();
-    Ok(fields.finish_line(ScriptEvent::Core { event, to }))
+    let inquiry = Shared::new(alloc, inquiry)?;
+    Ok(fields.finish(Event::Get {
+        key,
+        settings,
+        inquiry,
+        to,
+    }))
 }
 
 /// `querier LOC KEY` and its options
@@ -70,16 +81,15 @@ pub(crate) fn parse_querier(
     let Some(key) = fields.key(alloc)? else {
         return Ok(None);
     };
-    let event = Event::Querier {
+    let settings = QuerySettings {
         destination,
-        key,
         target: fields.target(),
         consolidation: fields.consolidation(),
         timeout: fields.timeout(),
         qos: fields.qos(1, CongestionControl::Block),
         any_key: fields.any_key(),
     };
-    Ok(fields.finish(event))
+    Ok(fields.finish(Event::Querier { key, settings }))
 }
 
 /// `qget N` and its options
@@ -87,20 +97,24 @@ pub(crate) fn parse_querier(
 pub(crate) fn parse_querier_get(
     alloc: Global,
     fields: &mut Fields<'_>,
-) -> Result<Option<ScriptEvent>, AllocError>
+) -> Result<Option<Event>, AllocError>
     ensures { IfOk result (λ found. found ≡ querier_get_of fields.old) }
 {
     let Some(id) = fields.id() else {
         return Ok(None);
     };
-    let event = Event::QuerierGet {
-        id,
-        parameters: fields.parameters(alloc)?,
-        value: fields.value(alloc)?,
-        source: fields.source(),
-        attachment: fields.attachment(alloc)?,
-        token: fields.token(),
+    let parameters = fields.parameters(alloc)?;
+    let value = fields.value(alloc)?;
+    let source = fields.source();
+    let attachment = fields.attachment(alloc)?;
+    let inquiry = Inquiry {
+        parameters,
+        value,
+        source,
+        attachment,
+        cancellation_token: fields.cancellation_token(),
     };
     let to = fields.handed_to();
-    Ok(fields.finish_line(ScriptEvent::Core { event, to }))
+    let inquiry = Shared::new(alloc, inquiry)?;
+    Ok(fields.finish(Event::QuerierGet { id, inquiry, to }))
 }

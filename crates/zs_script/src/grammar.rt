@@ -1,25 +1,25 @@
 //! What lines say, each read from the fields behind its word.
 
-ghost use Rattle.std.specs.Prelude.{◌≡◌, [], ◌∷◌, IfOk};
+ghost use Rattle.std.specs.Prelude.{◌≡◌, [], ◌∷◌, IfOk, option_map};
 ghost use Rattle.zs_events.specs.declared.event.Event.TheVariants.{UndeclareKey};
-ghost use Rattle.zs_script.specs.Grammar.{event_of, event_of_fields, plain_by, declare_of, sub_of, pub_of, queryable_of, listen_of, status_of, undeclare_entity_of, undeclare_of, background_of, put_of, delete_of, publisher_put_of, publisher_delete_of, tick_of, close_of};
-ghost use Rattle.zs_script.specs.Lines.{fields};
+ghost use Rattle.zs_events.specs.declared.script_event.ScriptEvent.TheVariants.{Core};
+ghost use Rattle.zs_script.specs.Grammar.{event_of, event_of_fields, core_by, declare_of, sub_of, queryable_of, listen_of, status_of, undeclare_entity_of, undeclare_of, background_of, tick_of, close_of};
+ghost use Rattle.zs_lines.specs.Lines.{fields};
 ghost use Rattle.zs_script.specs.Fields.{texts};
 ghost use Rattle.zs_script.specs.Parts.{key, form};
 
-use crate::channels::{parse_recv, printed};
+use crate::channels::parse_recv;
 use crate::gets::{parse_cancel, parse_cancel_token, parse_get, parse_querier, parse_querier_get};
 use crate::liveliness::{parse_liveliness_get, parse_lsub, parse_token};
 use crate::messages::parse_net;
 use crate::parts::Fields;
-use crate::reader::Line;
-use crate::replies::{
-    parse_finish, parse_reply, parse_reply_delete, parse_reply_error, parse_share,
-};
+use crate::publications::{parse_pub, parse_publish, parse_publish_by};
+use crate::replies::{parse_finish, parse_reply, parse_reply_error, parse_share};
 use crate::symbols::parse_entity_kind;
 use std::alloc::{AllocError, Global};
 use zs_events::{Event, ScriptEvent};
-use zs_wire::CongestionControl;
+use zs_lines::Line;
+use zs_sample::SampleKind;
 
 /// What a line says, if its form is one of the script language's.
 #[tactic(auto, using(crate::proofs::ReadingFields::utf8_tests), unfolding(crate::specs::Grammar::event_of))]
@@ -47,25 +47,30 @@ fn parse_fields(alloc: Global, fields: &mut Fields<'_>) -> Result<Option<ScriptE
         return Ok(None);
     };
     match word {
-        "sub" => parse_sub(alloc, fields),
-        "get" => parse_get(alloc, fields),
-        "qget" => parse_querier_get(alloc, fields),
-        "lget" => parse_liveliness_get(alloc, fields),
         "recv" => Ok(parse_recv(fields)),
-        _ => Ok(printed(parse_plain(alloc, word, fields)?)),
+        _ => Ok(of_session(parse_core(alloc, word, fields)?)),
     }
 }
 
-/// The event of a line that has no channel.
-fn parse_plain(
+/// An event of the session, as what a line says.
+fn of_session(event: Option<Event>) -> Option<ScriptEvent>
+    ensures { result ≡ option_map Core event }
+{
+    let event = event?;
+    Some(ScriptEvent::Core(event))
+}
+
+/// An event of the session, by the first field of its line.
+fn parse_core(
     alloc: Global,
     word: &str,
     fields: &mut Fields<'_>,
 ) -> Result<Option<Event>, AllocError>
-    ensures { IfOk result (λ found. found ≡ plain_by word.now fields.old) }
+    ensures { IfOk result (λ found. found ≡ core_by word.now fields.old) }
 {
     match word {
         "key" => parse_declare(alloc, fields),
+        "sub" => parse_sub(alloc, fields),
         "pub" => parse_pub(alloc, fields),
         "queryable" => parse_queryable(alloc, fields),
         "querier" => parse_querier(alloc, fields),
@@ -75,14 +80,17 @@ fn parse_plain(
         "status" => Ok(parse_status(fields)),
         "undeclare" => parse_undeclare(alloc, fields),
         "background" => Ok(parse_background(fields)),
-        "put" => parse_put(alloc, fields),
-        "delete" => parse_delete(alloc, fields),
-        "pput" => parse_publisher_put(alloc, fields),
-        "pdel" => parse_publisher_delete(alloc, fields),
+        "put" => parse_publish(alloc, SampleKind::Put, fields),
+        "delete" => parse_publish(alloc, SampleKind::Delete, fields),
+        "pput" => parse_publish_by(alloc, SampleKind::Put, fields),
+        "pdel" => parse_publish_by(alloc, SampleKind::Delete, fields),
         "ctoken" => Ok(parse_cancel_token(fields)),
         "cancel" => Ok(parse_cancel(fields)),
-        "reply" => parse_reply(alloc, fields),
-        "replydel" => parse_reply_delete(alloc, fields),
+        "get" => parse_get(alloc, fields),
+        "qget" => parse_querier_get(alloc, fields),
+        "lget" => parse_liveliness_get(alloc, fields),
+        "reply" => parse_reply(alloc, SampleKind::Put, fields),
+        "replydel" => parse_reply(alloc, SampleKind::Delete, fields),
         "replyerr" => parse_reply_error(alloc, fields),
         "share" => Ok(parse_share(fields)),
         "finish" => Ok(parse_finish(fields)),
@@ -106,7 +114,7 @@ fn parse_declare(alloc: Global, fields: &mut Fields<'_>) -> Result<Option<Event>
 
 /// `sub LOC KEY`, and a channel, which may be left out
 #[tactic(auto, unfolding(crate::specs::Parts::form))]
-fn parse_sub(alloc: Global, fields: &mut Fields<'_>) -> Result<Option<ScriptEvent>, AllocError>
+fn parse_sub(alloc: Global, fields: &mut Fields<'_>) -> Result<Option<Event>, AllocError>
     ensures { IfOk result (λ found. found ≡ sub_of fields.old) }
 {
     let Some(origin) = fields.locality() else {
@@ -116,29 +124,7 @@ fn parse_sub(alloc: Global, fields: &mut Fields<'_>) -> Result<Option<ScriptEven
         return Ok(None);
     };
     let to = fields.channel();
-    let event = Event::Sub { origin, key };
-    Ok(fields.finish_line(ScriptEvent::Core { event, to }))
-}
-
-/// `pub LOC KEY` and its options
-#[tactic(auto, unfolding(crate::specs::Parts::form))]
-fn parse_pub(alloc: Global, fields: &mut Fields<'_>) -> Result<Option<Event>, AllocError>
-    ensures { IfOk result (λ found. found ≡ pub_of fields.old) }
-{
-    let Some(destination) = fields.locality() else {
-        return Ok(None);
-    };
-    let Some(key) = fields.key(alloc)? else {
-        return Ok(None);
-    };
-    let event = Event::Pub {
-        destination,
-        key,
-        encoding: fields.encoding(alloc)?,
-        qos: fields.qos(1, CongestionControl::Drop),
-        reliable: fields.reliable(),
-    };
-    Ok(fields.finish(event))
+    Ok(fields.finish(Event::Sub { origin, key, to }))
 }
 
 /// `queryable LOC complete KEY`, `queryable LOC partial KEY`
@@ -225,99 +211,6 @@ fn parse_background(fields: &mut Fields<'_>) -> Option<Event>
     let kind = fields.background_kind()?;
     let id = fields.id()?;
     fields.finish(Event::Background { kind, id })
-}
-
-/// `put LOC KEY BYTES` and its options
-#[tactic(auto, unfolding(crate::specs::Parts::form))]
-fn parse_put(alloc: Global, fields: &mut Fields<'_>) -> Result<Option<Event>, AllocError>
-    ensures { IfOk result (λ found. found ≡ put_of fields.old) }
-{
-    let Some(destination) = fields.locality() else {
-        return Ok(None);
-    };
-    let Some(key) = fields.key(alloc)? else {
-        return Ok(None);
-    };
-    let Some(payload) = fields.payload(alloc)? else {
-        return Ok(None);
-    };
-    let event = Event::Put {
-        destination,
-        key,
-        payload,
-        encoding: fields.encoding(alloc)?,
-        timestamp: fields.timestamp(),
-        qos: fields.qos(1, CongestionControl::Drop),
-        reliable: fields.reliable(),
-        source: fields.source(),
-        attachment: fields.attachment(alloc)?,
-    };
-    Ok(fields.finish(event))
-}
-
-/// `delete LOC KEY` and its options
-#[tactic(auto, unfolding(crate::specs::Parts::form))]
-fn parse_delete(alloc: Global, fields: &mut Fields<'_>) -> Result<Option<Event>, AllocError>
-    ensures { IfOk result (λ found. found ≡ delete_of fields.old) }
-{
-    let Some(destination) = fields.locality() else {
-        return Ok(None);
-    };
-    let Some(key) = fields.key(alloc)? else {
-        return Ok(None);
-    };
-    let event = Event::Delete {
-        destination,
-        key,
-        timestamp: fields.timestamp(),
-        qos: fields.qos(1, CongestionControl::Drop),
-        reliable: fields.reliable(),
-        source: fields.source(),
-        attachment: fields.attachment(alloc)?,
-    };
-    Ok(fields.finish(event))
-}
-
-/// `pput N BYTES` and its options
-#[tactic(auto, unfolding(crate::specs::Parts::form))]
-fn parse_publisher_put(alloc: Global, fields: &mut Fields<'_>) -> Result<Option<Event>, AllocError>
-    ensures { IfOk result (λ found. found ≡ publisher_put_of fields.old) }
-{
-    let Some(id) = fields.id() else {
-        return Ok(None);
-    };
-    let Some(payload) = fields.payload(alloc)? else {
-        return Ok(None);
-    };
-    let event = Event::PublisherPut {
-        id,
-        payload,
-        encoding: fields.own_encoding(alloc)?,
-        timestamp: fields.timestamp(),
-        source: fields.source(),
-        attachment: fields.attachment(alloc)?,
-    };
-    Ok(fields.finish(event))
-}
-
-/// `pdel N` and its options
-#[tactic(auto, unfolding(crate::specs::Parts::form))]
-fn parse_publisher_delete(
-    alloc: Global,
-    fields: &mut Fields<'_>,
-) -> Result<Option<Event>, AllocError>
-    ensures { IfOk result (λ found. found ≡ publisher_delete_of fields.old) }
-{
-    let Some(id) = fields.id() else {
-        return Ok(None);
-    };
-    let event = Event::PublisherDelete {
-        id,
-        timestamp: fields.timestamp(),
-        source: fields.source(),
-        attachment: fields.attachment(alloc)?,
-    };
-    Ok(fields.finish(event))
 }
 
 /// `tick N`

@@ -5,7 +5,7 @@ ghost use Rattle.zs_script.specs.Grammar.{token_of, lsub_of, liveliness_get_of};
 
 use crate::parts::Fields;
 use std::alloc::{AllocError, Global};
-use zs_events::{Event, ScriptEvent};
+use zs_events::Event;
 
 /// `token KEY`
 #[tactic(auto, unfolding(crate::specs::Parts::form))]
@@ -43,7 +43,7 @@ pub(crate) fn parse_lsub(
 pub(crate) fn parse_liveliness_get(
     alloc: Global,
     fields: &mut Fields<'_>,
-) -> Result<Option<ScriptEvent>, AllocError>
+) -> Result<Option<Event>, AllocError>
     ensures { IfOk result (λ found. found ≡ liveliness_get_of fields.old) }
 {
     let Some(key) = fields.key(alloc)? else {
@@ -52,8 +52,8 @@ pub(crate) fn parse_liveliness_get(
     let event = Event::LivelinessGet {
         key,
         timeout: fields.timeout(),
-        token: fields.token(),
+        cancellation_token: fields.cancellation_token(),
+        to: fields.handed_to(),
     };
-    let to = fields.handed_to();
-    Ok(fields.finish_line(ScriptEvent::Core { event, to }))
+    Ok(fields.finish(event))
 }

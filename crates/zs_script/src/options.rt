@@ -1,7 +1,7 @@
 //! The values of options, each read from the text behind its name.
 
 ghost use Rattle.std.specs.Prelude.{◌≡◌, [], IfOk, Some};
-ghost use Rattle.zs_events.specs.Kinds.{default_encoding};
+ghost use Rattle.zs_events.specs.Updates.{default_encoding};
 ghost use Rattle.zs_script.specs.Options.{timestamp_of, entity_of, two_numbers_of, source_of, encoding_text_of, priority_of, congestion_of, flag_of, target_of, consolidation_of, any_key_of, value_of};
 
 use crate::numbers::{parse_hex, parse_number};

@@ -3,7 +3,7 @@
 ghost use Rattle.std.specs.Prelude.{◌≡◌, [], Some, IfOk, option_map, codes};
 ghost use Rattle.zs_script.specs.Options.{encoding_text_of, priority_of, congestion_of, flag_of};
 ghost use Rattle.zs_script.specs.Symbols.{u16_max, u32_max, u64_max, payload_of};
-ghost use Rattle.zs_script.specs.Parts.{first_of, behind, named_in, option_in, maybe_in, number, locality, background_kind, parent, complete, history, key, selector, wire, payload, encoding, own_encoding, timestamp, qos, reliable, source, attachment, channel_kind, read, form};
+ghost use Rattle.zs_script.specs.Parts.{first_of, behind, named_in, option_in, maybe_in, named_encoding_in, body_in, number, locality, background_kind, parent, complete, history, key, selector, wire, payload, push_body, encoding, timestamp, qos, reliable, quality, source, attachment, channel_kind, read, form};
 
 use crate::channels::parse_channel_kind;
 use crate::numbers::parse_number;
@@ -17,8 +17,8 @@ use crate::symbols::{
 };
 use std::alloc::{AllocError, Global};
 use std::marker::Model;
-use zs_events::{BackgroundKind, Event, KeyArg, Kind, ParentKind, ScriptEvent};
-use zs_sample::{Locality, Text, ZBytes};
+use zs_events::{BackgroundKind, KeyArg, Kind, ParentKind, PublicationQuality, PushBody};
+use zs_sample::{Locality, SampleKind, Text, ZBytes};
 use zs_wire::{CongestionControl, QoSType, SourceInfo, Timestamp, WireExpr};
 
 /// The fields of a line that are left. Contracts see their texts.
@@ -85,19 +85,7 @@ impl<'a> Fields<'a> {
 
     /// What was made, if no field is left over.
     #[tactic(auto, unfolding(crate::specs::Parts::form))]
-    pub(crate) fn finish_line(&self, made: ScriptEvent) -> Option<ScriptEvent>
-        ensures { result ≡ form [] made self.now }
-    {
-        if let [] = self.rest {
-            return Some(made);
-        }
-        drop(made);
-        None
-    }
-
-    /// The event that was made, if no field is left over.
-    #[tactic(auto, unfolding(crate::specs::Parts::form))]
-    pub(crate) fn finish(&self, made: Event) -> Option<Event>
+    pub(crate) fn finish<T: Drop>(&self, made: T) -> Option<T>
         ensures { result ≡ form [] made self.now }
     {
         if let [] = self.rest {
@@ -226,6 +214,33 @@ impl<'a> Fields<'a> {
         };
         parse_payload(alloc, field)
     }
+
+    /// What is put, or nothing to read where a value is deleted.
+    #[tactic(auto, unfolding(crate::specs::Parts::read))]
+    pub(crate) fn push_body(
+        &mut self,
+        alloc: Global,
+        kind: SampleKind,
+    ) -> Result<Option<PushBody>, AllocError>
+        ensures { IfOk result (λ found. read (push_body kind) self.old ≡ option_map (λ value. (value, self.new)) found) }
+    {
+        match kind {
+            SampleKind::Put => self.put_body(alloc),
+            SampleKind::Delete => Ok(Some(PushBody::Delete)),
+        }
+    }
+
+    /// A payload, and the encoding that it names.
+    #[tactic(auto, unfolding(crate::specs::Parts::read))]
+    fn put_body(&mut self, alloc: Global) -> Result<Option<PushBody>, AllocError>
+        ensures { IfOk result (λ found. body_in SampleKind.Put self.old ≡ option_map (λ value. (value, self.new)) found) }
+    {
+        let Some(payload) = self.payload(alloc)? else {
+            return Ok(None);
+        };
+        let encoding = self.named_encoding(alloc)?;
+        Ok(Some(PushBody::Put { payload, encoding }))
+    }
 }
 
 /// Options: one that is absent, or whose value is out of form, is not taken.
@@ -242,11 +257,16 @@ impl<'a> Fields<'a> {
         Ok(found)
     }
 
-    #[tactic(auto, unfolding(crate::specs::Parts::read))]
-    pub(crate) fn own_encoding(&mut self, alloc: Global) -> Result<Option<Text>, AllocError>
-        ensures { IfOk result (λ value. read own_encoding self.old ≡ Some (value, self.new)) }
+    /// An encoding as it is named, if one is.
+    fn named_encoding(&mut self, alloc: Global) -> Result<Option<Text>, AllocError>
+        ensures { IfOk result (λ value. named_encoding_in self.old ≡ (value, self.new)) }
     {
-        self.encoding_if(alloc)
+        let Some(text) = self.named("enc=") else {
+            return Ok(None);
+        };
+        let found = Text::of(alloc, text)?;
+        self.skip();
+        Ok(Some(found))
     }
 
     pub(crate) fn encoding_if(&mut self, alloc: Global) -> Result<Option<Text>, AllocError>
@@ -325,6 +345,16 @@ impl<'a> Fields<'a> {
         ensures { read reliable self.old ≡ Some (result, self.new) }
     {
         self.flag("rel=", true)
+    }
+
+    /// Quality of service of a publication: four options.
+    #[tactic(auto, unfolding(crate::specs::Parts::read))]
+    pub(crate) fn quality(&mut self) -> PublicationQuality
+        ensures { read quality self.old ≡ Some (result, self.new) }
+    {
+        let qos = self.qos(1, CongestionControl::Drop);
+        let reliable = self.reliable();
+        PublicationQuality { qos, reliable }
     }
 
     #[tactic(auto, unfolding(crate::specs::Parts::read))]

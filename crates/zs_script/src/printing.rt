@@ -73,9 +73,9 @@ fn append_item(out: &mut String, item: &HandOver) -> Result<(), AllocError>
 {
     append_word(out, "item")?;
     match item {
-        HandOver::Sample { sample, .. } => append_sample(out, sample),
-        HandOver::Reply { reply, .. } => append_reply_item(out, reply),
-        HandOver::Query { query, .. } => append_asked(out, query),
+        HandOver::Sample { sample, .. } => append_sample(out, sample.get()),
+        HandOver::Reply { reply, .. } => append_reply_item(out, reply.get()),
+        HandOver::Query { query, .. } => append_asked(out, query.get()),
     }
 }
 
@@ -128,7 +128,7 @@ fn append_effect_pieces<'a>(
     ensures { OnOk result (string_bytes out.new ≡ string_bytes out.old ++ pieces_text (effect_pieces effect.now)) }
 {
     match effect {
-        Effect::Send(message) => append_sent(out, message),
+        Effect::Send(message) => append_sent(out, message.get()),
         Effect::Hand(hand) => append_hand_over(out, hand, last),
         Effect::End { kind, id } => append_of(out, "end", *kind, *id),
         Effect::Matching { id, matching } => append_matching(out, *id, *matching),
@@ -143,9 +143,9 @@ fn append_hand_over<'a>(
     ensures { OnOk result (string_bytes out.new ≡ string_bytes out.old ++ pieces_text (effect_pieces (Hand hand.now))) }
 {
     match hand {
-        HandOver::Sample { kind, id, sample } => append_hand(out, *kind, *id, sample, last),
-        HandOver::Reply { kind, id, reply } => append_replied(out, *kind, *id, reply),
-        HandOver::Query { id, value, query } => append_queried(out, *id, *value, query),
+        HandOver::Sample { kind, id, sample } => append_hand(out, *kind, *id, sample.get(), last),
+        HandOver::Reply { kind, id, reply } => append_replied(out, *kind, *id, reply.get()),
+        HandOver::Query { id, value, query } => append_queried(out, *id, *value, query.get()),
     }
 }
 

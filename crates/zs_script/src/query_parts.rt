@@ -1,7 +1,8 @@
 //! The options of queries and of what they are answered, each read off the front of a line's fields.
 
-ghost use Rattle.std.specs.Prelude.{◌≡◌, Some, IfOk};
-ghost use Rattle.zs_script.specs.Parts.{wire_if, parameters, target, consolidation, timeout, value as given, own_priority, own_congestion, own_express, responder, any_key, token, interest, channel, handed_to, read};
+ghost use Rattle.std.specs.Prelude.{◌≡◌, Some, IfOk, codes};
+ghost use Rattle.zs_script.specs.Options.{priority_of, congestion_of, flag_of};
+ghost use Rattle.zs_script.specs.Parts.{wire_if, parameters, target, consolidation, timeout, value as given, reply_quality, responder, any_key, cancellation_token, interest, channel, handed_to, maybe_in, read};
 
 use crate::channels::parse_channel;
 use crate::numbers::parse_number;
@@ -12,7 +13,7 @@ use crate::options::{
 use crate::parts::Fields;
 use crate::symbols::{naming, parse_id, parse_wire};
 use std::alloc::{AllocError, Global};
-use zs_events::Chan;
+use zs_events::{Chan, ReplyQuality};
 use zs_sample::{ConsolidationMode, QueryTarget, Text};
 use zs_wire::{CongestionControl, EntityGlobalId, Value, WireExpr};
 
@@ -77,28 +78,39 @@ impl<'a> Fields<'a> {
         Ok(value_of(payload, encoding))
     }
 
-    /// A priority of its own, if it is given.
+    /// Quality of service of a reply: three options. What is absent is as in the query.
     #[tactic(auto, unfolding(crate::specs::Parts::read))]
-    pub(crate) fn own_priority(&mut self) -> Option<u8>
-        ensures { read own_priority self.old ≡ Some (result, self.new) }
+    pub(crate) fn reply_quality(&mut self) -> ReplyQuality
+        ensures { read reply_quality self.old ≡ Some (result, self.new) }
+    {
+        let priority = self.own_priority();
+        let congestion = self.own_congestion();
+        let express = self.own_express();
+        ReplyQuality {
+            priority,
+            congestion,
+            express,
+        }
+    }
+
+    fn own_priority(&mut self) -> Option<u8>
+        ensures { maybe_in (codes "prio=") (priority_of 1) self.old ≡ (result, self.new) }
     {
         let found = parse_priority(1, self.named("prio=")?)?;
         self.skip();
         Some(found)
     }
 
-    #[tactic(auto, unfolding(crate::specs::Parts::read))]
-    pub(crate) fn own_congestion(&mut self) -> Option<CongestionControl>
-        ensures { read own_congestion self.old ≡ Some (result, self.new) }
+    fn own_congestion(&mut self) -> Option<CongestionControl>
+        ensures { maybe_in (codes "cc=") congestion_of self.old ≡ (result, self.new) }
     {
         let found = parse_congestion(self.named("cc=")?)?;
         self.skip();
         Some(found)
     }
 
-    #[tactic(auto, unfolding(crate::specs::Parts::read))]
-    pub(crate) fn own_express(&mut self) -> Option<bool>
-        ensures { read own_express self.old ≡ Some (result, self.new) }
+    fn own_express(&mut self) -> Option<bool>
+        ensures { maybe_in (codes "express=") flag_of self.old ≡ (result, self.new) }
     {
         let found = parse_flag(self.named("express=")?)?;
         self.skip();
@@ -132,8 +144,8 @@ impl<'a> Fields<'a> {
 
     /// The cancellation token by which a get can be cancelled.
     #[tactic(auto, unfolding(crate::specs::Parts::read))]
-    pub(crate) fn token(&mut self) -> Option<u32>
-        ensures { read token self.old ≡ Some (result, self.new) }
+    pub(crate) fn cancellation_token(&mut self) -> Option<u32>
+        ensures { read cancellation_token self.old ≡ Some (result, self.new) }
     {
         let found = parse_id(self.named("token=")?)?;
         self.skip();

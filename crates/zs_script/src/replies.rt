@@ -1,19 +1,22 @@
 //! The forms of lines by which the application answers queries, each read from the fields behind its word.
 
 ghost use Rattle.std.specs.Prelude.{◌≡◌, IfOk};
-ghost use Rattle.zs_script.specs.Grammar.{reply_of, reply_delete_of, reply_error_of, share_of, finish_of};
+ghost use Rattle.zs_script.specs.Grammar.{reply_of, reply_error_of, share_of, finish_of};
 
 use crate::parts::Fields;
 use std::alloc::{AllocError, Global};
-use zs_events::Event;
+use zs_events::{Event, Shared, Update};
+use zs_sample::SampleKind;
+use zs_wire::Value;
 
-/// `reply N KEY BYTES` and its options
+/// `reply N KEY BYTES` or `replydel N KEY`, and the options
 #[tactic(auto, unfolding(crate::specs::Parts::form))]
 pub(crate) fn parse_reply(
     alloc: Global,
+    kind: SampleKind,
     fields: &mut Fields<'_>,
 ) -> Result<Option<Event>, AllocError>
-    ensures { IfOk result (λ found. found ≡ reply_of fields.old) }
+    ensures { IfOk result (λ found. found ≡ reply_of kind fields.old) }
 {
     let Some(value) = fields.id() else {
         return Ok(None);
@@ -21,49 +24,26 @@ pub(crate) fn parse_reply(
     let Some(key) = fields.key(alloc)? else {
         return Ok(None);
     };
-    let Some(payload) = fields.payload(alloc)? else {
+    let Some(body) = fields.push_body(alloc, kind)? else {
         return Ok(None);
     };
-    let event = Event::Reply {
+    let timestamp = fields.timestamp();
+    let quality = fields.reply_quality();
+    let source = fields.source();
+    let attachment = fields.attachment(alloc)?;
+    let update = Update {
+        body,
+        timestamp,
+        source,
+        attachment,
+    };
+    let update = Shared::new(alloc, update)?;
+    Ok(fields.finish(Event::Reply {
         value,
         key,
-        payload,
-        encoding: fields.encoding(alloc)?,
-        timestamp: fields.timestamp(),
-        priority: fields.own_priority(),
-        congestion: fields.own_congestion(),
-        express: fields.own_express(),
-        source: fields.source(),
-        attachment: fields.attachment(alloc)?,
-    };
-    Ok(fields.finish(event))
-}
-
-/// `replydel N KEY` and its options
-#[tactic(auto, unfolding(crate::specs::Parts::form))]
-pub(crate) fn parse_reply_delete(
-    alloc: Global,
-    fields: &mut Fields<'_>,
-) -> Result<Option<Event>, AllocError>
-    ensures { IfOk result (λ found. found ≡ reply_delete_of fields.old) }
-{
-    let Some(value) = fields.id() else {
-        return Ok(None);
-    };
-    let Some(key) = fields.key(alloc)? else {
-        return Ok(None);
-    };
-    let event = Event::ReplyDelete {
-        value,
-        key,
-        timestamp: fields.timestamp(),
-        priority: fields.own_priority(),
-        congestion: fields.own_congestion(),
-        express: fields.own_express(),
-        source: fields.source(),
-        attachment: fields.attachment(alloc)?,
-    };
-    Ok(fields.finish(event))
+        update,
+        quality,
+    }))
 }
 
 /// `replyerr N BYTES` and its option
@@ -80,12 +60,9 @@ pub(crate) fn parse_reply_error(
     let Some(payload) = fields.payload(alloc)? else {
         return Ok(None);
     };
-    let event = Event::ReplyErr {
-        value,
-        payload,
-        encoding: fields.encoding(alloc)?,
-    };
-    Ok(fields.finish(event))
+    let encoding = fields.encoding(alloc)?;
+    let error = Shared::new(alloc, Value { payload, encoding })?;
+    Ok(fields.finish(Event::ReplyErr { value, error }))
 }
 
 /// `share N`

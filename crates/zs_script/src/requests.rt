@@ -5,7 +5,6 @@ ghost use Rattle.zs_script.specs.Grammar.{request_of};
 
 use crate::parts::Fields;
 use std::alloc::{AllocError, Global};
-use zs_events::Event;
 use zs_wire::{CongestionControl, Message, Request};
 
 /// The timeout of a request that says none, in milliseconds.
@@ -16,7 +15,7 @@ const REQUEST_TIMEOUT: u64 = 10000;
 pub(crate) fn parse_request(
     alloc: Global,
     fields: &mut Fields<'_>,
-) -> Result<Option<Event>, AllocError>
+) -> Result<Option<Message>, AllocError>
     ensures { IfOk result (λ found. found ≡ request_of fields.old) }
 {
     let Some(rid) = fields.id() else {
@@ -37,5 +36,5 @@ pub(crate) fn parse_request(
         source: fields.source(),
         attachment: fields.attachment(alloc)?,
     };
-    Ok(fields.finish(Event::Net(Message::Request(request))))
+    Ok(fields.finish(Message::Request(request)))
 }

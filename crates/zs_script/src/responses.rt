@@ -1,15 +1,15 @@
 //! The forms of what a get is told from the network, each read from the fields behind its word.
 
 ghost use Rattle.std.specs.Prelude.{◌≡◌, IfOk};
-ghost use Rattle.zs_script.specs.Grammar.{responded, response_put_of, response_delete_of, response_error_of, response_on, response_of, response_final_of};
+ghost use Rattle.zs_script.specs.Grammar.{responded, response_value_of, response_error_of, response_on, response_of, response_final_of};
 
-use crate::options::default_encoding;
+use crate::bodies::body_of;
 use crate::parts::Fields;
 use std::alloc::{AllocError, Global};
-use zs_events::Event;
-use zs_sample::{SampleKind, ZBytes};
+use zs_events::Update;
+use zs_sample::SampleKind;
 use zs_wire::{
-    Answered, Body, CongestionControl, EntityGlobalId, Message, QoSType, Response, Value, WireExpr,
+    Answered, CongestionControl, EntityGlobalId, Message, QoSType, Response, Value, WireExpr,
 };
 
 /// `response N WIRE put BYTES`, `response N WIRE del` and `response N WIRE err BYTES`
@@ -17,7 +17,7 @@ use zs_wire::{
 pub(crate) fn parse_response(
     alloc: Global,
     fields: &mut Fields<'_>,
-) -> Result<Option<Event>, AllocError>
+) -> Result<Option<Message>, AllocError>
     ensures { IfOk result (λ found. found ≡ response_of fields.old) }
 {
     let Some(rid) = fields.id() else {
@@ -32,7 +32,7 @@ fn parse_response_on(
     alloc: Global,
     rid: u32,
     fields: &mut Fields<'_>,
-) -> Result<Option<Event>, AllocError>
+) -> Result<Option<Message>, AllocError>
     ensures { IfOk result (λ found. found ≡ response_on rid fields.old) }
 {
     let Some(wire) = fields.wire(alloc)? else {
@@ -42,61 +42,37 @@ fn parse_response_on(
         return Ok(None);
     };
     match word {
-        "put" => parse_response_put(alloc, rid, wire, fields),
-        "del" => parse_response_delete(alloc, rid, wire, fields),
+        "put" => parse_response_value(alloc, rid, wire, SampleKind::Put, fields),
+        "del" => parse_response_value(alloc, rid, wire, SampleKind::Delete, fields),
         "err" => parse_response_error(alloc, rid, wire, fields),
         _ => Ok(None),
     }
 }
 
-/// `BYTES` and the options, behind `response N WIRE put`
+/// `put BYTES` or `del`, and the options, behind `response N WIRE`
 #[tactic(auto, unfolding(crate::specs::Parts::form))]
-fn parse_response_put(
+fn parse_response_value(
     alloc: Global,
     rid: u32,
     wire: WireExpr,
+    kind: SampleKind,
     fields: &mut Fields<'_>,
-) -> Result<Option<Event>, AllocError>
-    ensures { IfOk result (λ found. found ≡ response_put_of rid wire fields.old) }
+) -> Result<Option<Message>, AllocError>
+    ensures { IfOk result (λ found. found ≡ response_value_of rid wire kind fields.old) }
 {
-    let Some(payload) = fields.payload(alloc)? else {
+    let Some(body) = fields.push_body(alloc, kind)? else {
         return Ok(None);
     };
-    let encoding = fields.encoding(alloc)?;
     let timestamp = fields.timestamp();
     let qos = fields.qos(0, CongestionControl::Block);
-    let body = Body {
-        kind: SampleKind::Put,
-        payload,
-        encoding,
+    let source = fields.source();
+    let attachment = fields.attachment(alloc)?;
+    let body = body_of(Update {
+        body,
         timestamp,
-        source: fields.source(),
-        attachment: fields.attachment(alloc)?,
-    };
-    let responder = fields.responder();
-    Ok(fields.finish(responded(rid, wire, Answered::Reply(body), qos, responder)))
-}
-
-/// The options, behind `response N WIRE del`
-#[tactic(auto, unfolding(crate::specs::Parts::form))]
-fn parse_response_delete(
-    alloc: Global,
-    rid: u32,
-    wire: WireExpr,
-    fields: &mut Fields<'_>,
-) -> Result<Option<Event>, AllocError>
-    ensures { IfOk result (λ found. found ≡ response_delete_of rid wire fields.old) }
-{
-    let timestamp = fields.timestamp();
-    let qos = fields.qos(0, CongestionControl::Block);
-    let body = Body {
-        kind: SampleKind::Delete,
-        payload: ZBytes::new(),
-        encoding: default_encoding(),
-        timestamp,
-        source: fields.source(),
-        attachment: fields.attachment(alloc)?,
-    };
+        source,
+        attachment,
+    });
     let responder = fields.responder();
     Ok(fields.finish(responded(rid, wire, Answered::Reply(body), qos, responder)))
 }
@@ -108,7 +84,7 @@ fn parse_response_error(
     rid: u32,
     wire: WireExpr,
     fields: &mut Fields<'_>,
-) -> Result<Option<Event>, AllocError>
+) -> Result<Option<Message>, AllocError>
     ensures { IfOk result (λ found. found ≡ response_error_of rid wire fields.old) }
 {
     let Some(payload) = fields.payload(alloc)? else {
@@ -128,23 +104,23 @@ fn responded(
     answered: Answered,
     qos: QoSType,
     responder: Option<EntityGlobalId>,
-) -> Event
+) -> Message
     ensures { result ≡ responded rid wire answered qos responder }
 {
-    Event::Net(Message::Response(Response {
+    Message::Response(Response {
         rid,
         wire,
         answered,
         qos,
         responder,
-    }))
+    })
 }
 
 /// `responsefinal N`
 #[tactic(auto, unfolding(crate::specs::Parts::form))]
-pub(crate) fn parse_response_final(fields: &mut Fields<'_>) -> Option<Event>
+pub(crate) fn parse_response_final(fields: &mut Fields<'_>) -> Option<Message>
     ensures { result ≡ response_final_of fields.old }
 {
     let rid = fields.id()?;
-    fields.finish(Event::Net(Message::ResponseFinal { rid }))
+    fields.finish(Message::ResponseFinal { rid })
 }

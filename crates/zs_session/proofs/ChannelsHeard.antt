@@ -1,7 +1,6 @@
 -- The table of channels follows the script: it is behind all that was heard of it.
 use Rattle.std.proofs.Common.{◌≡◌, ℕ, List, ◌∷◌, Option, Some, None, Result, Ok, Err, refl, sym, ap, ◌∙◌}
 use Rattle.std.specs.Prelude.{OnOk, option_map}
-use Rattle.zs_events.specs.declared.chan.Chan.{Chan}
 use Rattle.zs_events.specs.declared.event.Event.{Event}
 use Rattle.zs_events.specs.declared.received.Received.{Received}
 use Rattle.zs_events.specs.declared.script_event.ScriptEvent.{ScriptEvent}
@@ -25,13 +24,13 @@ on_ok (Ok a) p = p
 on_ok (Err e) p = tt
 
 -- channels that heard a turn
-pub heard_turn : (s : Settings) (h : List ScriptEvent) (e : Event) (to : Chan) (turn : Turn) (old new : Table HandOver) → turn ≡ effects s (core_of h) e
-    → old ≡ table_after (heard s h) → new ≡ behind_all (news_of_turn e to turn) old → new ≡ table_after (heard s (Core e to ∷ h))
-heard_turn s h e to turn old new same before is =
+pub heard_turn : (s : Settings) (h : List ScriptEvent) (e : Event) (turn : Turn) (old new : Table HandOver) → turn ≡ effects s (core_of h) e
+    → old ≡ table_after (heard s h) → new ≡ behind_all (news_of_turn e turn) old → new ≡ table_after (heard s (Core e ∷ h))
+heard_turn s h e turn old new same before is =
     is
-    ∙ (ap (λ t. behind_all (news_of_turn e to turn) t) before
-    ∙ (ap (λ (made : Turn). behind_all (news_of_turn e to made) (table_after (heard s h))) same
-    ∙ sym (behind_all-append (news_of_turn e to (effects s (core_of h) e)) (heard s h) no_channels)))
+    ∙ (ap (λ t. behind_all (news_of_turn e turn) t) before
+    ∙ (ap (λ (made : Turn). behind_all (news_of_turn e made) (table_after (heard s h))) same
+    ∙ sym (behind_all-append (news_of_turn e (effects s (core_of h) e)) (heard s h) no_channels)))
 
 -- one of which was read
 pub heard_read : (s : Settings) (h : List ScriptEvent) (kind : Kind) (id : ℕ) (old new : Table HandOver) → old ≡ table_after (heard s h)

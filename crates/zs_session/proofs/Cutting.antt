@@ -1,7 +1,7 @@
 use Rattle.std.proofs.Common.{◌≡◌, List, [], ◌∷◌, ◌++◌, Bool, true, false, refl, ◌∙◌, ap, append_assoc}
 use Rattle.std.specs.Prelude.{ℕ, ◌&&◌, map}
 use Rattle.std.specs.List.{list_all, AllByRecursion, flat_map}
-use Rattle.zs_script.specs.Lines.{lines}
+use Rattle.zs_lines.specs.Lines.{lines}
 use Rattle.zs_script.specs.Printing.{line}
 use Rattle.zs_script.specs.Plain.{is_plain}
 use Rattle.zs_script.proofs.PlainTexts.{lines-found}
@@ -24,8 +24,3 @@ lines_all n (parts ∷ blocks) rest all =
     ap lines (append_assoc (line n parts) (flat_map (line n) blocks) rest)
     ∙ lines-found n parts (flat_map (line n) blocks ++ rest) all.0
     ∙ ap (λ more. plain_line n parts ∷ more) (lines_all n blocks rest all.1)
-
--- what holds of each element of two lists holds of both together
-pub all_append : {X : Type 0} (P : X → Type 0) (xs ys : List X) → AllByRecursion P xs → AllByRecursion P ys → AllByRecursion P (xs ++ ys)
-all_append P [] ys first second = second
-all_append P (x ∷ xs) ys first second = (first.0, all_append P xs ys first.1 second)

@@ -2,6 +2,7 @@ pub mod Cutting
 pub mod ChannelsHeard
 pub mod PlainKeys
 pub mod PlainParameters
+pub mod PlainIncluding
 pub mod PlainSends
 pub mod PlainValues
 pub mod PlainGets
@@ -11,8 +12,6 @@ pub mod Telling
 pub mod ReadsTold
 pub mod Scripts
 pub mod Soaking
-pub mod Progress
-pub mod Exits
-pub mod Completing
+pub mod Lines
+pub mod Retelling
 pub mod WordExamples
-pub mod PlainWords

@@ -17,7 +17,8 @@ use Rattle.zs_query.specs.declared.side.Side.TheVariants.{Local}
 use Rattle.zs_query.specs.Gets.{get_at, peek_at, final_outcome}
 use Rattle.zs_query.specs.Unfinished.{value_at, finished}
 use Rattle.zs_events.specs.declared.turn.Effect.TheVariants.{Send}
-use Rattle.zs_events.specs.Kinds.{NamedKey, ReplyQuality, ToValues, NoValue, Requested, AnswersBy, AnswersError, SharesValue, GivesBack}
+use Rattle.zs_events.specs.Kinds.{NamedKey, ToValues, NoValue, Requested, AnswersBy, AnswersError, SharesValue, GivesBack}
+use Rattle.zs_events.specs.declared.publication.ReplyQuality.{ReplyQuality}
 use Rattle.zs_core.specs.Sends.{full_wire, wire_form, declaration_of}
 use Rattle.zs_core.specs.GetEffects.{final_effects}
 use Rattle.zs_core.specs.Answers.{quality_of, replier_of, local_reply, local_error, response_by}

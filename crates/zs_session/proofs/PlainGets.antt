@@ -28,7 +28,8 @@ use Rattle.zs_query.proofs.Keeping.{all_firsts}
 use Rattle.zs_wire.specs.declared.request.ConsolidationMode.{ConsolidationMode}
 use Rattle.zs_wire.specs.declared.request.ConsolidationMode.TheVariants as by
 use Rattle.zs_events.specs.declared.turn.Effect.TheVariants.{Send}
-use Rattle.zs_events.specs.Kinds.{NamedKey, Question, ToGets, NoGet, Asks, AsksBy, Answers, EndsSide, Reaches, EndsQuerier, Cancels, EndsAll, ReplyQuality, ToValues, AnswersBy, GivesBack, value_texts, response_texts, row_of}
+use Rattle.zs_events.specs.Kinds.{NamedKey, Question, ToGets, NoGet, Asks, AsksBy, Answers, EndsSide, Reaches, EndsQuerier, Cancels, EndsAll, ToValues, AnswersBy, GivesBack, value_texts, response_texts, row_of}
+use Rattle.zs_events.specs.declared.publication.ReplyQuality.{ReplyQuality}
 use Rattle.zs_core.specs.declared.settings.Settings.{Settings}
 use Rattle.zs_core.specs.Entry.{Entry}
 use Rattle.zs_core.specs.Live.{appended}
@@ -53,7 +54,7 @@ use Rattle.zs_tables.specs.declared.queryable.QueryableRow.{QueryableRow}
 use Rattle.zs_wire.specs.declared.origin.EntityGlobalId.{EntityGlobalId}
 use Rattle.zs_wire.specs.declared.quality.QoSType.{QoSType}
 use Rattle.zs_script.specs.Plain.{is_plain, is_plain_text, is_plain_outcome, message_texts}
-use Rattle.zs_session.proofs.Cutting.{all_append}
+use Rattle.zs_driving.proofs.Progress.{all_append}
 use Rattle.zs_session.proofs.PlainKeys.{IsText, AllPlain, PlainPast, plain_encoding, plain_handed, filter_all, found_all}
 use Rattle.zs_session.proofs.PlainValues.{PlainToGets, PlainToValues, PlainValue, to_plain, does_plain, queries_quiet}
 use Rattle.zs_session.proofs.PlainParameters.{all_map, parameters_text}
@@ -136,7 +137,7 @@ heard_plain (CancelledBy token) gets plain all = all_hear (CancelledBy token) ge
 heard_plain AllEnd gets plain all = all_hear AllEnd gets plain all
 
 own_plain : (number : ℕ) (question : Question) (met : List ℕ) → AllByRecursion PlainNews (own_news number question met)
-own_plain number question met = go (has_session question.destination && not (is_some_met met))
+own_plain number question met = go (has_session question.settings.destination && not (is_some_met met))
   where
     go : (b : Bool) → AllByRecursion PlainNews (if b then FinalOf number Local ∷ [] else [])
     go true = (tt, tt)
@@ -290,19 +291,19 @@ request_plain : (default : ℕ) (wire : WireExpr) (number : ℕ) (q : Question) 
     → list_all is_plain_text (message_texts (Request (request_of default wire number q))) ≡ true
 request_plain default wire number q on plain =
     let parameters = is_plain_text (chars (parameters_of q)) in
-    let value = list_all is_plain_text (value_texts (option_map sent_value q.value)) in
+    let value = list_all is_plain_text (value_texts (option_map sent_value q.inquiry.value)) in
     and_from (is_plain_text wire.suffix) (parameters && value) on
-    (and_from parameters value (chars_plain (parameters_of q) (parameters_text q plain.0)) (value_plain q.value plain.1))
+    (and_from parameters value (chars_plain (parameters_of q) (parameters_text q plain.0)) (value_plain q.inquiry.value plain.1))
 
 ask_quiet : (default : ℕ) (wire : WireExpr) (number : ℕ) (q : Question) (values : List QueryValue) → is_plain_text wire.suffix ≡ true → PlainToGets (Asks q)
     → AllByRecursion PlainValue values → AreQuiet (ask_effects default wire number q values)
-ask_quiet default wire number q [] on plain all = go (has_network q.destination)
+ask_quiet default wire number q [] on plain all = go (has_network q.settings.destination)
   where
     go : (b : Bool) → AreQuiet (if b then Send (Request (request_of default wire number q)) ∷ [] else end_get number ∷ [])
     go true = (request_plain default wire number q on plain, tt)
     go false = (tt, tt)
 ask_quiet default wire number q (v ∷ values) on plain all =
-    all_append IsQuiet (request_sends default wire number q) (map hand_query (v ∷ values)) (go (has_network q.destination)) (queries_quiet (v ∷ values) all)
+    all_append IsQuiet (request_sends default wire number q) (map hand_query (v ∷ values)) (go (has_network q.settings.destination)) (queries_quiet (v ∷ values) all)
   where
     go : (b : Bool) → AreQuiet (if b then Send (Request (request_of default wire number q)) ∷ [] else [])
     go true = (request_plain default wire number q on plain, tt)

@@ -1,14 +1,14 @@
 -- The texts that stand in a past are plain, where its events are.
 use Rattle.std.proofs.Common.{◌≡◌, ◌++◌, List, [], ◌∷◌, Bool, true, false, Option, Some, None, IfSome, refl}
-use Rattle.std.specs.Prelude.{ℕ, ◌==◌, ◌&&◌, filter, option_map, unwrap_or, if◌then◌else◌, encode_utf8_all}
+use Rattle.std.specs.Prelude.{ℕ, ◌==◌, ◌&&◌, filter, option_map, if◌then◌else◌, encode_utf8_all}
 use Rattle.std.specs.List.{AllByRecursion, find, list_all}
 use Rattle.std.specs.Str.{IsUtf8, all_scalars}
 use Rattle.std.proofs.lemmas.Bool.{and_parts}
 use Rattle.std.proofs.lemmas.Str.{IsUtf8-append}
 use Rattle.zs_events.specs.declared.event.Event.{Event}
-use Rattle.zs_events.specs.declared.event.Event.TheVariants.{Pub, Querier, Put, Delete, PublisherPut, PublisherDelete, Net}
-use Rattle.zs_events.specs.declared.event.KeyArg.{KeyArg}
-use Rattle.zs_events.specs.declared.event.KeyArg.TheVariants.{Text, Number, Declared}
+use Rattle.zs_events.specs.declared.event.Event.TheVariants.{Pub, Querier, Publish, PublishBy, Net}
+use Rattle.zs_events.specs.declared.key_arg.KeyArg.{KeyArg}
+use Rattle.zs_events.specs.declared.key_arg.KeyArg.TheVariants.{Text, Number, Declared}
 use Rattle.zs_core.specs.declared.settings.Settings.{Settings}
 use Rattle.zs_events.specs.declared.turn.Kind.TheVariants.{Publisher, Querier as querier_kind}
 use Rattle.zs_events.specs.declared.turn.Refusal.{Refusal}
@@ -19,7 +19,11 @@ use Rattle.zs_wire.specs.declared.sample_kind.SampleKind.TheVariants.{Put as put
 use Rattle.zs_wire.specs.declared.wire_expr.Mapping.{Mapping}
 use Rattle.zs_wire.specs.declared.wire_expr.Mapping.TheVariants.{Sender, Receiver}
 use Rattle.zs_wire.specs.declared.wire_expr.WireExpr.{WireExpr}
-use Rattle.zs_events.specs.Kinds.{NamedKey, NoKey, OwnKey, PublisherKey, QuerierKey, WireKey, PublisherContent, Publishes, NoContent, OwnContent, ByPublisher, default_encoding, text_if, row_of}
+use Rattle.zs_events.specs.Kinds.{NamedKey, NoKey, OwnKey, PublisherKey, QuerierKey, WireKey, Publishes, NoContent, OwnContent, ByPublisher, row_of}
+use Rattle.zs_events.specs.declared.update.Update.{Update}
+use Rattle.zs_events.specs.declared.update.PushBody.{PushBody}
+use Rattle.zs_events.specs.declared.update.PushBody.TheVariants.{Put, Delete}
+use Rattle.zs_events.specs.Updates.{default_encoding, body_by, texts_by}
 use Rattle.zs_core.specs.Entry.{Entry, is_closed}
 use Rattle.std.specs.Option.{option_or}
 use Rattle.zs_core.specs.Held.{declares_number, tells_number, is_held, drawn_text, held_text, key_text, told_text, mapped_text, wire_text, text_named, named_text}
@@ -30,7 +34,7 @@ use Rattle.zs_core.specs.Live.{appended, declared, is_live, live_pubs, live_quer
 use Rattle.zs_core.specs.Publications.{handed_encoding}
 use Rattle.zs_core.specs.Publishers.{pub_row, pub_at, content_of, resolved}
 use Rattle.zs_core.specs.Queriers.{querier_row, querier_at}
-use Rattle.zs_session.proofs.Cutting.{all_append}
+use Rattle.zs_driving.proofs.Progress.{all_append}
 use Rattle.zs_core.specs.Past.{entry_of, with_entry, past_of}
 use Rattle.zs_script.specs.Plain.{is_plain, is_plain_text, is_field_text, is_plain_key, is_plain_named, is_plain_event}
 use Rattle.zs_script.proofs.PlainTexts.{plain-append}
@@ -65,11 +69,6 @@ texts_plain (text ∷ texts) plain =
     let parts = and_parts (is_field_text text) (list_all is_field_text texts) plain in
     (field_plain text parts.0, texts_plain texts parts.1)
 
--- the encoding that an event names, if it names one
-named_encoding : (encoding : Option (List ℕ)) → list_all is_field_text (text_if encoding) ≡ true → AllPlain (text_if encoding)
-named_encoding None plain = tt
-named_encoding (Some text) plain = (field_plain text (and_parts (is_field_text text) true plain).0, tt)
-
 -- the encoding where none is named is plain
 pub default_plain : is_plain_text default_encoding ≡ true
 unfolding lib.Utf8.encode
@@ -80,6 +79,13 @@ pub plain_encoding : (encoding : List ℕ) → is_plain_text encoding ≡ true �
 unfolding lib.Utf8.encode
 plain_encoding [] plain = refl
 plain_encoding (c ∷ cs) plain = plain
+
+-- the encoding of an update is the one that it names, or that which it has where it names none
+pub body_plain : (body : PushBody) (unnamed : List ℕ) (update : Update) → list_all is_field_text (texts_by body) ≡ true → is_plain_text (encoding_of unnamed) ≡ true
+    → is_plain_text (body_by body unnamed update).encoding ≡ true
+body_plain (Put payload None) unnamed update plain other = other
+body_plain (Put payload (Some encoding)) unnamed update plain other = plain_encoding encoding (field_plain encoding (and_parts (is_field_text encoding) true plain).0)
+body_plain Delete unnamed update plain other = default_plain
 
 -- and so is the one that is handed out
 pub plain_handed : (kind : SampleKind) (encoding : List ℕ) → is_plain_text encoding ≡ true → is_plain_text (handed_encoding kind encoding) ≡ true
@@ -113,13 +119,13 @@ found_all P f (x ∷ xs) all = go (f x) (found_all P f xs all.1)
 
 -- the texts of a publisher are plain
 abbrev pub PlainPub : PubRow → Type 0
-PlainPub row = IsText row.key.text × (is_plain_text row.encoding ≡ true)
+PlainPub row = IsText row.key.text × (is_plain_text row.settings.encoding ≡ true)
 
 abbrev pub PlainPubs : List PubRow → Type 0
 PlainPubs rows = AllByRecursion PlainPub rows
 
 pub_plain : (e : Event) (number : Option ℕ) (text : Option (List ℕ)) → IfSome text IsText → is_plain_event e ≡ true → PlainPubs (pub_row e number text)
-pub_plain (Pub destination key encoding qos reliable) (Some number) (Some text) named plain = ((named, last_plain (is_plain_key key) encoding plain), tt)
+pub_plain (Pub key settings) (Some number) (Some text) named plain = ((named, last_plain (is_plain_key key) settings.encoding plain), tt)
 pub_plain e number text named plain = tt
 
 -- the text of a querier is plain
@@ -127,7 +133,7 @@ abbrev pub PlainQuerier : QuerierRow → Type 0
 PlainQuerier row = IsText row.key.text
 
 querier_plain : (e : Event) (number : Option ℕ) (text : Option (List ℕ)) → IfSome text IsText → is_plain_event e ≡ true → AllByRecursion PlainQuerier (querier_row e number text)
-querier_plain (Querier destination key target consolidation timeout qos any_key) (Some number) (Some text) named plain = (named, tt)
+querier_plain (Querier key settings) (Some number) (Some text) named plain = (named, tt)
 querier_plain e number text named plain = tt
 
 -- all that was ever declared of a sort is plain, where each of its declarations is
@@ -232,35 +238,13 @@ PlainContent (OwnContent c) = is_plain_text c.body.encoding ≡ true
 PlainContent (ByPublisher id c) = Unit {0}
 
 -- what a publisher publishes names its own encoding, or another plain one
-published_plain : (c : PublisherContent) (o : Option PubRow) → AllPlain (text_if c.encoding) → IfSome o PlainPub → PlainContent (content_of c o)
-published_plain c None named row = tt
-published_plain c (Some row) named found = go c.encoding named
-  where
-    go : (o : Option (List ℕ)) → AllPlain (text_if o) → is_plain_text (encoding_of (unwrap_or o row.encoding)) ≡ true
-    go None named = plain_encoding row.encoding found.1
-    go (Some text) named = plain_encoding text named.0
+published_plain : (update : Update) (o : Option PubRow) → list_all is_field_text (texts_by update.body) ≡ true → IfSome o PlainPub → PlainContent (content_of update o)
+published_plain update None named row = tt
+published_plain update (Some row) named found = body_plain update.body row.settings.encoding update named (plain_encoding row.settings.encoding found.1)
 
 pub content_plain : (pubs : List PubRow) (e : Event) → PlainPubs pubs → is_plain_event e ≡ true → PlainContent (resolved pubs (row_of e).publishes)
-content_plain pubs (Put destination key payload encoding timestamp qos reliable source attachment) all plain =
-    plain_encoding encoding (last_plain (is_plain_key key) encoding plain)
-content_plain pubs (Delete destination key timestamp qos reliable source attachment) all plain = default_plain
-content_plain pubs (PublisherPut id payload encoding timestamp source attachment) all plain =
-    published_plain (record {
-      kind = put_kind;
-      payload = payload;
-      encoding = encoding;
-      timestamp = timestamp;
-      source = source;
-      attachment = attachment;
-    }) (pub_at id pubs) (named_encoding encoding plain) (found_all PlainPub (λ row. row.id == id) pubs all)
-content_plain pubs (PublisherDelete id timestamp source attachment) all plain =
-    published_plain (record {
-      kind = delete_kind;
-      payload = [];
-      encoding = Some default_encoding;
-      timestamp = timestamp;
-      source = source;
-      attachment = attachment;
-    }) (pub_at id pubs) (default_plain, tt) (found_all PlainPub (λ row. row.id == id) pubs all)
+content_plain pubs (Publish destination key update quality) all plain =
+    body_plain update.body [] update (and_parts (is_plain_key key) (list_all is_field_text (texts_by update.body)) plain).1 default_plain
+content_plain pubs (PublishBy id update) all plain = published_plain update (pub_at id pubs) plain (found_all PlainPub (λ row. row.id == id) pubs all)
 content_plain pubs (Net (Push push)) all plain = last_plain (is_field_text push.wire.suffix) push.body.encoding plain
 content_plain pubs e all plain = tt

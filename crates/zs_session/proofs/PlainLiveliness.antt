@@ -14,7 +14,8 @@ use Rattle.zs_tables.specs.declared.told_token.ToldToken.{ToldToken}
 use Rattle.zs_tables.specs.declared.liveliness_get.LivelinessGet.{LivelinessGet}
 use Rattle.zs_tables.specs.LivelinessGets.{is_asking}
 use Rattle.zs_events.specs.declared.turn.Effect.{Effect}
-use Rattle.zs_events.specs.Kinds.{default_encoding, ToLiveliness, NoToken, Subscribes, AsksTokens, TellsToken, EndsToken, EndsAnswers, row_of}
+use Rattle.zs_events.specs.Kinds.{ToLiveliness, NoToken, Subscribes, AsksTokens, TellsToken, EndsToken, EndsAnswers, row_of}
+use Rattle.zs_events.specs.Updates.{default_encoding}
 use Rattle.zs_core.specs.declared.settings.Settings.{Settings}
 use Rattle.zs_core.specs.Entry.{Entry}
 use Rattle.zs_core.specs.Publications.{handed_encoding}

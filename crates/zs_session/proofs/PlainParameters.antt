@@ -15,7 +15,7 @@ use Rattle.zs_wire.proofs.Trimming.{sign_more, sign_none, boundary_before}
 use Rattle.zs_events.specs.Kinds.{Question}
 use Rattle.zs_core.specs.Questions.{given_parameters, parameters_of}
 use Rattle.zs_script.specs.Plain.{is_plain, is_field_text}
-use Rattle.zs_session.proofs.Cutting.{all_append}
+use Rattle.zs_driving.proofs.Progress.{all_append}
 use Rattle.zs_session.proofs.PlainKeys.{IsText, field_text, joined_text, filter_all}
 
 abbrev plain_byte : ℕ → Bool
@@ -171,11 +171,11 @@ trimmed text t =
     )
 
 -- the parameters of a request
-pub parameters_text : (q : Question) → is_field_text q.parameters ≡ true → IsText (parameters_of q)
-parameters_text q plain = go q.any_key
+pub parameters_text : (q : Question) → is_field_text q.inquiry.parameters ≡ true → IsText (parameters_of q)
+parameters_text q plain = go q.settings.any_key
   where
     given : IsText (given_parameters q)
-    given = trimmed (encode_utf8_all q.parameters) (field_text q.parameters plain)
+    given = trimmed (encode_utf8_all q.inquiry.parameters) (field_text q.inquiry.parameters plain)
 
     go : (b : Bool) → IsText (if b then text_with any_key_name [] (given_parameters q) else given_parameters q)
     go true = with_text any_key_name [] (given_parameters q) name_text no_text given

@@ -21,9 +21,9 @@ use Rattle.zs_keys.specs.Key.{Key as a_key}
 use Rattle.zs_keys.specs.Matching.{includes}
 use Rattle.zs_events.specs.declared.event.Event.{Event}
 use Rattle.zs_events.specs.declared.event.Event.TheVariants.{Key, UndeclareKey, Sub, Pub, Queryable, Querier, Token, Lsub, LivelinessGet, Undeclare, Close}
-use Rattle.zs_events.specs.declared.event.EntityKind.TheVariants.{Sub as sub_kind, Pub as pub_kind, Queryable as queryable_kind, Querier as querier_kind, Token as token_kind, Lsub as lsub_kind}
-use Rattle.zs_events.specs.declared.event.KeyArg.{KeyArg}
-use Rattle.zs_events.specs.declared.event.KeyArg.TheVariants.{Text, Number, Declared as declared_text}
+use Rattle.zs_events.specs.declared.entity_kind.EntityKind.TheVariants.{Sub as sub_kind, Pub as pub_kind, Queryable as queryable_kind, Querier as querier_kind, Token as token_kind, Lsub as lsub_kind}
+use Rattle.zs_events.specs.declared.key_arg.KeyArg.{KeyArg}
+use Rattle.zs_events.specs.declared.key_arg.KeyArg.TheVariants.{Text, Number, Declared as declared_text}
 use Rattle.zs_events.specs.declared.turn.Effect.{Effect}
 use Rattle.zs_events.specs.declared.turn.Effect.TheVariants.{Send, Hand, End, Matching}
 use Rattle.zs_events.specs.declared.turn.HandOver.TheVariants.{Sample, Reply, Query}
@@ -40,8 +40,9 @@ use Rattle.zs_core.specs.Sends.{OwnKeys, group_wire, declared_by, has_front, goe
 use Rattle.zs_script.specs.Pieces.{written}
 use Rattle.zs_script.specs.Printing.{hand_pieces, replied_pieces, queried_pieces, effect_fields}
 use Rattle.zs_script.specs.Plain.{is_plain, is_plain_text, is_plain_sample, is_plain_outcome, is_plain_query, is_plain_effect, message_texts}
-use Rattle.zs_session.specs.Telling.{are_plain_keys, tells}
-use Rattle.zs_session.proofs.Cutting.{all_append}
+use Rattle.zs_session.specs.Telling.{tells}
+use Rattle.zs_driving.proofs.Progress.{all_append}
+use Rattle.zs_session.proofs.PlainIncluding.{included_plain}
 use Rattle.zs_session.proofs.PlainKeys.{IsText, PlainContent, found_all}
 
 -- an effect that hands no sample out but to a subscriber to liveliness, with plain texts
@@ -166,26 +167,30 @@ event_sent k pubs number text (UndeclareKey key) all named plain = return_sent_o
 event_sent k pubs number text Close all named plain = (refl, tt)
 event_sent k pubs number text e all named plain = publication_sent k (row_of e).key text (resolved pubs (row_of e).publishes) all named plain
 
--- aggregates are plain, one by one
-all_from : {X : Type 0} (f : X → Bool) (xs : List X) → list_all f xs ≡ true → AllByRecursion (λ x. f x ≡ true) xs
-all_from f [] all = tt
-all_from f (x ∷ xs) all = let parts = and_parts (f x) (list_all f xs) all in (parts.0, all_from f xs parts.1)
-
--- the form of a key in the declaration of its group is plain
-group_plain : (keys : List a_key) (text : List ℕ) (own : WireExpr) → are_plain_keys keys ≡ true → is_plain_text own.suffix ≡ true
-    → is_plain_text (group_wire keys text own).suffix ≡ true
-group_plain keys text own all plain =
-    go (aggregate_of keys text)
-    (found_all (λ key. is_plain_text (chars key.text) ≡ true) (λ key. includes key.text text) keys (all_from (λ key. is_plain_text (chars key.text)) keys all))
+-- the aggregate of a text, if it has one, is spelled and includes the text
+found_spelled : (keys : List a_key) (text : List ℕ) → AllByRecursion (λ key. IsUtf8 key.text) keys
+    → IfSome (aggregate_of keys text) (λ key. IsUtf8 key.text × (includes key.text text ≡ true))
+found_spelled [] text all = tt
+found_spelled (key ∷ keys) text all = go (includes key.text text) refl (found_spelled keys text all.1)
   where
-    go : (o : Option a_key) → IfSome o (λ key. is_plain_text (chars key.text) ≡ true)
+    go : (b : Bool) → includes key.text text ≡ b → IfSome (aggregate_of keys text) (λ key. IsUtf8 key.text × (includes key.text text ≡ true))
+        → IfSome (if b then Some key else aggregate_of keys text) (λ key. IsUtf8 key.text × (includes key.text text ≡ true))
+    go true is rest = (all.0, is)
+    go false is rest = rest
+
+-- the form of a plain key in the declaration of its group is plain: an aggregate that includes it is plain too
+group_plain : (keys : List a_key) (text : List ℕ) (own : WireExpr) → AllByRecursion (λ key. IsUtf8 key.text) keys → IsText text → is_plain_text own.suffix ≡ true
+    → is_plain_text (group_wire keys text own).suffix ≡ true
+group_plain keys text own all named plain = go (aggregate_of keys text) (found_spelled keys text all)
+  where
+    go : (o : Option a_key) → IfSome o (λ key. IsUtf8 key.text × (includes key.text text ≡ true))
         → is_plain_text (unwrap_or (option_map (λ key. full_wire key.text) o) own).suffix ≡ true
     go None found = plain
-    go (Some key) found = found
+    go (Some key) found = subst (λ (t : List ℕ). is_plain t ≡ true) (sym (encodes-chars key.text found.0)) (included_plain key.text text found.1 named.0)
 
--- the aggregates of every kind are plain
-abbrev pub ArePlainGroups : (GroupKind → Company) → Type 0
-ArePlainGroups company = (kind : GroupKind) → are_plain_keys (company kind).aggregates ≡ true
+-- the aggregates of every kind are spelled by characters
+abbrev pub AreSpelledGroups : (GroupKind → Company) → Type 0
+AreSpelledGroups company = (kind : GroupKind) → AllByRecursion (λ key. IsUtf8 key.text) (company kind).aggregates
 
 -- a declaration that is sent under a condition, and what is sent where an entity ends
 sent_if : (b : Bool) (message : Message) → list_all is_plain_text (message_texts message) ≡ true → AreQuiet (sends_if b message)
@@ -230,21 +235,21 @@ queryable_left : (o : Option QueryableRow) → AreQuiet (queryable_leaves o)
 queryable_left None = tt
 queryable_left (Some row) = sent_if (has_network row.origin) (UndeclareQueryable row.id) refl
 
-entity_sent : (known : Known) (e : Event) (number : Option ℕ) (text : Option (List ℕ)) → AreTexts known.keys → ArePlainGroups known.company → IfSome text IsText
+entity_sent : (known : Known) (e : Event) (number : Option ℕ) (text : Option (List ℕ)) → AreTexts known.keys → AreSpelledGroups known.company → IfSome text IsText
     → AreQuiet (entity_sends known e number text)
-entity_sent known (Sub origin key) (Some id) (Some text) all shared named =
+entity_sent known (Sub origin key to) (Some id) (Some text) all shared named =
     let own = key_wire known.keys text key in
     let wire = group_wire (known.company Subscribers).aggregates text own in
     sent_if (joins_first (known.company Subscribers) (record { id = id; told = has_network origin; text = text })) (DeclareSubscriber id wire)
     (and_from (is_plain_text wire.suffix) true
-    (group_plain (known.company Subscribers).aggregates text own (shared Subscribers) (wire_plain known.keys text (declared_by known.keys text key) all named)) refl)
-entity_sent known (Pub destination key encoding qos reliable) (Some id) (Some text) all shared named =
+    (group_plain (known.company Subscribers).aggregates text own (shared Subscribers) named (wire_plain known.keys text (declared_by known.keys text key) all named)) refl)
+entity_sent known (Pub key settings) (Some id) (Some text) all shared named =
     let own = key_wire known.keys text key in
     let wire = group_wire (known.company Publishers).aggregates text own in
-    sent_if (joins_first (known.company Publishers) (record { id = id; told = has_network destination; text = text }))
+    sent_if (joins_first (known.company Publishers) (record { id = id; told = has_network settings.destination; text = text }))
     (Interest id CurrentFuture of_subscribers (Some wire))
     (and_from (is_plain_text wire.suffix) true
-    (group_plain (known.company Publishers).aggregates text own (shared Publishers) (wire_plain known.keys text (declared_by known.keys text key) all named)) refl)
+    (group_plain (known.company Publishers).aggregates text own (shared Publishers) named (wire_plain known.keys text (declared_by known.keys text key) all named)) refl)
 entity_sent known (Undeclare sub_kind id) number text all shared named =
     subscriber_left (known.company Subscribers) (option_map sub_shared (sub_at id known.subs))
 entity_sent known (Undeclare pub_kind id) number text all shared named =
@@ -254,9 +259,9 @@ entity_sent known (Queryable origin complete key) (Some id) (Some text) all shar
     sent_if (has_network origin) (DeclareQueryable id complete wire)
     (and_from (is_plain_text wire.suffix) true (wire_plain known.keys text (declared_by known.keys text key) all named) refl)
 entity_sent known (Undeclare queryable_kind id) number text all shared named = queryable_left (queryable_at id known.queryables)
-entity_sent known (Querier destination key target consolidation timeout qos any_key) (Some id) (Some text) all shared named =
+entity_sent known (Querier key settings) (Some id) (Some text) all shared named =
     let wire = key_wire known.keys text key in
-    sent_if (joins_first (known.company Queriers) (record { id = id; told = has_network destination; text = text }))
+    sent_if (joins_first (known.company Queriers) (record { id = id; told = has_network settings.destination; text = text }))
     (Interest id CurrentFuture of_queryables (Some wire))
     (and_from (is_plain_text wire.suffix) true (wire_plain known.keys text (declared_by known.keys text key) all named) refl)
 entity_sent known (Undeclare querier_kind id) number text all shared named =
@@ -266,7 +271,7 @@ entity_sent known (Undeclare token_kind id) number text all shared named = (refl
 entity_sent known (Lsub history key) number text all shared named =
     declared_sent (token_interest (lsub_mode history)) known.keys number text key (λ id wire. refl) all named
 entity_sent known (Undeclare lsub_kind id) number text all shared named = (refl, tt)
-entity_sent known (LivelinessGet key timeout token) number text all shared named =
+entity_sent known (LivelinessGet key timeout token to) number text all shared named =
     declared_sent (token_interest Current) known.keys number text key (λ id wire. refl) all named
 entity_sent known e number text all shared named = tt
 
@@ -274,7 +279,7 @@ entity_sent known e number text all shared named = tt
 abbrev pub sent_by : Known → Option ℕ → Option (List ℕ) → Event → List Effect
 sent_by known number text e = sends_of known.keys known.pubs number text e ++ entity_sends known e number text
 
-pub all_sent : (known : Known) (number : Option ℕ) (text : Option (List ℕ)) (e : Event) → AreTexts known.keys → ArePlainGroups known.company → IfSome text IsText
+pub all_sent : (known : Known) (number : Option ℕ) (text : Option (List ℕ)) (e : Event) → AreTexts known.keys → AreSpelledGroups known.company → IfSome text IsText
     → PlainContent (resolved known.pubs (row_of e).publishes) → AreQuiet (sent_by known number text e)
 all_sent known number text e all shared named plain =
     all_append IsQuiet (sends_of known.keys known.pubs number text e) (entity_sends known e number text)

@@ -16,10 +16,11 @@ use Rattle.zs_query.specs.Unfinished.{value_at, values_from}
 use Rattle.zs_query.specs.RequestTable.{Handing}
 use Rattle.zs_query.specs.Drawn.{ValueNews, Drawn, just_drawn, giving_back, drawn, is_unfinished, unfinished}
 use Rattle.zs_events.specs.declared.event.Event.{Event}
-use Rattle.zs_events.specs.declared.event.Event.TheVariants.{Get, QuerierGet, Undeclare, Net, Reply as reply_event, ReplyDelete, ReplyErr}
-use Rattle.zs_events.specs.declared.event.EntityKind.{EntityKind}
-use Rattle.zs_events.specs.declared.event.EntityKind.TheVariants.{Sub as sub_kind, Pub as pub_kind, Queryable as queryable_kind, Querier as querier_kind, Listener as listener_kind, Token as token_kind, Lsub as lsub_kind}
-use Rattle.zs_events.specs.Kinds.{Question, QuerierQuestion, ToGets, NoGet, Asks, AsksBy, Answers, gets_ended, ToValues, Requested, AnswersBy, AnswersError, SharesValue, GivesBack, text_if, value_texts, response_key, response_texts, row_of}
+use Rattle.zs_events.specs.declared.event.Event.TheVariants.{Get, QuerierGet, Undeclare, Net, Reply as reply_event, ReplyErr}
+use Rattle.zs_events.specs.declared.entity_kind.EntityKind.{EntityKind}
+use Rattle.zs_events.specs.declared.entity_kind.EntityKind.TheVariants.{Sub as sub_kind, Pub as pub_kind, Queryable as queryable_kind, Querier as querier_kind, Listener as listener_kind, Token as token_kind, Lsub as lsub_kind}
+use Rattle.zs_events.specs.Kinds.{Question, ToGets, NoGet, Asks, AsksBy, Answers, gets_ended, ToValues, Requested, AnswersBy, AnswersError, SharesValue, GivesBack, text_if, value_texts, response_key, response_texts, row_of}
+use Rattle.zs_events.specs.declared.inquiry.Inquiry.{Inquiry}
 use Rattle.zs_core.specs.Entry.{Entry}
 use Rattle.zs_core.specs.declared.querier.QuerierRow.{QuerierRow}
 use Rattle.zs_core.specs.Queriers.{querier_at, asks_of, to_gets_by}
@@ -28,14 +29,14 @@ use Rattle.zs_core.specs.Questions.{parameters_of, sent_value}
 use Rattle.zs_core.specs.Values.{met_by_get, met_by_request, get_request, network_request, share_of, drawn_by, news_by_draw, times_handed, handing_by, value_news, values_now}
 use Rattle.zs_core.specs.GetEffects.{hand_query}
 use Rattle.zs_script.specs.Plain.{is_plain, is_plain_text, is_field_text, is_plain_key, is_plain_named, is_plain_event}
-use Rattle.zs_session.proofs.Cutting.{all_append}
-use Rattle.zs_session.proofs.PlainKeys.{IsText, AllPlain, PlainPast, field_text, last_plain, texts_plain, plain_encoding, default_plain, filter_all, found_all}
+use Rattle.zs_driving.proofs.Progress.{all_append}
+use Rattle.zs_session.proofs.PlainKeys.{IsText, AllPlain, PlainPast, body_plain, field_text, last_plain, texts_plain, plain_encoding, default_plain, filter_all, found_all}
 use Rattle.zs_session.proofs.PlainParameters.{all_map, trimmed, parameters_text}
 use Rattle.zs_session.proofs.PlainSends.{IsQuiet, AreQuiet}
 
 -- what an event is to gets, with plain texts
 abbrev pub PlainToGets : ToGets → Type 0
-PlainToGets (Asks q) = (is_field_text q.parameters ≡ true) × AllPlain (value_texts q.value)
+PlainToGets (Asks q) = (is_field_text q.inquiry.parameters ≡ true) × AllPlain (value_texts q.inquiry.value)
 PlainToGets (AsksBy id q) = (is_field_text q.parameters ≡ true) × AllPlain (value_texts q.value)
 PlainToGets (Answers response) = AllPlain (response_texts response.answered)
 PlainToGets to = Unit {0}
@@ -50,13 +51,13 @@ ended_plain token_kind id = tt
 ended_plain lsub_kind id = tt
 
 gets_plain : (e : Event) → is_plain_event e ≡ true → PlainToGets (row_of e).to_gets
-gets_plain (Get destination key parameters target consolidation timeout value qos source attachment any_key token) plain =
-    let texts = (and_parts (is_plain_key key) (is_field_text parameters && list_all is_field_text (value_texts value)) plain).1 in
-    let parts = and_parts (is_field_text parameters) (list_all is_field_text (value_texts value)) texts in
-    (parts.0, texts_plain (value_texts value) parts.1)
-gets_plain (QuerierGet id parameters value source attachment token) plain =
-    let parts = and_parts (is_field_text parameters) (list_all is_field_text (value_texts value)) plain in
-    (parts.0, texts_plain (value_texts value) parts.1)
+gets_plain (Get key settings inquiry to) plain =
+    let texts = (and_parts (is_plain_key key) (is_field_text inquiry.parameters && list_all is_field_text (value_texts inquiry.value)) plain).1 in
+    let parts = and_parts (is_field_text inquiry.parameters) (list_all is_field_text (value_texts inquiry.value)) texts in
+    (parts.0, texts_plain (value_texts inquiry.value) parts.1)
+gets_plain (QuerierGet id inquiry to) plain =
+    let parts = and_parts (is_field_text inquiry.parameters) (list_all is_field_text (value_texts inquiry.value)) plain in
+    (parts.0, texts_plain (value_texts inquiry.value) parts.1)
 gets_plain (Undeclare kind id) plain = ended_plain kind id
 gets_plain (Net (response_message response)) plain =
     let named = is_plain_named (response_key response.answered response.wire) in
@@ -64,7 +65,7 @@ gets_plain (Net (response_message response)) plain =
 gets_plain e plain = tt
 
 -- a get of a querier has no text but its own
-asked_by_querier : (q : QuerierQuestion) (o : Option QuerierRow) → (is_field_text q.parameters ≡ true) × AllPlain (value_texts q.value) → PlainToGets (asks_of q o)
+asked_by_querier : (q : Inquiry) (o : Option QuerierRow) → (is_field_text q.parameters ≡ true) × AllPlain (value_texts q.value) → PlainToGets (asks_of q o)
 asked_by_querier q None plain = tt
 asked_by_querier q (Some row) plain = plain
 
@@ -88,10 +89,9 @@ does_plain (Net (request_message request)) plain =
     let texts = (and_parts (is_field_text request.wire.suffix) (is_field_text request.parameters && list_all is_field_text (value_texts request.value)) plain).1 in
     let parts = and_parts (is_field_text request.parameters) (list_all is_field_text (value_texts request.value)) texts in
     (parts.0, texts_plain (value_texts request.value) parts.1)
-does_plain (reply_event value key payload encoding timestamp priority congestion express source attachment) plain =
-    plain_encoding encoding (last_plain (is_plain_key key) encoding plain)
-does_plain (ReplyDelete value key timestamp priority congestion express source attachment) plain = default_plain
-does_plain (ReplyErr value payload encoding) plain = plain_encoding encoding (last_plain true encoding plain)
+does_plain (reply_event value key update quality) plain =
+    body_plain update.body [] update (and_parts (is_plain_key key) (list_all is_field_text (texts_by update.body)) plain).1 default_plain
+does_plain (ReplyErr value error) plain = plain_encoding error.encoding (last_plain true error.encoding plain)
 does_plain e plain = tt
 
 -- a request with plain texts, and a value of one
@@ -109,7 +109,7 @@ sent_plain (Some value) plain = (plain_encoding value.encoding plain.0, tt)
 get_plain : (number : ℕ) (text : List ℕ) (q : Question) → IsText text → PlainToGets (Asks q) → PlainRequest (get_request number text q)
 get_plain number text q named plain =
     let parameters = parameters_text q plain.0 in
-    (named, (subst IsText (sym (encodes-chars (parameters_of q) parameters.1)) parameters, sent_plain q.value plain.1))
+    (named, (subst IsText (sym (encodes-chars (parameters_of q) parameters.1)) parameters, sent_plain q.inquiry.value plain.1))
 
 network_plain : (text : List ℕ) (request : Request) → IsText text → PlainToValues (Requested request) → PlainRequest (network_request text request)
 network_plain text request named plain = (named, (field_text request.parameters plain.0, plain.1))

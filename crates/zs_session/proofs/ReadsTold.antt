@@ -19,13 +19,15 @@ use Rattle.zs_events.specs.declared.turn.HandOver.TheVariants.{Sample, Reply, Qu
 use Rattle.zs_events.specs.declared.turn.Kind.{Kind}
 use Rattle.zs_events.specs.declared.turn.Refusal.TheVariants.{NotFound}
 use Rattle.zs_events.specs.Turn.{answered}
+use Rattle.zs_events.specs.Kinds.{row_of}
 use Rattle.zs_core.specs.declared.settings.Settings.{Settings}
 use Rattle.zs_core.specs.Entry.{is_closed}
+use Rattle.zs_core.specs.Received.{AreSpelled}
 use Rattle.zs_core.specs.Past.{past_of}
 use Rattle.zs_core.specs.Effects.{effects}
 use Rattle.zs_channels.specs.Channel.{nothing_in, first_or, received}
 use Rattle.zs_channels.specs.Told.{ChannelNews, Opens, Hears, Handed, Read, Ended, Declared, has_ended, held, state, channel_of, items_in, all_handed}
-use Rattle.zs_channels.specs.Heard.{declares, opening, news_of_item, news_of_effect, news_of_effects, news_of_turn}
+use Rattle.zs_channels.specs.Heard.{opening, news_of_item, news_of_effect, news_of_effects, news_of_turn}
 use Rattle.zs_channels.proofs.Giving.{holds}
 use Rattle.zs_script.specs.Pieces.{written}
 use Rattle.zs_script.specs.Printing.{received_fields}
@@ -34,7 +36,7 @@ use Rattle.zs_script.proofs.PlainTexts.{lines-found, fields-found}
 use Rattle.zs_script.proofs.PlainEffects.{answers-plain, received-plain}
 use Rattle.zs_session.specs.Heard.{core_of, heard, answer_of}
 use Rattle.zs_session.specs.Script.{read_refusal, read_text, text_after}
-use Rattle.zs_session.specs.Telling.{has_plain_aggregates, plain_line, tells, tells_behind, is_telling, told, refusal_or, event_lines, lines_after}
+use Rattle.zs_session.specs.Telling.{plain_line, tells, tells_behind, is_telling, told, refusal_or, event_lines, lines_after}
 use Rattle.zs_session.proofs.Cutting.{ArePlain}
 use Rattle.zs_session.proofs.PlainKeys.{PlainEvents, past_plain}
 use Rattle.zs_session.proofs.Telling.{PlainEffects, plain_turn, plain_turn_effects, event_told, quiet_but, told_turn}
@@ -46,7 +48,7 @@ PlainScript es = AllByRecursion (λ e. is_plain_script_event e ≡ true) es
 -- so it is with those of the session
 plain_core : (h : List ScriptEvent) → PlainScript h → PlainEvents (core_of h)
 plain_core [] all = tt
-plain_core (Core e to ∷ h) all = (all.0, plain_core h all.1)
+plain_core (Core e ∷ h) all = (all.0, plain_core h all.1)
 plain_core (Recv kind id ∷ h) all = plain_core h all.1
 
 -- what is handed over has no such text
@@ -90,14 +92,14 @@ plain_opening (Some kind) to (accepted None) = refl
 plain_opening (Some kind) to (Refused refusal) = refl
 
 -- all that channels hear of plain events is plain
-plain_heard : (s : Settings) → has_plain_aggregates s ≡ true → (h : List ScriptEvent) → PlainScript h → PlainNews (heard s h)
+plain_heard : (s : Settings) → AreSpelled s → (h : List ScriptEvent) → PlainScript h → PlainNews (heard s h)
 plain_heard s shared [] all = refl
-plain_heard s shared (Core e to ∷ h) all =
+plain_heard s shared (Core e ∷ h) all =
     let turn = effects s (core_of h) e in
-    news_both (news_of_turn e to turn) (heard s h)
-    (news_both (news_of_effects turn.effects) (opening (declares e) to turn.answer)
+    news_both (news_of_turn e turn) (heard s h)
+    (news_both (news_of_effects turn.effects) (opening (row_of e).handled (row_of e).channel turn.answer)
     (plain_news_of_effects turn.effects (plain_turn_effects s shared (past_of s (core_of h)) e (past_plain s (core_of h) (plain_core h all.1)) all.0))
-    (plain_opening (declares e) to turn.answer))
+    (plain_opening (row_of e).handled (row_of e).channel turn.answer))
     (plain_heard s shared h all.1)
 plain_heard s shared (Recv kind id ∷ h) all = plain_heard s shared h all.1
 
@@ -114,7 +116,7 @@ plain_first nothing [] none all = none
 plain_first nothing (item ∷ items) none all = (and_parts (plain_item item) (list_all plain_item items) all).0
 
 -- so what a read is answered is plain
-plain_answer : (s : Settings) → has_plain_aggregates s ≡ true → (h : List ScriptEvent) → PlainScript h → (kind : Kind) (id : ℕ)
+plain_answer : (s : Settings) → AreSpelled s → (h : List ScriptEvent) → PlainScript h → (kind : Kind) (id : ℕ)
     → IfSome (answer_of s h kind id) (λ answer. is_plain_received answer ≡ true)
 plain_answer s shared h all kind id = go (channel_of kind id (heard s h)) (holds plain_item (heard s h) kind id (plain_heard s shared h all))
   where
@@ -142,17 +144,17 @@ read_told n None true rest plain = told_turn n (answered None None []) rest (ans
 read_told n None false rest plain = told_turn n (answered (Some NotFound) None []) rest (answers-plain (Refused NotFound), tt)
 
 -- the whole text of plain events tells them
-pub text_told : (s : Settings) → has_plain_aggregates s ≡ true → (h es : List ScriptEvent) → PlainScript h → PlainScript es
+pub text_told : (s : Settings) → AreSpelled s → (h es : List ScriptEvent) → PlainScript h → PlainScript es
     → told (text_after s h es) ≡ lines_after s h es
 text_told s shared h [] past all = refl
-text_told s shared h (Core e to ∷ es) past all =
+text_told s shared h (Core e ∷ es) past all =
     let n = length h + 1 in
     let c = core_of h in
     let plain = past_plain s c (plain_core h past) in
-    told_turn n (effects s c e) (text_after s (Core e to ∷ h) es) (plain_turn s shared (past_of s c) e plain all.0)
-    ∙ ap (λ (here : List (List ℕ)). here ++ told (text_after s (Core e to ∷ h) es))
+    told_turn n (effects s c e) (text_after s (Core e ∷ h) es) (plain_turn s shared (past_of s c) e plain all.0)
+    ∙ ap (λ (here : List (List ℕ)). here ++ told (text_after s (Core e ∷ h) es))
     (event_told s (past_of s c) n e (quiet_but s shared (past_of s c) e plain all.0))
-    ∙ ap (λ (later : List (List ℕ)). event_lines s (past_of s c) n e ++ later) (text_told s shared (Core e to ∷ h) es (all.0, past) all.1)
+    ∙ ap (λ (later : List (List ℕ)). event_lines s (past_of s c) n e ++ later) (text_told s shared (Core e ∷ h) es (all.0, past) all.1)
 text_told s shared h (Recv kind id ∷ es) past all =
     let n = length h + 1 in
     let answer = answer_of s h kind id in

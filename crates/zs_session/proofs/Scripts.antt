@@ -1,18 +1,19 @@
 use Rattle.std.proofs.Common.{◌≡◌, ℕ, List, [], ◌∷◌, true, Option, Some, None, refl}
 use Rattle.std.specs.List.{list_all}
-use Rattle.zs_events.specs.declared.chan.Chan.TheVariants.{Print}
 use Rattle.zs_events.specs.declared.script_event.ScriptEvent.{ScriptEvent}
 use Rattle.zs_events.specs.declared.script_event.ScriptEvent.TheVariants.{Core}
 use Rattle.zs_core.specs.declared.settings.Settings.{Settings}
 use Rattle.zs_events.specs.declared.event.Event.TheVariants.{Close}
-use Rattle.zs_script.specs.Lines.{lines}
+use Rattle.zs_lines.specs.Lines.{lines}
 use Rattle.zs_script.specs.Grammar.{event_of}
 use Rattle.zs_script.specs.Plain.{is_plain_script_event, has_no_line_feed}
 use Rattle.zs_script.proofs.PlainTexts.{lines-no-feed}
 use Rattle.zs_script.proofs.PlainEvents.{events-plain}
-use Rattle.zs_session.proofs.Cutting.{both, all_append}
+use Rattle.zs_driving.proofs.Progress.{all_append}
+use Rattle.zs_session.proofs.Cutting.{both}
 use Rattle.zs_session.specs.Script.{events_of, script, text}
-use Rattle.zs_session.specs.Telling.{has_plain_aggregates, Told, told}
+use Rattle.zs_core.specs.Received.{AreSpelled}
+use Rattle.zs_session.specs.Telling.{Told, told}
 use Rattle.zs_session.proofs.ReadsTold.{PlainScript, text_told}
 
 -- the events of lines without line feeds are plain
@@ -30,8 +31,8 @@ plain_events (row ∷ rows) all =
 -- the events of a script have no text with a tab or a line feed
 plain_script : (input : List ℕ) → PlainScript (script input)
 plain_script input =
-    all_append (λ e. is_plain_script_event e ≡ true) (events_of (lines input)) (Core Close Print ∷ []) (plain_events (lines input) (lines-no-feed input)) (refl, tt)
+    all_append (λ e. is_plain_script_event e ≡ true) (events_of (lines input)) (Core Close ∷ []) (plain_events (lines input) (lines-no-feed input)) (refl, tt)
 
 -- the text of every script tells it
-pub script_told : (s : Settings) (input : List ℕ) → has_plain_aggregates s ≡ true → Told s (script input) (told (text s (script input)))
-script_told s input plain = text_told s plain [] (script input) tt (plain_script input)
+pub script_told : (s : Settings) (input : List ℕ) → AreSpelled s → Told s (script input) (told (text s (script input)))
+script_told s input spelled = text_told s spelled [] (script input) tt (plain_script input)

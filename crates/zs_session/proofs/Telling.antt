@@ -6,8 +6,8 @@ use Rattle.std.proofs.lemmas.Bool.{and_parts, and_from}
 use Rattle.std.proofs.lemmas.List.{append-nil, map-append}
 use Rattle.std.proofs.lemmas.List.Elements.{filter-append}
 use Rattle.zs_events.specs.declared.event.Event.{Event}
-use Rattle.zs_events.specs.declared.event.Event.TheVariants.{Undeclare, Put, Delete, PublisherPut, PublisherDelete, Close, Net}
-use Rattle.zs_events.specs.declared.event.EntityKind.TheVariants.{Sub as sub_kind, Pub as pub_kind, Queryable as queryable_kind, Querier as querier_kind, Listener as listener_kind, Token as token_kind, Lsub as lsub_kind}
+use Rattle.zs_events.specs.declared.event.Event.TheVariants.{Undeclare, Publish, PublishBy, Close, Net}
+use Rattle.zs_events.specs.declared.entity_kind.EntityKind.TheVariants.{Sub as sub_kind, Pub as pub_kind, Queryable as queryable_kind, Querier as querier_kind, Listener as listener_kind, Token as token_kind, Lsub as lsub_kind}
 use Rattle.zs_tables.specs.declared.group_kind.GroupKind.TheVariants.{Subscribers, Publishers, Queriers}
 use Rattle.zs_wire.specs.declared.message.Message.TheVariants.{Push}
 use Rattle.zs_core.specs.declared.settings.Settings.{Settings}
@@ -23,7 +23,8 @@ use Rattle.zs_tables.specs.declared.queryable.QueryableRow.{QueryableRow}
 use Rattle.zs_tables.specs.declared.listener.ListenerRow.{ListenerRow}
 use Rattle.zs_tables.specs.MatchingLaws.{differ}
 use Rattle.zs_events.specs.Turn.{answered}
-use Rattle.zs_events.specs.Kinds.{Content, Publishes, NoContent, OwnContent, ByPublisher, ToGets, NoGet, Asks, AsksBy, Answers, EndsSide, Reaches, EndsQuerier, Cancels, EndsAll, ToValues, NoValue, Requested, AnswersBy, AnswersError, SharesValue, GivesBack, row_of}
+use Rattle.zs_events.specs.Kinds.{Publishes, NoContent, OwnContent, ByPublisher, ToGets, NoGet, Asks, AsksBy, Answers, EndsSide, Reaches, EndsQuerier, Cancels, EndsAll, ToValues, NoValue, Requested, AnswersBy, AnswersError, SharesValue, GivesBack, row_of}
+use Rattle.zs_events.specs.declared.publication.Content.{Content}
 use Rattle.zs_core.specs.Entry.{Entry, is_closed}
 use Rattle.zs_core.specs.Held.{named_text}
 use Rattle.zs_core.specs.Live.{live_subs, live_pubs, live_queryables, live_lsubs, live_listeners, to_gets_of}
@@ -36,6 +37,7 @@ use Rattle.zs_core.specs.Subscribers.{sub_ends}
 use Rattle.zs_core.specs.Queryables.{queryable_ends}
 use Rattle.zs_core.specs.Publications.{Publication, allows, sample_on}
 use Rattle.zs_core.specs.Seen.{Sight}
+use Rattle.zs_core.specs.Received.{AreSpelled}
 use Rattle.zs_core.specs.Causes.{past_sight, holds, in_order, first_that, refusal_of}
 use Rattle.zs_core.specs.Past.{entry_of}
 use Rattle.zs_core.specs.Groups.{company_of}
@@ -45,15 +47,15 @@ use Rattle.zs_core.specs.ValueEffects.{value_effects, with_values}
 use Rattle.zs_query.specs.declared.query_value.QueryValue.{QueryValue}
 use Rattle.zs_core.specs.Gets.{open_now}
 use Rattle.zs_core.specs.GetEffects.{request_effects, told_effects, with_gets}
-use Rattle.zs_script.specs.Lines.{lines}
+use Rattle.zs_lines.specs.Lines.{lines}
 use Rattle.zs_script.specs.Pieces.{written}
 use Rattle.zs_script.specs.Printing.{hand_pieces, line, turn_text, answer_fields, effect_fields}
 use Rattle.zs_script.specs.Plain.{is_plain, is_plain_text, is_plain_event, is_plain_effect}
 use Rattle.zs_script.proofs.PlainTexts.{fields-found}
 use Rattle.zs_script.proofs.PlainEffects.{answers-plain, effects-plain}
-use Rattle.zs_session.specs.Telling.{are_plain_keys, has_plain_aggregates, plain_line, tells, tells_behind, is_telling, told, published, hand_lines, refusal_or, event_lines}
+use Rattle.zs_session.specs.Telling.{plain_line, tells, tells_behind, is_telling, told, published, hand_lines, refusal_or, event_lines}
 use Rattle.zs_session.proofs.PlainKeys.{IsText, PlainPast, PlainContent, plain_handed, content_plain, pubs_plain, held_plain, text_plain}
-use Rattle.zs_session.proofs.PlainSends.{IsQuiet, AreQuiet, ArePlainGroups, sent_by, quiet_tell, all_plain, all_sent}
+use Rattle.zs_session.proofs.PlainSends.{IsQuiet, AreQuiet, AreSpelledGroups, sent_by, quiet_tell, all_plain, all_sent}
 use Rattle.zs_session.proofs.PlainValues.{to_plain, does_plain, drawn_plain, values_plain}
 use Rattle.zs_session.proofs.PlainGets.{open_plain, told_quiet, request_quiet}
 use Rattle.zs_session.proofs.PlainAnswers.{value_quiet}
@@ -218,10 +220,8 @@ has_values (GivesBack value) = true
 
 -- publishes nothing
 values_quiet : (past : List Entry) (n : ℕ) (e : Event) → has_values (row_of e).to_values ≡ true → hand_lines past n (published past e) ≡ []
-values_quiet past n (Put destination key payload encoding timestamp qos reliable source attachment) h = cc
-values_quiet past n (Delete destination key timestamp qos reliable source attachment) h = cc
-values_quiet past n (PublisherPut id payload encoding timestamp source attachment) h = cc
-values_quiet past n (PublisherDelete id timestamp source attachment) h = cc
+values_quiet past n (Publish destination key update quality) h = cc
+values_quiet past n (PublishBy id update) h = cc
 values_quiet past n (Net (Push push)) h = cc
 values_quiet past n e h = refl
 
@@ -255,10 +255,8 @@ is_for_gets EndsAll = false
 
 -- publishes nothing
 gets_quiet : (past : List Entry) (n : ℕ) (e : Event) → is_for_gets (to_gets_of past e) ≡ true → hand_lines past n (published past e) ≡ []
-gets_quiet past n (Put destination key payload encoding timestamp qos reliable source attachment) h = cc
-gets_quiet past n (Delete destination key timestamp qos reliable source attachment) h = cc
-gets_quiet past n (PublisherPut id payload encoding timestamp source attachment) h = cc
-gets_quiet past n (PublisherDelete id timestamp source attachment) h = cc
+gets_quiet past n (Publish destination key update quality) h = cc
+gets_quiet past n (PublishBy id update) h = cc
 gets_quiet past n (Net (Push push)) h = cc
 gets_quiet past n e h = refl
 
@@ -292,10 +290,8 @@ effects_told s past n number e quiet =
 
 -- a closed session that accepts an event publishes nothing
 shut_quiet : (past : List Entry) (n : ℕ) (seen : Sight) (e : Event) → first_that (holds true (row_of e) seen) in_order ≡ None → hand_lines past n (published past e) ≡ []
-shut_quiet past n seen (Put destination key payload encoding timestamp qos reliable source attachment) c = cc
-shut_quiet past n seen (Delete destination key timestamp qos reliable source attachment) c = cc
-shut_quiet past n seen (PublisherPut id payload encoding timestamp source attachment) c = cc
-shut_quiet past n seen (PublisherDelete id timestamp source attachment) c = cc
+shut_quiet past n seen (Publish destination key update quality) c = cc
+shut_quiet past n seen (PublishBy id update) c = cc
 shut_quiet past n seen (Net (Push push)) c = cc
 shut_quiet past n seen e c = refl
 
@@ -362,13 +358,13 @@ plain_publication rows (Some text) (OwnContent c) key plain =
     plain_hands (on_text text c) (filter (allows (on_text text c)) rows) key.0 (plain_handed c.body.kind c.body.encoding plain)
 
 -- the aggregates that groups see are those of the settings
-shared_plain : (s : Settings) (past : List Entry) → has_plain_aggregates s ≡ true → ArePlainGroups (λ kind. company_of s kind past)
-shared_plain s past shared Subscribers = (and_parts (are_plain_keys s.aggregated_subscribers) (are_plain_keys s.aggregated_publishers) shared).0
-shared_plain s past shared Publishers = (and_parts (are_plain_keys s.aggregated_subscribers) (are_plain_keys s.aggregated_publishers) shared).1
-shared_plain s past shared Queriers = refl
+shared_spelled : (s : Settings) (past : List Entry) → AreSpelled s → AreSpelledGroups (λ kind. company_of s kind past)
+shared_spelled s past spelled Subscribers = spelled.0
+shared_spelled s past spelled Publishers = spelled.1
+shared_spelled s past spelled Queriers = tt
 
 -- what a plain event brings about is quiet, and plain
-pub quiet_but : (s : Settings) → has_plain_aggregates s ≡ true → (past : List Entry) (e : Event) → PlainPast past → is_plain_event e ≡ true → (number : Option ℕ)
+pub quiet_but : (s : Settings) → AreSpelled s → (past : List Entry) (e : Event) → PlainPast past → is_plain_event e ≡ true → (number : Option ℕ)
     → IsQuietBut s past number e
 quiet_but s shared past e all plain number =
     let named = text_plain past e all plain in
@@ -379,7 +375,7 @@ quiet_but s shared past e all plain number =
     let values = values_plain past all in
     let drew = drawn_plain known.queryables known.handing (to_gets_of past e) (row_of e).to_values number (named_text past e) values named to does in
     record {
-      sends = all_sent (known_of s past) number (named_text past e) e (λ n. held_plain n past all) (shared_plain s past shared) named
+      sends = all_sent (known_of s past) number (named_text past e) e (λ n. held_plain n past all) (shared_spelled s past shared) named
           (content_plain (live_pubs past) e (pubs_plain past all) plain);
       watches = watch_quiet known.watch number (named_text past e) (row_of e).to_liveliness (ends_of (live_queryables past) (live_subs past) (live_lsubs past) e) (tokens_plain s past all)
           named (ends_quiet (live_queryables past) (live_subs past) (live_lsubs past) e);
@@ -409,7 +405,7 @@ plain_with_values (AnswersError value error) rest values r v = v
 plain_with_values (SharesValue value) rest values r v = v
 plain_with_values (GivesBack value) rest values r v = v
 
-plain_effects : (s : Settings) → has_plain_aggregates s ≡ true → (past : List Entry) (number : Option ℕ) (e : Event) → PlainPast past → is_plain_event e ≡ true
+plain_effects : (s : Settings) → AreSpelled s → (past : List Entry) (number : Option ℕ) (e : Event) → PlainPast past → is_plain_event e ≡ true
     → PlainEffects (brought_whole s past number e)
 plain_effects s shared past number e all plain =
     let P : Effect → Type 0 = λ f. is_plain_effect f ≡ true in
@@ -431,7 +427,7 @@ plain_effects s shared past number e all plain =
     (all_plain listeners (listeners_quiet past (entry_of s past e)))
 
 -- so are the effects of its turn
-pub plain_turn_effects : (s : Settings) → has_plain_aggregates s ≡ true → (past : List Entry) (e : Event) → PlainPast past → is_plain_event e ≡ true → PlainEffects (turn_of s past e).effects
+pub plain_turn_effects : (s : Settings) → AreSpelled s → (past : List Entry) (e : Event) → PlainPast past → is_plain_event e ≡ true → PlainEffects (turn_of s past e).effects
 plain_turn_effects s shared past e all plain = go (is_closed past)
   where
     effects_of : (o : Option Refusal) (number : Option ℕ) (fx : List Effect) → PlainEffects fx → PlainEffects (answered o number fx).effects
@@ -445,7 +441,7 @@ plain_turn_effects s shared past e all plain = go (is_closed past)
     go false = effects_of (refusal_of s past e) (entry_of s past e).number (brought_whole s past (entry_of s past e).number e) (plain_effects s shared past (entry_of s past e).number e all plain)
 
 -- and the texts of all its lines
-pub plain_turn : (s : Settings) → has_plain_aggregates s ≡ true → (past : List Entry) (e : Event) → PlainPast past → is_plain_event e ≡ true → AllByRecursion ArePlain (turn_rows (turn_of s past e))
+pub plain_turn : (s : Settings) → AreSpelled s → (past : List Entry) (e : Event) → PlainPast past → is_plain_event e ≡ true → AllByRecursion ArePlain (turn_rows (turn_of s past e))
 plain_turn s shared past e all plain = go (is_closed past)
   where
     answer : (o : Option Refusal) (number : Option ℕ) (fx : List Effect) → PlainEffects fx → AllByRecursion ArePlain (turn_rows (answered o number fx))

@@ -15,13 +15,13 @@ use Rattle.zs_channels.specs.Heard.{news_of_turn}
 -- the events of the session in a history of a script, the newest first in both
 abbrev pub core_of : List ScriptEvent → List Event
 core_of [] = []
-core_of (Core e to ∷ h) = e ∷ core_of h
+core_of (Core e ∷ h) = e ∷ core_of h
 core_of (Recv kind id ∷ h) = core_of h
 
 -- all that channels heard in a history, the newest first: of each event of the session its turn, and of each read that
 abbrev pub heard : Settings → List ScriptEvent → List (ChannelNews HandOver)
 heard s [] = []
-heard s (Core e to ∷ h) = news_of_turn e to (effects s (core_of h) e) ++ heard s h
+heard s (Core e ∷ h) = news_of_turn e (effects s (core_of h) e) ++ heard s h
 heard s (Recv kind id ∷ h) = Hears kind id Read ∷ heard s h
 
 -- what a read of the channel of a kind and number is answered behind a history, if there is one

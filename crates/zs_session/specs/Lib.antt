@@ -3,7 +3,6 @@ pub mod Script
 pub mod Scripted
 pub mod Telling
 pub mod Driving
-pub mod Errors
 pub mod Soak
 pub mod Running
 pub mod Words

@@ -1,7 +1,6 @@
 -- What a script is, and its whole text.
-use Rattle.std.specs.Prelude.{ℕ, ◌+◌, Bool, true, false, nat_le, ◌&&◌, is_some, List, [], ◌∷◌, ◌++◌, length, Option, Some, None}
+use Rattle.std.specs.Prelude.{ℕ, ◌+◌, Bool, true, false, List, [], ◌∷◌, ◌++◌, length, Option, Some, None}
 use Rattle.std.specs.List.{filter_map}
-use Rattle.zs_events.specs.declared.chan.Chan.TheVariants.{Print}
 use Rattle.zs_events.specs.declared.event.Event.TheVariants.{Close}
 use Rattle.zs_events.specs.declared.received.Received.{Received}
 use Rattle.zs_events.specs.declared.script_event.ScriptEvent.{ScriptEvent}
@@ -14,14 +13,11 @@ use Rattle.zs_core.specs.declared.settings.Settings.{Settings}
 use Rattle.zs_core.specs.Entry.{is_closed}
 use Rattle.zs_core.specs.Past.{past_of}
 use Rattle.zs_core.specs.Effects.{effects}
-use Rattle.zs_script.specs.Lines.{lines}
+use Rattle.zs_lines.specs.Lines.{lines}
+use Rattle.zs_driving.specs.Languages.{Language}
 use Rattle.zs_script.specs.Grammar.{event_of}
 use Rattle.zs_script.specs.Printing.{line, turn_text, received_fields}
 use Rattle.zs_session.specs.Heard.{core_of, answer_of}
-
--- a line that is an event, and is short enough
-abbrev pub is_good : ℕ → List ℕ → Bool
-is_good line_max line = is_some (event_of line) && nat_le (length line) line_max
 
 -- the events of lines, in their order
 abbrev pub events_of : List (List ℕ) → List ScriptEvent
@@ -29,7 +25,7 @@ events_of rows = filter_map event_of rows
 
 -- the script that bytes are: the event of each line, and the close at the end of input
 abbrev pub script : List ℕ → List ScriptEvent
-script input = events_of (lines input) ++ Core Close Print ∷ []
+script input = events_of (lines input) ++ Core Close ∷ []
 
 -- why a read is refused, given what it is answered and whether the session is closed: while the session is open there
 -- has to be a channel
@@ -46,7 +42,7 @@ read_text number None closed = turn_text number (answered (read_refusal None clo
 
 -- what is printed for an event behind a history
 abbrev pub event_text : Settings → List ScriptEvent → ℕ → ScriptEvent → List ℕ
-event_text s h number (Core e to) = turn_text number (effects s (core_of h) e)
+event_text s h number (Core e) = turn_text number (effects s (core_of h) e)
 event_text s h number (Recv kind id) = read_text number (answer_of s h kind id) (is_closed (past_of s (core_of h)))
 
 -- what is printed for events behind a history: the lines of each one, under its number from 1
@@ -57,3 +53,11 @@ text_after s h (e ∷ es) = event_text s h (length h + 1) e ++ text_after s (e �
 -- what is printed for events from the first one on
 abbrev pub text : Settings → List ScriptEvent → List ℕ
 text s es = text_after s [] es
+
+-- the language of scripts: the event of each line, and what is printed for it and for the close behind the events before
+abbrev pub language : Settings → Language ScriptEvent
+language s = record {
+  event_of = event_of;
+  event_text = λ h e. event_text s h (length h + 1) e;
+  end_text = λ h. event_text s h (length h + 1) (Core Close);
+}

@@ -1,7 +1,5 @@
 -- What an output tells of refusals and of hand-overs to subscribers, and what it has to tell of a script.
-use Rattle.std.specs.Prelude.{◌≡◌, ℕ, ◌+◌, Bool, false, ◌&&◌, ◌||◌, List, [], ◌∷◌, ◌++◌, length, map, filter, Option, Some, None, bytes_eq, chars, codes, decimal}
-use Rattle.std.specs.List.{list_all}
-use Rattle.zs_keys.specs.Key.{Key}
+use Rattle.std.specs.Prelude.{◌≡◌, ℕ, ◌+◌, Bool, false, ◌&&◌, ◌||◌, List, [], ◌∷◌, ◌++◌, length, map, filter, Option, Some, None, bytes_eq, codes, decimal}
 use Rattle.zs_events.specs.declared.event.Event.{Event}
 use Rattle.zs_events.specs.declared.script_event.ScriptEvent.{ScriptEvent}
 use Rattle.zs_events.specs.declared.script_event.ScriptEvent.TheVariants.{Core, Recv}
@@ -18,20 +16,11 @@ use Rattle.zs_core.specs.Live.{live_subs, live_pubs}
 use Rattle.zs_core.specs.Causes.{refusal_of}
 use Rattle.zs_core.specs.Past.{past_of}
 use Rattle.zs_core.specs.Effects.{publication_of}
-use Rattle.zs_script.specs.Lines.{lines, fields}
+use Rattle.zs_lines.specs.Lines.{lines, fields}
 use Rattle.zs_script.specs.Printing.{answer_fields, effect_fields}
 use Rattle.zs_script.specs.Laws.{row}
-use Rattle.zs_script.specs.Plain.{is_plain_text}
 use Rattle.zs_session.specs.Heard.{core_of, answer_of}
 use Rattle.zs_session.specs.Script.{read_refusal}
-
--- no text of a key has a tab or a line feed, as it is printed
-abbrev pub are_plain_keys : List Key → Bool
-are_plain_keys keys = list_all (λ key. is_plain_text (chars key.text)) keys
-
--- no aggregate has one, so that each printed field is one field; those that words give never have one
-abbrev pub has_plain_aggregates : Settings → Bool
-has_plain_aggregates s = are_plain_keys s.aggregated_subscribers && are_plain_keys s.aggregated_publishers
 
 -- a printed line without its line feed
 abbrev pub plain_line : ℕ → List (List ℕ) → List ℕ
@@ -81,7 +70,7 @@ event_lines s past number e = refusal_or number (refusal_of s past e) (hand_line
 
 -- the lines that tell an event of a script behind a history: of a read its refusal alone
 abbrev pub script_lines : Settings → List ScriptEvent → ℕ → ScriptEvent → List (List ℕ)
-script_lines s h number (Core e to) = event_lines s (past_of s (core_of h)) number e
+script_lines s h number (Core e) = event_lines s (past_of s (core_of h)) number e
 script_lines s h number (Recv kind id) = refusal_or number (read_refusal (answer_of s h kind id) (is_closed (past_of s (core_of h)))) []
 
 -- the lines that tell events behind a history, one event after the other

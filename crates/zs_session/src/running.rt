@@ -2,19 +2,18 @@ ghost use Rattle.std.specs.Prelude.{◌≡◌, ◌≢◌, ◌≤◌, ℕ, List, 
 ghost use Rattle.std.specs.String.{string_bytes};
 ghost use Rattle.zs_core.specs.declared.settings.Settings.{Settings};
 ghost use Rattle.zs_core.specs.Settings.{is_valid};
-ghost use Rattle.zs_session.specs.Errors.{status_of};
-ghost use Rattle.zs_session.specs.Running.{bad_words, Complains, Runs, Soaks};
+ghost use Rattle.zs_driving.specs.Statuses.{Complains};
+ghost use Rattle.zs_session.specs.Running.{bad_words, Runs, Soaks};
 ghost use Rattle.zs_session.specs.Soak.{soak_of};
 ghost use Rattle.zs_session.specs.Words.{settings_of};
 ghost use Rattle.zs_session.specs.declared.soak.Soak.{Soak};
 
-use crate::complaining::{complain, complain_of};
 use crate::driving::drive;
-use crate::errors::DriveError;
 use crate::soak::{Soak, drive_soak, soak_of};
 use crate::words::settings_of;
 use std::alloc::Global;
 use zs_core::Settings;
+use zs_driving::{DriveError, complain, conclude};
 use zs_keys::{Sink, Source};
 
 /// The program: drives a session by the source's script, with the settings that the words give, and returns the exit
@@ -64,10 +63,7 @@ pub fn run<S: Source, K: Sink, C: Sink>(
             complain(complaints, b"bad words\n");
             2
         }
-        Err(_) => {
-            complain_of(complaints, DriveError::NoMemory);
-            status_of(DriveError::NoMemory)
-        }
+        Err(_) => conclude(complaints, Err(DriveError::NoMemory)),
     }
 }
 
@@ -91,13 +87,8 @@ fn run_with<S: Source, K: Sink, C: Sink>(
     ensures not_words { result ≢ 2 }
     ensures quiet { result ≡ 0 → complaints.new ≡ complaints.old }
 {
-    match drive(alloc, source, sink, settings) {
-        Ok(_) => 0,
-        Err(error) => {
-            complain_of(complaints, error);
-            status_of(error)
-        }
-    }
+    let answer = drive(alloc, source, sink, settings);
+    conclude(complaints, answer)
 }
 
 /// Drives a session by a script of its own making, writes what that came to, complains where it could not, and returns
@@ -113,23 +104,6 @@ fn run_soak<K: Sink, C: Sink>(alloc: Global, soak: Soak, sink: &mut K, complaint
 {
     match drive_soak(alloc, soak, sink) {
         Ok(()) => 0,
-        Err(error) => {
-            complain_of(complaints, error);
-            status_of(error)
-        }
-    }
-}
-
-/// The exit status for an error.
-fn status_of(error: DriveError) -> u8
-    ensures { result ≡ status_of error }
-{
-    match error {
-        DriveError::BadLine(_) => 3,
-        DriveError::LineTooLong(_) => 4,
-        DriveError::OutOfTurns => 5,
-        DriveError::ReadFault => 6,
-        DriveError::WriteFault => 7,
-        DriveError::NoMemory => 8,
+        Err(error) => conclude(complaints, Err(error)),
     }
 }

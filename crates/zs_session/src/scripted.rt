@@ -1,25 +1,35 @@
 //! A session that takes the events of a script, and the channels of those that it declared.
 
-ghost use Rattle.std.specs.Prelude.{◌≡◌, ◌++◌, List, [], ◌∷◌, None, IsTrue, IfOk, OnOk, OnErr};
+ghost use Rattle.std.specs.Prelude.{◌≡◌, ℕ, ◌+◌, Bool, true, false, is_some, ◌++◌, List, [], ◌∷◌, length, None, Ok, IsTrue, IfOk, OnOk, OnErr};
+ghost use Rattle.zs_driving.specs.Tasks.{Rules};
+ghost use Rattle.zs_driving.specs.Languages.{rules_of};
+ghost use Rattle.zs_events.specs.declared.event.Event.TheVariants.{Close};
 ghost use Rattle.zs_events.specs.declared.script_event.ScriptEvent.{ScriptEvent};
 ghost use Rattle.zs_events.specs.declared.script_event.ScriptEvent.TheVariants.{Core, Recv};
 ghost use Rattle.zs_core.specs.declared.settings.Settings.{Settings};
 ghost use Rattle.zs_core.specs.Settings.{is_valid};
 ghost use Rattle.zs_events.specs.Turn.{answered};
-ghost use Rattle.zs_session.specs.Script.{event_text, read_text, read_refusal};
-ghost use Rattle.zs_session.specs.Scripted.{StandsFor};
+ghost use Rattle.zs_script.specs.Grammar.{event_of};
+ghost use Rattle.zs_session.specs.Script.{event_text, language, read_text, read_refusal};
+ghost use Rattle.zs_session.specs.Scripted.{StandsFor, IsBehind};
 
-use crate::transcript::Transcript;
+use crate::printing::{add_received, add_turn};
 use std::alloc::{AllocError, Global};
 use zs_channels::Channels;
 use zs_core::{Event, HandOver, Kind, Refusal, SessionState, Settings, Turn};
-use zs_events::{Chan, Received, ScriptEvent};
+use zs_driving::{LineMachine, Transcript};
+use zs_events::{Received, ScriptEvent};
+use zs_lines::Line;
+use zs_script::parse_event;
 
 /// A session, and the channels of those that it declared.
 #[derive(Drop)]
 pub(crate) struct ScriptedSession {
+    alloc: Global,
     state: SessionState,
     channels: Channels<HandOver>,
+    /// Where each event's text is printed; its memory outlives the events.
+    printed: String,
 }
 
 impl ScriptedSession {
@@ -30,8 +40,10 @@ impl ScriptedSession {
     {
         let state = SessionState::new(alloc, settings)?;
         Ok(ScriptedSession {
+            alloc,
             state,
             channels: Channels::new(alloc),
+            printed: String::new(alloc),
         })
     }
 
@@ -40,9 +52,8 @@ impl ScriptedSession {
     /// # Errors
     ///
     /// Want of memory alone. Then no text was added, but the event may have been taken.
-    pub(crate) fn take(
+    fn take_event(
         &mut self,
-        alloc: Global,
         event: ScriptEvent,
         number: u64,
         transcript: &mut Transcript,
@@ -53,28 +64,24 @@ impl ScriptedSession {
         ensures err { OnErr result (transcript.new ≡ transcript.old) }
     {
         match event {
-            ScriptEvent::Core { event, to } => self.take_own(alloc, event, to, number, transcript),
-            ScriptEvent::Recv { kind, number: id } => self.read(
-                alloc, kind, id, number, transcript,
-            ),
+            ScriptEvent::Core(event) => self.take_own(event, number, transcript),
+            ScriptEvent::Recv { kind, number: id } => self.read(kind, id, number, transcript),
         }
     }
 
     /// Takes an event of the session.
     fn take_own(
         &mut self,
-        alloc: Global,
         event: Event,
-        to: Chan,
         number: u64,
         transcript: &mut Transcript,
     ) -> Result<(), AllocError>
         ensures text { OnOk result ((s : Settings) (h : List ScriptEvent) → StandsFor self.old s h
-            → transcript.new ≡ transcript.old ++ event_text s h number (Core event to)) }
-        ensures stands { OnOk result ((s : Settings) (h : List ScriptEvent) → StandsFor self.old s h → StandsFor self.new s (Core event to ∷ h)) }
+            → transcript.new ≡ transcript.old ++ event_text s h number (Core event)) }
+        ensures stands { OnOk result ((s : Settings) (h : List ScriptEvent) → StandsFor self.old s h → StandsFor self.new s (Core event ∷ h)) }
         ensures err { OnErr result (transcript.new ≡ transcript.old) }
     {
-        let taken = self.step(alloc, &event, to, number, transcript);
+        let taken = self.step(&event, number, transcript);
         drop(event);
         taken
     }
@@ -83,26 +90,23 @@ impl ScriptedSession {
     /// turn before its text is added.
     fn step(
         &mut self,
-        alloc: Global,
         event: &Event,
-        to: Chan,
         number: u64,
         transcript: &mut Transcript,
     ) -> Result<(), AllocError>
         ensures text { OnOk result ((s : Settings) (h : List ScriptEvent) → StandsFor self.old s h
-            → transcript.new ≡ transcript.old ++ event_text s h number (Core event.now to)) }
-        ensures stands { OnOk result ((s : Settings) (h : List ScriptEvent) → StandsFor self.old s h → StandsFor self.new s (Core event.now to ∷ h)) }
+            → transcript.new ≡ transcript.old ++ event_text s h number (Core event.now)) }
+        ensures stands { OnOk result ((s : Settings) (h : List ScriptEvent) → StandsFor self.old s h → StandsFor self.new s (Core event.now ∷ h)) }
         ensures err { OnErr result (transcript.new ≡ transcript.old) }
     {
         let turn = self.state.step(event)?;
-        self.channels.hear_turn(alloc, event, to, &turn)?;
-        transcript.add_turn(number, &turn)
+        self.channels.hear_turn(event, &turn)?;
+        add_turn(&mut self.printed, transcript, number, &turn)
     }
 
     /// Reads the channel of a kind and number.
     fn read(
         &mut self,
-        alloc: Global,
         kind: Kind,
         id: u32,
         number: u64,
@@ -114,15 +118,53 @@ impl ScriptedSession {
         ensures err { OnErr result (transcript.new ≡ transcript.old) }
     {
         let answer = self.channels.recv(kind, id);
-        let added = add_read(alloc, transcript, number, &answer, self.state.is_closed());
+        let closed = self.state.is_closed();
+        let added = add_read(
+            self.alloc,
+            &mut self.printed,
+            transcript,
+            number,
+            &answer,
+            closed,
+        );
         drop(answer);
         added
     }
 }
 
+impl LineMachine for ScriptedSession {
+    ghost is_line = { λ row. is_some (event_of row) };
+
+    ghost rules = { λ run. rules_of (language run.state.settings) };
+
+    ghost took = { IsBehind };
+
+    ghost closed = { λ run r h. Unit {0} };
+
+    fn take(&mut self, line: &Line, transcript: &mut Transcript) -> Result<bool, AllocError> {
+        let Some(event) = parse_event(self.alloc, line)? else {
+            return Ok(false);
+        };
+        self.take_event(event, line.number, transcript)?;
+        Ok(true)
+    }
+
+    fn end(&mut self, number: u64, transcript: &mut Transcript) -> Result<(), AllocError> {
+        self.take_event(end_of_input(), number, transcript)
+    }
+}
+
+/// The close that the end of input is.
+fn end_of_input() -> ScriptEvent
+    ensures { result ≡ Core Close }
+{
+    ScriptEvent::Core(Event::Close)
+}
+
 /// Adds the text of a read, given what the channel answered, if there is one, and whether the session is closed.
 fn add_read(
     alloc: Global,
+    memory: &mut String,
     transcript: &mut Transcript,
     number: u64,
     answer: &Option<Received<HandOver>>,
@@ -132,8 +174,8 @@ fn add_read(
     ensures err { OnErr result (transcript.new ≡ transcript.old) }
 {
     match answer {
-        Some(received) => transcript.add_received(number, received),
-        None => transcript.add_turn(number, &unread(alloc, closed)),
+        Some(received) => add_received(memory, transcript, number, received),
+        None => add_turn(memory, transcript, number, &unread(alloc, closed)),
     }
 }
 

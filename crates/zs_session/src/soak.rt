@@ -4,19 +4,20 @@ ghost use Rattle.std.specs.Prelude.{◌≡◌, ◌⊎◌, ◌+◌, ◌<◌, ◌�
 ghost use Rattle.std.specs.List.{after_first, position};
 ghost use Rattle.std.specs.String.{string_bytes};
 ghost use Rattle.zs_keys.specs.Stream.{HasRisen, PutsOn};
-ghost use Rattle.zs_script.specs.Lines.{lines};
+ghost use Rattle.zs_lines.specs.Lines.{lines};
 ghost use Rattle.zs_script.specs.Words.{byte_digits};
-ghost use Rattle.zs_script.specs.Writing.{PutsFrontOn};
+ghost use Rattle.zs_lines.specs.Writing.{PutsFrontOn};
 ghost use Rattle.zs_session.specs.Script.{script, text};
 ghost use Rattle.zs_core.specs.Settings.{default_settings};
 ghost use Rattle.zs_session.specs.Soak.{soak_of, put_line, put_lines, soak_script, tally_of, run_tally, count_line, tally_text, soak_report, lines_from};
 
 use crate::driving::drive;
-use crate::errors::DriveError;
 use std::alloc::{AllocError, Global};
 use zs_core::Settings;
+use zs_driving::DriveError;
 use zs_keys::{MemorySink, Sink, SteadySource};
-use zs_script::{parse_number, write_whole};
+use zs_lines::write_whole;
+use zs_script::parse_number;
 
 /// The greatest seed.
 const SEED_MAX: u64 = 65536;

@@ -77,7 +77,9 @@ fn reads_declarations(rt: HostRuntime) -> Result<(), Fail> {
 #[test]
 fn reads_publications(rt: HostRuntime) -> Result<(), Fail> {
     let table = [
-        ("pput\t2\tx01\tenc=", "pput 2 [1]"),
+        ("pput\t2\tx01", "pput 2 [1] unnamed"),
+        ("pput\t2\tx01\tenc=", "pput 2 [1] "),
+        ("pput\t2\tx01\tenc=a", "pput 2 [1] a"),
         ("pput\t2\tx01\tprio=1", "nothing"),
         ("pput\t2", "nothing"),
         ("pdel\t2\tts=3:fF", "pdel 2 3 255"),
@@ -87,16 +89,17 @@ fn reads_publications(rt: HostRuntime) -> Result<(), Fail> {
         ("delete\tany\tk\tenc=a", "nothing"),
         (
             "put\tany\ttest/k\tx7a656e6f68",
-            "put Any test/k [122, 101, 110, 111, 104] zenoh/bytes 5 true",
+            "put Any test/k [122, 101, 110, 111, 104] unnamed 5 true",
         ),
         (
             "put\tlocal\té\txFf",
-            "put SessionLocal é [255] zenoh/bytes 5 true",
+            "put SessionLocal é [255] unnamed 5 true",
         ),
-        ("put\tany\tk\tx", "put Any k [] zenoh/bytes 5 true"),
+        ("put\tany\tk\tx", "put Any k [] unnamed 5 true"),
+        ("put\tany\tk\tx\tenc=", "put Any k []  5 true"),
         (
             "put\tany\tk\tx\tprio=7\trel=0",
-            "put Any k [] zenoh/bytes 7 false",
+            "put Any k [] unnamed 7 false",
         ),
         ("put\tany\tk\tx\trel=0\tprio=7", "nothing"),
         ("put\tany\tk\tx\tprio=7\tprio=7", "nothing"),
@@ -192,16 +195,16 @@ fn reads_queryables_and_queries(rt: HostRuntime) -> Result<(), Fail> {
         ("queryable\tany\twhole\ta/*", "nothing"),
         ("undeclare\tqueryable\t2", "undeclare Queryable 2"),
         ("background\tqueryable\t2", "background Queryable 2"),
-        ("reply\t0\ta\tx01", "reply 0 a None [1]"),
-        ("reply\t0\ta\tx01\tprio=7", "reply 0 a Some(7) [1]"),
+        ("reply\t0\ta\tx01", "reply 0 a None None [1]"),
+        ("reply\t0\ta\tx01\tprio=7", "reply 0 a Some(7) None [1]"),
         ("reply\t0\ta\tx01\tprio=0", "nothing"),
         ("reply\t0\ta\tx01\trel=1", "nothing"),
         ("reply\t00\ta\tx01", "nothing"),
         (
             "replydel\t7\t#1:\tts=1:b",
-            "replydel 7 number 1 and  None 1 11",
+            "replydel 7 number 1 and  None None 1 11",
         ),
-        ("replydel\t7\ta\texpress=1", "replydel 7 a Some(true)"),
+        ("replydel\t7\ta\texpress=1", "replydel 7 a None Some(true)"),
         ("replydel\t7\ta\tenc=a", "nothing"),
         ("replyerr\t7\tx45", "replyerr 7 [69] zenoh/bytes"),
         ("replyerr\t7\tx45\tenc=a", "replyerr 7 [69] a"),

@@ -2,38 +2,49 @@
 
 ghost use Rattle.std.specs.Prelude.{◌≡◌, ◌∷◌, [], Some, None, true, IfOk, IsOk};
 ghost use Rattle.zs_keys.specs.Key.{undeclared};
+ghost use Rattle.zs_events.specs.declared.turn.Effect.{Effect};
 ghost use Rattle.zs_wire.specs.declared.message.Message.{Message};
 ghost use Rattle.zs_query.specs.Gets.{get_at};
 ghost use Rattle.zs_core.specs.Turns.{known_at, own_keys_at, decision_of, replied_by, answered_by, answer_decision, error_answer_decision};
 ghost use Rattle.zs_core.specs.Effects.{answering, key_wire};
 ghost use Rattle.zs_core.specs.Changes.{replied_change};
-ghost use Rattle.zs_core.specs.Answers.{quality_by, quality_of, replier_of, is_refused_on};
+ghost use Rattle.zs_core.specs.Answers.{quality_of, replier_of, is_refused_on};
 ghost use Rattle.zs_core.specs.ValueEffects.{error_for_value, error_effects, replied_effects};
 ghost use Rattle.zs_core.specs.Keys.{key_of};
+ghost use Rattle.zs_core.specs.Questions.{sent_value};
+ghost use Rattle.zs_events.specs.Updates.{body_of};
 
 use super::SessionState;
+use super::content::{plain_body, sent_value};
 use super::get_effects::{hand_reply, reply_effects};
 use super::gets::{error_on, reply_on};
-use super::wires::full_wire;
+use super::wires::{full_wire, push_send};
 use crate::change::{Change, Decision, GetChange};
 use std::alloc::{AllocError, Global};
-use zs_events::{Effect, Effects, KeyArg, Refusal};
+use zs_events::{Effects, KeyArg, Refusal, ReplyQuality, Shared, Update};
 use zs_keys::KeyExpr;
 use zs_query::{Gets, RequestRow};
-use zs_sample::{CongestionControl, Parameters, QoSType, Reply, ZenohParameters};
+use zs_sample::{Parameters, QoSType, Reply, ZenohParameters};
 use zs_wire::{Answered, Body, EntityGlobalId, Message, Response, Value, WireExpr};
 
-/// The qualities that a reply names.
-#[derive(Clone, Copy)]
-pub(super) struct ReplyQuality {
-    pub(super) priority: Option<u8>,
-    pub(super) congestion: Option<CongestionControl>,
-    pub(super) express: Option<bool>,
-}
-
 impl SessionState {
-    /// A reply to a query value, with a value of its key.
-    pub(super) fn decide_answer(
+    /// A reply to a query value, with what the application says of its key.
+    pub(super) fn decide_reply_to(
+        &self,
+        value: u32,
+        key: &KeyArg,
+        update: &Update,
+        quality: ReplyQuality,
+    ) -> Result<Decision, AllocError>
+        ensures { IfOk result (λ made.
+            made ≡ answer_decision self.now value key.now quality (body_of [] update.now)) }
+    {
+        let body = plain_body(self.alloc, update)?;
+        self.decide_answer(value, key, body, quality)
+    }
+
+    /// The same with its body.
+    fn decide_answer(
         &self,
         value: u32,
         key: &KeyArg,
@@ -41,7 +52,7 @@ impl SessionState {
         quality: ReplyQuality,
     ) -> Result<Decision, AllocError>
         ensures { IfOk result (λ made.
-            made ≡ answer_decision self.now value key.now (quality_by quality) body) }
+            made ≡ answer_decision self.now value key.now quality body) }
     {
         let Some((row, queryable)) = self.handing.find(value) else {
             return Ok(Decision::refused(self.alloc, Refusal::NotFound));
@@ -59,7 +70,7 @@ impl SessionState {
         quality: ReplyQuality,
     ) -> Result<Decision, AllocError>
         ensures { IfOk result (λ made.
-            made ≡ answered_by self.now key.now queryable row.now (quality_by quality) body (key_of self.now key.now)) }
+            made ≡ answered_by self.now key.now queryable row.now quality body (key_of self.now key.now)) }
     {
         let resolved = match self.resolve(key)? {
             Ok(key) => key,
@@ -82,7 +93,7 @@ impl SessionState {
         quality: ReplyQuality,
     ) -> Result<Decision, AllocError>
         requires { resolved ≡ undeclared resolved.text }
-        ensures { IfOk result (λ made. made ≡ replied_by self.now key.now queryable row.now (quality_by quality) body resolved.entry.text) }
+        ensures { IfOk result (λ made. made ≡ replied_by self.now key.now queryable row.now quality body resolved.entry.text) }
     {
         let qos = quality_of(quality, row.qos);
         let replier = self.replier_of(queryable);
@@ -95,12 +106,16 @@ impl SessionState {
         self.send_response(response)
     }
 
-    /// An error for a query value.
-    pub(super) fn decide_error_answer(
-        &self,
-        value: u32,
-        error: Value,
-    ) -> Result<Decision, AllocError>
+    /// An error for a query value, as the application says it.
+    pub(super) fn decide_error_to(&self, value: u32, error: &Value) -> Result<Decision, AllocError>
+        ensures { IfOk result (λ made. made ≡ error_answer_decision self.now value (sent_value error.now)) }
+    {
+        let error = sent_value(self.alloc, error)?;
+        self.decide_error_answer(value, error)
+    }
+
+    /// The same as it is sent.
+    fn decide_error_answer(&self, value: u32, error: Value) -> Result<Decision, AllocError>
         ensures { IfOk result (λ made. made ≡ error_answer_decision self.now value error) }
     {
         let Some((row, queryable)) = self.handing.find(value) else {
@@ -136,7 +151,7 @@ impl SessionState {
             made ≡ decision_of None None (Effect.Send (Message.Response response) ∷ []) Change.Nothing) }
     {
         let mut effects = Effects::new(self.alloc);
-        effects.push(Effect::Send(Message::Response(response)))?;
+        push_send(self.alloc, &mut effects, Message::Response(response))?;
         Ok(Decision::of(effects, Change::Nothing))
     }
 
@@ -161,7 +176,7 @@ impl SessionState {
 
 /// The qualities of a reply: those that it names, and for the others the query's.
 fn quality_of(quality: ReplyQuality, query: QoSType) -> QoSType
-    ensures { result ≡ quality_of (quality_by quality) query }
+    ensures { result ≡ quality_of quality query }
 {
     QoSType {
         priority: quality.priority.unwrap_or(query.priority),
@@ -215,6 +230,7 @@ fn error_effects(alloc: Global, gets: &Gets, rid: u32, reply: Reply) -> Result<E
     if !gets.is_open(rid) {
         return Ok(effects);
     }
+    let reply = Shared::new(alloc, reply)?;
     effects.push(hand_reply(rid, reply))?;
     Ok(effects)
 }

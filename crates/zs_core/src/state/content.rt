@@ -1,168 +1,71 @@
-ghost use Rattle.std.specs.Prelude.{◌≡◌, [], Some, false, IfOk, unwrap_or};
-ghost use Rattle.zs_events.specs.Kinds.{default_encoding, put_body, delete_body, local_content, incoming_content};
+ghost use Rattle.std.specs.Prelude.{◌≡◌, [], IfOk};
+ghost use Rattle.zs_events.specs.Kinds.{local_content, incoming_content};
+ghost use Rattle.zs_events.specs.Updates.{body_of};
 ghost use Rattle.zs_sample.specs.Encoding.{encoding_of};
-ghost use Rattle.zs_core.specs.Publications.{content_by, published_content, sample_on, handed_payload, handed_encoding};
+ghost use Rattle.zs_core.specs.Publications.{sample_on, handed_payload, handed_encoding};
 ghost use Rattle.zs_core.specs.Publishers.{published_by};
+ghost use Rattle.zs_core.specs.Questions.{sent_value};
 ghost use Rattle.zs_keys.specs.Key.{undeclared};
 ghost use Rattle.zs_core.specs.Replies.{reply_content};
-ghost use Rattle.zs_sample.specs.declared.locality.Locality.{Locality};
 
 use super::keys::into_owned;
 use crate::publisher::PubRow;
 use std::alloc::{AllocError, Global};
-use zs_events::clone_bytes;
+use zs_events::{Content, PublicationQuality, Update, default_encoding};
 use zs_keys::KeyExpr;
 use zs_sample::{
-    Encoding, Locality, Priority, QoSType, Reliability, Sample, SampleFields, SampleKind,
-    SourceInfo, Text, Timestamp, ZBytes,
+    Encoding, Locality, Priority, QoSType, Reliability, Sample, SampleFields, SampleKind, Text,
+    ZBytes,
 };
 use zs_wire::{Body, Push, Value};
-
-/// A publication but for its key: made here for a destination, or come in.
-#[derive(Drop)]
-pub(super) struct Content {
-    pub(super) local: bool,
-    pub(super) destination: Locality,
-    pub(super) body: Body,
-    pub(super) qos: QoSType,
-    pub(super) reliable: bool,
-}
-
-/// What a publisher is told to publish.
-#[derive(Drop)]
-pub(super) struct PublisherContent {
-    pub(super) kind: SampleKind,
-    pub(super) payload: ZBytes,
-    /// Without one it is the publisher's.
-    pub(super) encoding: Option<Text>,
-    pub(super) timestamp: Option<Timestamp>,
-    pub(super) source: Option<SourceInfo>,
-    pub(super) attachment: Option<ZBytes>,
-}
-
-/// What a publisher puts. It shares the memory of the payload and the attachment.
-pub(super) fn publisher_put(
-    alloc: Global,
-    payload: &ZBytes,
-    encoding: &Option<Text>,
-    timestamp: Option<Timestamp>,
-    source: Option<SourceInfo>,
-    attachment: &Option<ZBytes>,
-) -> Result<PublisherContent, AllocError>
-    ensures { IfOk result (λ made. published_content made ≡ record {
-      kind = SampleKind.Put;
-      payload = payload.now;
-      encoding = encoding.now;
-      timestamp = timestamp;
-      source = source;
-      attachment = attachment.now;
-    }) }
-{
-    Ok(PublisherContent {
-        kind: SampleKind::Put,
-        payload: payload.try_clone(alloc)?,
-        encoding: same_text(alloc, encoding)?,
-        timestamp,
-        source,
-        attachment: clone_bytes(attachment, alloc)?,
-    })
-}
-
-/// What a publisher deletes.
-pub(super) fn publisher_delete(
-    alloc: Global,
-    timestamp: Option<Timestamp>,
-    source: Option<SourceInfo>,
-    attachment: &Option<ZBytes>,
-) -> Result<PublisherContent, AllocError>
-    ensures { IfOk result (λ made. published_content made ≡ record {
-      kind = SampleKind.Delete;
-      payload = [];
-      encoding = Some default_encoding;
-      timestamp = timestamp;
-      source = source;
-      attachment = attachment.now;
-    }) }
-{
-    Ok(PublisherContent {
-        kind: SampleKind::Delete,
-        payload: ZBytes::new(),
-        encoding: Some(default_encoding()),
-        timestamp,
-        source,
-        attachment: clone_bytes(attachment, alloc)?,
-    })
-}
 
 /// What a publisher publishes has its destination and qualities, and its encoding unless another one is named.
 pub(super) fn published_by(
     alloc: Global,
     row: &PubRow,
-    content: PublisherContent,
+    update: &Update,
 ) -> Result<Content, AllocError>
-    ensures { IfOk result (λ made. content_by made ≡ published_by row.now (published_content content)) }
+    ensures { IfOk result (λ made. made ≡ published_by row.now update.now) }
 {
-    let encoding = named_or(alloc, content.encoding, &row.encoding)?;
-    let encoding = text_of_encoding(alloc, &encoding)?;
-    let body = Body {
-        kind: content.kind,
-        payload: content.payload,
-        encoding,
-        timestamp: content.timestamp,
-        source: content.source,
-        attachment: content.attachment,
-    };
-    Ok(local_content(row.destination, body, row.qos, row.reliable))
-}
-
-/// A text, or a copy of that one where there is none.
-fn named_or(alloc: Global, named: Option<Text>, text: &Text) -> Result<Text, AllocError>
-    ensures { IfOk result (λ made. made ≡ unwrap_or named text.now) }
-{
-    match named {
-        Some(named) => Ok(named),
-        None => text.try_clone(alloc),
-    }
-}
-
-/// The same text in the same memory, where there is one.
-fn same_text(alloc: Global, text: &Option<Text>) -> Result<Option<Text>, AllocError>
-    ensures { IfOk result (λ copy. copy ≡ text.now) }
-{
-    match text {
-        Some(text) => Ok(Some(text.try_clone(alloc)?)),
-        None => Ok(None),
-    }
+    let settings = row.settings.get();
+    let body = update.body_with(alloc, &settings.encoding)?;
+    Ok(local_content(settings.destination, body, settings.quality))
 }
 
 /// A publication that is made here.
 pub(super) fn local_content(
     destination: Locality,
     body: Body,
-    qos: QoSType,
-    reliable: bool,
+    quality: PublicationQuality,
 ) -> Content
-    ensures { content_by result ≡ local_content destination body qos reliable }
+    ensures { result ≡ local_content destination body quality }
 {
     Content {
         local: true,
         destination,
         body,
-        qos,
-        reliable,
+        qos: quality.qos,
+        reliable: quality.reliable,
     }
 }
 
 /// A publication that came in. It shares the memory of the payload and the attachment.
 pub(super) fn incoming_content(alloc: Global, push: &Push) -> Result<Content, AllocError>
-    ensures { IfOk result (λ made. content_by made ≡ incoming_content push.now) }
+    ensures { IfOk result (λ made. made ≡ incoming_content push.now) }
 {
-    came_in(alloc, &push.body, push.qos, push.reliable)
+    let body = push.body.try_clone(alloc)?;
+    Ok(Content {
+        local: false,
+        destination: Locality::Any,
+        body,
+        qos: push.qos,
+        reliable: push.reliable,
+    })
 }
 
 /// What a reply says of its key.
 pub(super) fn reply_content(qos: QoSType, body: Body) -> Content
-    ensures { content_by result ≡ reply_content qos body }
+    ensures { result ≡ reply_content qos body }
 {
     Content {
         local: false,
@@ -173,88 +76,32 @@ pub(super) fn reply_content(qos: QoSType, body: Body) -> Content
     }
 }
 
-fn came_in(alloc: Global, body: &Body, qos: QoSType, reliable: bool) -> Result<Content, AllocError>
-    ensures { IfOk result (λ made.
-        content_by made ≡ record { local = false; destination = Locality.Any; body = body.now; qos = qos; reliable = reliable }) }
+/// What an application says of a key where nobody else names an encoding. The memory of the payload and the attachment is
+/// shared.
+pub(super) fn plain_body(alloc: Global, update: &Update) -> Result<Body, AllocError>
+    ensures { IfOk result (λ made. made ≡ body_of [] update.now) }
 {
-    Ok(Content {
-        local: false,
-        destination: Locality::Any,
-        body: body.try_clone(alloc)?,
-        qos,
-        reliable,
-    })
+    let unnamed = Text::fixed("");
+    update.body_with(alloc, &unnamed)
 }
 
-/// What a put says of its key. It shares the memory of the payload and the attachment.
-pub(super) fn put_body(
-    alloc: Global,
-    payload: &ZBytes,
-    encoding: &Text,
-    timestamp: Option<Timestamp>,
-    source: Option<SourceInfo>,
-    attachment: &Option<ZBytes>,
-) -> Result<Body, AllocError>
-    ensures { IfOk result (λ made. made ≡ put_body payload.now encoding.now timestamp source attachment.now) }
+/// A value as it is sent. The memory of the payload is shared.
+pub(super) fn sent_value(alloc: Global, value: &Value) -> Result<Value, AllocError>
+    ensures { IfOk result (λ sent. sent ≡ sent_value value.now) }
 {
-    Ok(Body {
-        kind: SampleKind::Put,
-        payload: payload.try_clone(alloc)?,
-        encoding: text_of_encoding(alloc, encoding)?,
-        timestamp,
-        source,
-        attachment: clone_bytes(attachment, alloc)?,
-    })
-}
-
-/// What a deletion says of its key.
-pub(super) fn delete_body(
-    alloc: Global,
-    timestamp: Option<Timestamp>,
-    source: Option<SourceInfo>,
-    attachment: &Option<ZBytes>,
-) -> Result<Body, AllocError>
-    ensures { IfOk result (λ made. made ≡ delete_body timestamp source attachment.now) }
-{
-    Ok(Body {
-        kind: SampleKind::Delete,
-        payload: ZBytes::new(),
-        encoding: default_encoding(),
-        timestamp,
-        source,
-        attachment: clone_bytes(attachment, alloc)?,
-    })
-}
-
-/// What an error says.
-pub(super) fn error_value(
-    alloc: Global,
-    payload: &ZBytes,
-    encoding: &Text,
-) -> Result<Value, AllocError>
-    ensures { IfOk result (λ made. made ≡ record { payload = payload.now; encoding = encoding_of encoding.now }) }
-{
-    Ok(Value {
-        payload: payload.try_clone(alloc)?,
-        encoding: text_of_encoding(alloc, encoding)?,
-    })
+    let payload = value.payload.try_clone(alloc)?;
+    let encoding = text_of_encoding(alloc, &value.encoding)?;
+    Ok(Value { payload, encoding })
 }
 
 /// The encoding that a text names: the empty text is the default.
-pub(super) fn text_of_encoding(alloc: Global, encoding: &Text) -> Result<Text, AllocError>
+fn text_of_encoding(alloc: Global, encoding: &Text) -> Result<Text, AllocError>
     ensures { IfOk result (λ made. made ≡ encoding_of encoding.now) }
 {
     if encoding.is_empty() {
         return Ok(default_encoding());
     }
     encoding.try_clone(alloc)
-}
-
-/// The encoding where none is named.
-pub(super) fn default_encoding() -> Text
-    ensures { result ≡ default_encoding }
-{
-    Text::fixed("zenoh/bytes")
 }
 
 /// The sample of a publication.
@@ -264,7 +111,7 @@ pub(super) fn sample_of(
     content: Content,
 ) -> Result<Sample, AllocError>
     requires { key ≡ undeclared key.text }
-    ensures { IfOk result (λ sample. sample ≡ sample_on key.entry.text (content_by content)) }
+    ensures { IfOk result (λ sample. sample ≡ sample_on key.entry.text (content)) }
 {
     let qos = content.qos;
     let body = content.body;

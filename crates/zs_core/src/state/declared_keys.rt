@@ -5,10 +5,10 @@ ghost use Rattle.zs_core.specs.Changes.{KeysFit, with_change};
 
 use super::SessionState;
 use super::keys::{into_owned, is_whole};
-use super::wires::full_wire;
+use super::wires::{full_wire, push_send};
 use crate::change::{Change, Decision, KeyChange, NetworkChange};
 use std::alloc::AllocError;
-use zs_events::{Effect, Effects, Event, KeyArg, Refusal};
+use zs_events::{Effects, Event, KeyArg, Refusal};
 use zs_keys::KeyExpr;
 use zs_wire::{Mapping, Message};
 
@@ -30,7 +30,11 @@ impl SessionState {
         let number = self.next_key;
         let wire = full_wire(self.alloc, key.as_str())?;
         let mut effects = Effects::new(self.alloc);
-        effects.push(Effect::Send(Message::DeclareKeyExpr { number, wire }))?;
+        push_send(
+            self.alloc,
+            &mut effects,
+            Message::DeclareKeyExpr { number, wire },
+        )?;
         let key = into_owned(self.alloc, key)?;
         let change = Change::OfKeys(KeyChange::Declare { number, key });
         Ok(Decision::accepted(Some(u32::from(number)), effects, change))
@@ -59,7 +63,11 @@ impl SessionState {
     {
         let mut effects = Effects::new(self.alloc);
         if self.holders.of(number) <= 1 {
-            effects.push(Effect::Send(Message::UndeclareKeyExpr { number }))?;
+            push_send(
+                self.alloc,
+                &mut effects,
+                Message::UndeclareKeyExpr { number },
+            )?;
         }
         Ok(Decision::of(effects, Change::OfKeys(KeyChange::Release { number })))
     }

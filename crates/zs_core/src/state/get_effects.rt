@@ -8,7 +8,7 @@ ghost use Rattle.zs_core.specs.GetEffects.{last_hands};
 
 use super::tokens::{push_asking_ends, push_timeouts};
 use std::alloc::{AllocError, Global};
-use zs_events::{Effect, Effects, HandOver, Kind};
+use zs_events::{Effect, Effects, HandOver, Kind, Shared};
 use zs_query::{Ends, Outcome, Peek, Replies};
 use zs_sample::Reply;
 
@@ -24,7 +24,9 @@ pub(super) fn reply_effects(
     let mut effects = Effects::new(alloc);
     match peek {
         Peek::Handed => {
-            effects.push(hand_reply(number, reply.try_clone(alloc)?))?;
+            let reply = reply.try_clone(alloc)?;
+            let reply = Shared::new(alloc, reply)?;
+            effects.push(hand_reply(number, reply))?;
             Ok(effects)
         }
         Peek::Unknown | Peek::Unmatched | Peek::Kept | Peek::Dropped => Ok(effects),
@@ -59,7 +61,7 @@ fn last_effects(alloc: Global, number: u32, replies: Replies) -> Result<Effects,
     ensures { IfOk result (λ effects. effects ≡ final_effects number (Outcome.Ended replies)) }
 {
     let mut effects = Effects::new(alloc);
-    hand_replies(number, replies, &mut effects)?;
+    hand_replies(alloc, number, replies, &mut effects)?;
     effects.push(end_get(number))?;
     Ok(effects)
 }
@@ -70,7 +72,7 @@ pub(super) fn ends_effects(alloc: Global, ends: Ends, over: &[u32]) -> Result<Ef
 {
     let numbers = ends.numbers(alloc)?;
     let mut effects = Effects::new(alloc);
-    hand_ends(ends, &mut effects)?;
+    hand_ends(alloc, ends, &mut effects)?;
     push_timeouts(alloc, over, &mut effects)?;
     push_get_ends(&numbers, &mut effects)?;
     push_asking_ends(over, &mut effects)?;
@@ -78,20 +80,26 @@ pub(super) fn ends_effects(alloc: Global, ends: Ends, over: &[u32]) -> Result<Ef
 }
 
 /// Hands out what these ends say.
-fn hand_ends(ends: Ends, effects: &mut Effects) -> Result<(), AllocError>
+fn hand_ends(alloc: Global, ends: Ends, effects: &mut Effects) -> Result<(), AllocError>
     ensures { OnOk result (effects.new ≡ effects.old ++ flat_map last_hands ends) }
 {
     for (number, replies) in ends.into_vec() {
-        hand_replies(number, replies, effects)?;
+        hand_replies(alloc, number, replies, effects)?;
     }
     Ok(())
 }
 
 /// Hands out replies to one get.
-fn hand_replies(number: u32, replies: Replies, effects: &mut Effects) -> Result<(), AllocError>
+fn hand_replies(
+    alloc: Global,
+    number: u32,
+    replies: Replies,
+    effects: &mut Effects,
+) -> Result<(), AllocError>
     ensures { OnOk result (effects.new ≡ effects.old ++ map (hand_reply number) replies) }
 {
     for reply in replies.into_vec() {
+        let reply = Shared::new(alloc, reply)?;
         effects.push(hand_reply(number, reply))?;
     }
     Ok(())
@@ -108,7 +116,7 @@ pub(super) fn push_get_ends(numbers: &[u32], effects: &mut Effects) -> Result<()
 }
 
 /// A reply for the get of a number.
-pub(super) fn hand_reply(number: u32, reply: Reply) -> Effect
+pub(super) fn hand_reply(number: u32, reply: Shared<Reply>) -> Effect
     ensures { result ≡ hand_reply number reply }
 {
     Effect::Hand(HandOver::Reply {

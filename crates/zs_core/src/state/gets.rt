@@ -8,7 +8,8 @@ ghost use Rattle.zs_core.specs.Gets.{sample_reply, error_reply, is_unmet, is_unw
 ghost use Rattle.zs_core.specs.GetEffects.{request_sends, unmet_effects};
 ghost use Rattle.zs_core.specs.Replies.{reply_on, error_on};
 ghost use Rattle.zs_core.specs.Values.{met_by_get};
-ghost use Rattle.zs_core.specs.Questions.{question_by, querier_question_by, parameters_of, row_asked, request_of, get_event, querier_get_event};
+ghost use Rattle.zs_core.specs.Questions.{question_by, parameters_of, row_asked, request_of};
+ghost use Rattle.zs_events.specs.declared.chan.Chan.{Chan};
 ghost use Rattle.zs_core.specs.Keys.{named_by};
 ghost use Rattle.zs_events.specs.declared.event.Event.{Event};
 ghost use Rattle.zs_wire.specs.declared.message.Message.{Message};
@@ -20,31 +21,38 @@ use super::get_effects::{end_get, ends_effects, final_effects, hand_reply, reply
 use super::keys::{KeyName, into_owned};
 use super::queriers::key_of;
 use super::questions::{
-    QuerierQuestion, Question, get_request, parameters_of, question_of, request_of, row_waiting,
+    Question, get_request, parameters_of, question_of, request_of, row_waiting,
 };
 use super::recipients::{has_network, has_session};
+use super::wires::push_send;
 use crate::change::{Change, Decision, GetChange, ValueChange};
 use crate::met::Met;
 use std::alloc::{AllocError, Global};
-use zs_events::{Effect, Effects, KeyArg, Refusal};
+use zs_events::{Effects, Inquiry, KeyArg, QuerySettings, Refusal, Shared};
 use zs_keys::KeyExpr;
 use zs_query::{GetRow, Gets, Outcome, Peek, Side};
 use zs_sample::{Encoding, Parameters, QoSType, Reply, ReplyError};
 use zs_wire::{Answered, Body, EntityGlobalId, Message, Response, Value};
 
 impl SessionState {
+    /// A get of no querier.
     #[tactic(auto, using(crate::proofs::Asking::asked_plainly))]
     pub(super) fn decide_get(
         &self,
         key: &KeyArg,
-        question: Question<'_>,
+        settings: QuerySettings,
+        inquiry: &Inquiry,
     ) -> Result<Decision, AllocError>
-        requires { question.querier ≡ None }
-        ensures { IfOk result (λ made. made ≡ open_decision self.now (get_event key.now (question_by question.entry))) }
+        ensures { IfOk result (λ made. made ≡ open_decision self.now (Event.Get key.now settings inquiry.now Chan.Print)) }
     {
-        if !self.is_drawn(question.token) {
+        if !self.is_drawn(inquiry.cancellation_token) {
             return Ok(Decision::refused(self.alloc, Refusal::NotFound));
         }
+        let question = Question {
+            settings,
+            inquiry,
+            querier: None,
+        };
         match self.resolve(key)? {
             Ok(resolved) => self.ask(KeyName::Own(key), resolved, question),
             Err(refusal) => Ok(Decision::refused(self.alloc, refusal)),
@@ -55,17 +63,17 @@ impl SessionState {
     pub(super) fn decide_querier_get(
         &self,
         id: u32,
-        asked: QuerierQuestion<'_>,
+        inquiry: &Inquiry,
     ) -> Result<Decision, AllocError>
-        ensures { IfOk result (λ made. made ≡ open_decision self.now (querier_get_event id (querier_question_by asked.entry))) }
+        ensures { IfOk result (λ made. made ≡ open_decision self.now (Event.QuerierGet id inquiry.now Chan.Print)) }
     {
         let Some(row) = self.queriers.get(id) else {
             return Ok(Decision::refused(self.alloc, Refusal::NotFound));
         };
-        if !self.is_drawn(asked.token) {
+        if !self.is_drawn(inquiry.cancellation_token) {
             return Ok(Decision::refused(self.alloc, Refusal::NotFound));
         }
-        self.ask(KeyName::Querier(id), key_of(row), question_of(row, asked))
+        self.ask(KeyName::Querier(id), key_of(row), question_of(row, inquiry))
     }
 
     /// A get on a key, whose cancellation token was drawn, if it has one.
@@ -78,7 +86,7 @@ impl SessionState {
         requires plain { resolved ≡ undeclared resolved.text }
         ensures { IfOk result (λ made. made ≡ ask_decision self.now (named_by key.entry) (question_by question.entry) resolved.entry.text) }
     {
-        if self.was_cancelled(question.token) {
+        if self.was_cancelled(question.inquiry.cancellation_token) {
             return Ok(Decision::refused(self.alloc, Refusal::QueryCancelled));
         }
         let met = self.met_by_get(&resolved, question)?;
@@ -138,10 +146,10 @@ impl SessionState {
     fn met_by_get(&self, key: &KeyExpr<'_>, question: Question<'_>) -> Result<Met, AllocError>
         ensures { IfOk result (λ ids. ids ≡ met_by_get self.now.entities.queryables (question_by question.entry) key.now.text) }
     {
-        if !has_session(question.destination) {
+        if !has_session(question.settings.destination) {
             return Ok(Met::new(self.alloc));
         }
-        self.met(key, true, question.target)
+        self.met(key, true, question.settings.target)
     }
 
     /// The row of the next get, which waits for this session too where it meets a queryable.
@@ -176,10 +184,11 @@ impl SessionState {
             ≡ request_sends self.now.settings.default_timeout (named_wire self.now text.now (named_by key.entry)) self.now.asking.next (question_by question.entry)) }
     {
         let mut effects = Effects::new(self.alloc);
-        if !has_network(question.destination) {
+        if !has_network(question.settings.destination) {
             return Ok(effects);
         }
-        effects.push(self.request(key, text, question, parameters)?)?;
+        let request = self.request(key, text, question, parameters)?;
+        push_send(self.alloc, &mut effects, request)?;
         Ok(effects)
     }
 
@@ -196,11 +205,12 @@ impl SessionState {
             ≡ unmet_effects self.now.settings.default_timeout (named_wire self.now text.now (named_by key.entry)) self.now.asking.next (question_by question.entry)) }
     {
         let mut effects = Effects::new(self.alloc);
-        if !has_network(question.destination) {
+        if !has_network(question.settings.destination) {
             effects.push(end_get(self.asking.next()))?;
             return Ok(effects);
         }
-        effects.push(self.request(key, text, question, parameters)?)?;
+        let request = self.request(key, text, question, parameters)?;
+        push_send(self.alloc, &mut effects, request)?;
         Ok(effects)
     }
 
@@ -211,17 +221,17 @@ impl SessionState {
         text: &str,
         question: Question<'_>,
         parameters: &Parameters<'_>,
-    ) -> Result<Effect, AllocError>
+    ) -> Result<Message, AllocError>
         requires { parameters.now ≡ parameters_of (question_by question) }
-        ensures { IfOk result (λ effect. effect
-            ≡ Effect.Send (Message.Request (request_of self.now.settings.default_timeout (named_wire self.now text.now (named_by key.entry)) self.now.asking.next (question_by question.entry)))) }
+        ensures { IfOk result (λ message. message
+            ≡ Message.Request (request_of self.now.settings.default_timeout (named_wire self.now text.now (named_by key.entry)) self.now.asking.next (question_by question.entry))) }
     {
         let default = self.settings.default_timeout;
         let number = self.asking.next();
         let declared = self.declaration_of(key, text)?;
         let wire = self.wire_form(text, declared)?;
         let request = request_of(self.alloc, default, wire, number, question, parameters)?;
-        Ok(Effect::Send(Message::Request(request)))
+        Ok(Message::Request(request))
     }
 
     pub(super) fn decide_tick(&self, now: u64) -> Result<Decision, AllocError>
@@ -279,7 +289,9 @@ impl SessionState {
             return Ok(Decision::refused(self.alloc, Refusal::Ignored));
         }
         let mut effects = Effects::new(self.alloc);
-        effects.push(hand_reply(number, error_reply(self.alloc, response, value)?))?;
+        let reply = error_reply(self.alloc, response, value)?;
+        let reply = Shared::new(self.alloc, reply)?;
+        effects.push(hand_reply(number, reply))?;
         Ok(Decision::of(effects, Change::Nothing))
     }
 

@@ -36,7 +36,7 @@ impl SessionState {
             Change::OfGets(_) => Ok(()),
             Change::OfLiveliness(_) => Ok(()),
             Change::OfValues(_) => Ok(()),
-            Change::OfTokens(_) => Ok(()),
+            Change::OfCancellation(_) => Ok(()),
         }
     }
 

@@ -1,5 +1,5 @@
 ghost use Rattle.std.specs.Prelude.{◌≡◌, ◌++◌, Some, IfOk};
-ghost use Rattle.zs_events.specs.Kinds.{is_nothing, is_all_of, is_whole, claim_of};
+ghost use Rattle.zs_events.specs.Kinds.{is_nothing, is_blank, is_all_of, is_whole, claim_of};
 ghost use Rattle.zs_tables.specs.Numbers.{key_at};
 ghost use Rattle.zs_core.specs.Keys.{key_of, wire_of, has_claim, is_key_of, resolution};
 
@@ -137,6 +137,13 @@ fn is_all_of(text: &Text, prefix_len: u32) -> bool
     ensures { result ≡ is_all_of text.now prefix_len }
 {
     text.as_str().len() == prefix_len as usize
+}
+
+/// Whether a wire expression names no key: it has no number and no text.
+pub(super) fn is_blank(wire: &WireExpr) -> bool
+    ensures { result ≡ is_blank wire.now }
+{
+    wire.scope == 0 && is_nothing(&wire.suffix)
 }
 
 /// Whether a text is empty.

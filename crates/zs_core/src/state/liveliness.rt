@@ -2,6 +2,7 @@
 
 ghost use Rattle.std.specs.Prelude.{◌≡◌, ◌++◌, ◌∷◌, ◌&&◌, ◌==◌, [], not, map, Some, None, IfOk, OnOk, OnErr};
 ghost use Rattle.std.specs.List.{list_any};
+ghost use Rattle.zs_events.specs.declared.chan.Chan.{Chan};
 ghost use Rattle.zs_core.specs.Turns.{own_keys_at, known_at, open_decision};
 ghost use Rattle.zs_core.specs.Effects.{key_wire, lsub_mode, token_interest};
 ghost use Rattle.zs_core.specs.Changes.{with_change};
@@ -12,10 +13,13 @@ ghost use Rattle.zs_events.specs.declared.turn.Effect.{Effect};
 use super::SessionState;
 use super::keys::into_owned;
 use super::tokens::{hand_sample, token_sample};
+use super::wires::push_send;
 use crate::change::{Change, Decision, LivelinessChange};
 use crate::liveliness::next_behind;
 use std::alloc::{AllocError, Global};
-use zs_events::{BackgroundKind, Effect, Effects, EntityKind, Event, KeyArg, Kind, Refusal};
+use zs_events::{
+    BackgroundKind, Effect, Effects, EntityKind, Event, KeyArg, Kind, Refusal, Shared,
+};
 use zs_keys::KeyExpr;
 use zs_sample::SampleKind;
 use zs_tables::{LivelinessGet, LivelinessSub};
@@ -35,11 +39,12 @@ impl SessionState {
         let id = self.next_entity;
         let wire = self.key_wire(key, resolved.as_str())?;
         let mut effects = Effects::new(self.alloc);
-        effects.push(Effect::Send(Message::DeclareToken {
+        let declaration = Message::DeclareToken {
             id,
             wire,
             interest: None,
-        }))?;
+        };
+        push_send(self.alloc, &mut effects, declaration)?;
         let change = Change::OfLiveliness(LivelinessChange::DeclareToken { id });
         Ok(Decision::accepted(Some(id), effects, change))
     }
@@ -51,11 +56,12 @@ impl SessionState {
             return Ok(Decision::refused(self.alloc, Refusal::NotFound));
         }
         let mut effects = Effects::new(self.alloc);
-        effects.push(Effect::Send(Message::UndeclareToken {
+        let end = Message::UndeclareToken {
             id,
             wire: None,
             interest: None,
-        }))?;
+        };
+        push_send(self.alloc, &mut effects, end)?;
         let change = Change::OfLiveliness(LivelinessChange::EndToken { id });
         Ok(Decision::of(effects, change))
     }
@@ -88,12 +94,13 @@ impl SessionState {
             return Ok(Decision::refused(self.alloc, Refusal::NotFound));
         }
         let mut effects = Effects::new(self.alloc);
-        effects.push(Effect::Send(Message::Interest {
+        let end = Message::Interest {
             id,
             mode: InterestMode::Final,
             what: InterestWhat::Tokens,
             wire: None,
-        }))?;
+        };
+        push_send(self.alloc, &mut effects, end)?;
         effects.push(Effect::End {
             kind: Kind::LivelinessSubscriber,
             id,
@@ -118,7 +125,7 @@ impl SessionState {
         timeout: Option<u64>,
         token: Option<u32>,
     ) -> Result<Decision, AllocError>
-        ensures { IfOk result (λ made. made ≡ open_decision self.now (Event.LivelinessGet key.now timeout token)) }
+        ensures { IfOk result (λ made. made ≡ open_decision self.now (Event.LivelinessGet key.now timeout token Chan.Print)) }
     {
         if !self.is_drawn(token) {
             return Ok(Decision::refused(self.alloc, Refusal::NotFound));
@@ -159,12 +166,13 @@ impl SessionState {
     {
         let wire = self.key_wire(key, resolved.as_str())?;
         let mut effects = Effects::new(self.alloc);
-        effects.push(Effect::Send(Message::Interest {
+        let interest = Message::Interest {
             id,
             mode,
             what: InterestWhat::Tokens,
             wire: Some(wire),
-        }))?;
+        };
+        push_send(self.alloc, &mut effects, interest)?;
         Ok(effects)
     }
 
@@ -239,6 +247,7 @@ fn hand_keys(
 {
     for key in keys {
         let sample = token_sample(alloc, SampleKind::Put, key.without_declaration())?;
+        let sample = Shared::new(alloc, sample)?;
         effects.push(hand_sample(sample, id))?;
     }
     Ok(())

@@ -253,7 +253,7 @@ fn on_pub(alloc: Global, number: u32, row: &PubRow) -> Result<Option<ListenerRow
     Ok(Some(ListenerRow {
         id: number,
         parent: row.id,
-        destination: row.destination,
+        destination: row.settings.get().destination,
         sought: Sought::Subscribers,
         key: copy_of(alloc, &row.key)?,
     }))

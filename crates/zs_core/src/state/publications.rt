@@ -1,38 +1,56 @@
-ghost use Rattle.std.specs.Prelude.{◌≡◌, ◌⊎◌, ◌+◌, ◌++◌, ◌<◌, Some, None, true, false, IfOk, OnOk, IsSome};
+ghost use Rattle.std.specs.Prelude.{◌≡◌, ◌⊎◌, ◌+◌, ◌++◌, ◌<◌, [], Some, None, true, false, IfOk, OnOk, IsSome};
 ghost use Rattle.zs_keys.specs.Key.{undeclared};
 ghost use Rattle.std.specs.Option.{ForSome};
 ghost use Rattle.zs_tables.specs.Numbers.{key_at};
 ghost use Rattle.zs_tables.specs.Contents.{text_meant, IsByNumber, numbers_of};
 ghost use Rattle.zs_tables.specs.Recipients.{has_session, has_network, recipients};
-ghost use Rattle.zs_events.specs.Kinds.{OwnKey, WireKey, OwnContent, is_nothing};
+ghost use Rattle.zs_events.specs.Kinds.{OwnKey, WireKey, OwnContent, is_nothing, local_content};
+ghost use Rattle.zs_events.specs.Updates.{body_of};
 ghost use Rattle.zs_core.specs.World.{World, tables_of};
 ghost use Rattle.zs_core.specs.Keys.{key_of, wire_of, text_of, named_by, is_number, is_number_alone};
 ghost use Rattle.zs_core.specs.Sends.{declaration_of, prefix_declaration, push_sends};
 ghost use Rattle.zs_core.specs.Publishers.{pub_at};
 ghost use Rattle.zs_core.specs.Effects.{publication_on, hands_for};
-ghost use Rattle.zs_core.specs.Publications.{content_by, reached, hand_to, hands_to};
+ghost use Rattle.zs_core.specs.Publications.{reached, hand_to, hands_to};
 ghost use Rattle.zs_core.specs.Turns.{own_keys_at, publication_effects, publication_decision};
 
 use super::SessionState;
-use super::content::{Content, sample_of};
+use super::content::{local_content, plain_body, sample_of};
 use super::keys::{KeyName, is_nothing};
 use super::recipients::{has_network, has_session};
-use super::wires::push_of;
+use super::wires::{push_of, push_send};
 use crate::change::{Change, Decision};
 use crate::publisher::PubRow;
 use std::alloc::{AllocError, Global};
 use std::marker::Brand;
 use std::sync::ledger::{Blank, Ledger};
-use zs_events::{Effect, Effects, HandOver, KeyArg, Kind};
+use zs_events::{
+    Content, Effect, Effects, HandOver, KeyArg, Kind, PublicationQuality, Shared, Update,
+};
 use zs_keys::{Declared, KeyExpr, Steps};
 use zs_sample::{Locality, Sample};
 use zs_tables::{KeyRef, Tables};
 use zs_wire::{Mapping, WireExpr};
 
 impl SessionState {
+    /// What the application puts or deletes on a key.
+    pub(super) fn decide_publish(
+        &self,
+        destination: Locality,
+        key: &KeyArg,
+        update: &Update,
+        quality: PublicationQuality,
+    ) -> Result<Decision, AllocError>
+        ensures { IfOk result (λ made.
+            made ≡ publication_decision self.now (OwnKey key.now) (local_content destination (body_of [] update.now) quality)) }
+    {
+        let body = plain_body(self.alloc, update)?;
+        self.decide_own(key, local_content(destination, body, quality))
+    }
+
     /// A publication that the application makes on a key.
-    pub(super) fn decide_own(&self, key: &KeyArg, content: Content) -> Result<Decision, AllocError>
-        ensures { IfOk result (λ made. made ≡ publication_decision self.now (OwnKey key.now) (content_by content)) }
+    fn decide_own(&self, key: &KeyArg, content: Content) -> Result<Decision, AllocError>
+        ensures { IfOk result (λ made. made ≡ publication_decision self.now (OwnKey key.now) content) }
     {
         let resolved = match self.resolve(key)? {
             Ok(key) => key,
@@ -48,7 +66,7 @@ impl SessionState {
         wire: &WireExpr,
         content: Content,
     ) -> Result<Decision, AllocError>
-        ensures { IfOk result (λ made. made ≡ publication_decision self.now (WireKey wire.now) (content_by content)) }
+        ensures { IfOk result (λ made. made ≡ publication_decision self.now (WireKey wire.now) content) }
     {
         let resolved = match self.resolve_wire(wire)? {
             Ok(key) => key,
@@ -69,7 +87,7 @@ impl SessionState {
         requires meant { text_of self.now (named_by key) ≡ Some resolved.text }
         requires plain { resolved ≡ undeclared resolved.text }
         ensures { IfOk result (λ effects.
-            effects ≡ publication_effects self.now (named_by key.entry) (Some resolved.entry.text) (content_by content)) }
+            effects ≡ publication_effects self.now (named_by key.entry) (Some resolved.entry.text) content) }
     {
         let mut effects = self.sends_of(key, resolved.as_str(), &content)?;
         self.hand_over(&mut effects, key, resolved, content)?;
@@ -84,13 +102,14 @@ impl SessionState {
         content: &Content,
     ) -> Result<Effects, AllocError>
         ensures { IfOk result (λ effects.
-            effects ≡ push_sends (own_keys_at self.now) text.now (declaration_of (own_keys_at self.now) text.now (named_by key.entry)) (content_by content.now)) }
+            effects ≡ push_sends (own_keys_at self.now) text.now (declaration_of (own_keys_at self.now) text.now (named_by key.entry)) content.now) }
     {
         let mut effects = Effects::new(self.alloc);
         if content.local && has_network(content.destination) {
             let declared = self.declaration_of(key, text)?;
             let wire = self.wire_form(text, declared)?;
-            effects.push(Effect::Send(push_of(self.alloc, wire, content)?))?;
+            let message = push_of(self.alloc, wire, content)?;
+            push_send(self.alloc, &mut effects, message)?;
         }
         Ok(effects)
     }
@@ -132,7 +151,7 @@ impl SessionState {
         requires meant { text_of self.now (named_by key) ≡ Some resolved.text }
         requires plain { resolved ≡ undeclared resolved.text }
         ensures { OnOk result (effects.new
-            ≡ effects.old ++ hands_for self.now.entities.subs (publication_on (Some resolved.entry.text) (OwnContent (content_by content)))) }
+            ≡ effects.old ++ hands_for self.now.entities.subs (publication_on (Some resolved.entry.text) (OwnContent content))) }
     {
         let local = content.local;
         let to = content.destination;
@@ -141,7 +160,8 @@ impl SessionState {
             return Ok(());
         }
         let sample = sample_of(self.alloc, resolved, content)?;
-        hand_to_all(self.alloc, effects, &ids, sample)
+        let sample = Shared::new(self.alloc, sample)?;
+        hand_to_all(effects, &ids, sample)
     }
 
     /// `recipients` with a counter of its own, which nobody reads.
@@ -298,39 +318,33 @@ fn ids_by_number(
     Ok(ids)
 }
 
-/// Adds a sample for each of those subscribers. The last one gets the sample itself, and no copy.
-fn hand_to_all(
-    alloc: Global,
-    effects: &mut Effects,
-    ids: &[u32],
-    sample: Sample,
-) -> Result<(), AllocError>
+/// Adds a sample for each of those subscribers: all hold it in one place.
+fn hand_to_all(effects: &mut Effects, ids: &[u32], sample: Shared<Sample>) -> Result<(), AllocError>
     ensures { OnOk result (effects.new ≡ effects.old ++ hands_to sample ids.now) }
 {
     let Some((last, others)) = ids.split_last() else {
         return Ok(());
     };
-    hand_copies(alloc, effects, others, &sample)?;
+    hand_copies(effects, others, &sample)?;
     effects.push(hand_to(*last, sample))
 }
 
-/// Adds a copy of a sample for each of those subscribers.
+/// Adds the same sample for each of those subscribers.
 fn hand_copies(
-    alloc: Global,
     effects: &mut Effects,
     ids: &[u32],
-    sample: &Sample,
+    sample: &Shared<Sample>,
 ) -> Result<(), AllocError>
     ensures { OnOk result (effects.new ≡ effects.old ++ hands_to sample.now ids.now) }
 {
     for id in ids {
-        effects.push(hand_to(*id, sample.try_clone(alloc)?))?;
+        effects.push(hand_to(*id, sample.try_clone()?))?;
     }
     Ok(())
 }
 
 /// A sample for the subscriber of that number.
-fn hand_to(id: u32, sample: Sample) -> Effect
+fn hand_to(id: u32, sample: Shared<Sample>) -> Effect
     ensures { result ≡ hand_to sample id }
 {
     Effect::Hand(HandOver::Sample {

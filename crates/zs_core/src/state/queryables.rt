@@ -9,6 +9,7 @@ use super::SessionState;
 use super::hearing::{own_queryable_of, recounts_of};
 use super::keys::into_owned;
 use super::recipients::has_network;
+use super::wires::push_send;
 use crate::change::{Change, Decision, EntityChange};
 use std::alloc::AllocError;
 use zs_events::{Effect, Effects, EntityKind, Event, KeyArg, Kind, Refusal};
@@ -70,11 +71,12 @@ impl SessionState {
             let text = row.key.as_str();
             let declared = self.declared_by(key, text)?;
             let wire = self.wire_form(text, declared)?;
-            effects.push(Effect::Send(Message::DeclareQueryable {
+            let declaration = Message::DeclareQueryable {
                 id: row.id,
                 complete: row.complete,
                 wire,
-            }))?;
+            };
+            push_send(self.alloc, &mut effects, declaration)?;
         }
         Ok(effects)
     }
@@ -88,7 +90,11 @@ impl SessionState {
             return Ok(effects);
         };
         if has_network(row.origin) {
-            effects.push(Effect::Send(Message::UndeclareQueryable { id: row.id }))?;
+            push_send(
+                self.alloc,
+                &mut effects,
+                Message::UndeclareQueryable { id: row.id },
+            )?;
         }
         Ok(effects)
     }

@@ -5,68 +5,36 @@ ghost use Rattle.zs_keys.specs.Key.{undeclared};
 ghost use Rattle.zs_core.specs.Questions.{question_by, parameters_of, mode_by, mode_of, timeout_of, row_asked, sent_value, request_of};
 ghost use Rattle.std.specs.Option.{option_map};
 ghost use Rattle.zs_core.specs.Queriers.{question_of};
-ghost use Rattle.zs_core.specs.Questions.{querier_question_by};
 ghost use Rattle.zs_core.specs.Values.{get_request};
 
-use super::content::text_of_encoding;
+use super::content::sent_value;
 use super::keys::into_owned;
 use super::recipients::has_network;
 use crate::querier::QuerierRow;
 use std::alloc::{AllocError, Global};
-use zs_events::clone_bytes;
+use zs_events::{Inquiry, QuerySettings, clone_bytes};
 use zs_keys::KeyExpr;
 use zs_query::{GetRow, RequestRow};
-use zs_sample::{
-    ConsolidationMode, Locality, Parameters, QoSType, QueryTarget, SourceInfo, Text, ZBytes,
-    ZenohParameters,
-};
+use zs_sample::{ConsolidationMode, Parameters, Text, ZenohParameters};
 use zs_wire::{Request, Value, WireExpr};
 
 /// What a get asks, but for its key.
 #[derive(Clone, Copy)]
 pub(super) struct Question<'a> {
-    pub(super) destination: Locality,
-    pub(super) parameters: &'a Text,
-    pub(super) target: QueryTarget,
-    pub(super) consolidation: ConsolidationMode,
-    pub(super) timeout: Option<u64>,
-    pub(super) value: &'a Option<Value>,
-    pub(super) qos: QoSType,
-    pub(super) source: Option<SourceInfo>,
-    pub(super) attachment: &'a Option<ZBytes>,
-    pub(super) any_key: bool,
+    pub(super) settings: QuerySettings,
+    pub(super) inquiry: &'a Inquiry,
     /// The querier that asks, if one does.
     pub(super) querier: Option<u32>,
-    pub(super) token: Option<u32>,
 }
 
-/// What a get of a querier asks, but for what the querier says.
-#[derive(Clone, Copy)]
-pub(super) struct QuerierQuestion<'a> {
-    pub(super) parameters: &'a Text,
-    pub(super) value: &'a Option<Value>,
-    pub(super) source: Option<SourceInfo>,
-    pub(super) attachment: &'a Option<ZBytes>,
-    pub(super) token: Option<u32>,
-}
-
-/// What a get of a querier asks: most of it is what the querier says.
-pub(super) fn question_of<'a>(row: &QuerierRow, asked: QuerierQuestion<'a>) -> Question<'a>
-    ensures { question_by result ≡ question_of row.now (querier_question_by asked.entry) }
+/// What a get of a querier asks.
+pub(super) fn question_of<'a>(row: &QuerierRow, inquiry: &'a Inquiry) -> Question<'a>
+    ensures { question_by result ≡ question_of row.now inquiry.now }
 {
     Question {
-        destination: row.settings.destination,
-        parameters: asked.parameters,
-        target: row.settings.target,
-        consolidation: row.settings.consolidation,
-        timeout: row.settings.timeout,
-        value: asked.value,
-        qos: row.settings.qos,
-        source: asked.source,
-        attachment: asked.attachment,
-        any_key: row.settings.any_key,
+        settings: row.settings,
+        inquiry,
         querier: Some(row.id),
-        token: asked.token,
     }
 }
 
@@ -77,8 +45,8 @@ pub(super) fn parameters_of<'a>(
 ) -> Result<Parameters<'a>, AllocError>
     ensures { IfOk result (λ made. made ≡ parameters_of (question_by question.entry)) }
 {
-    let mut parameters = Parameters::of(question.parameters.as_str());
-    if !question.any_key {
+    let mut parameters = Parameters::of(question.inquiry.parameters.as_str());
+    if !question.settings.any_key {
         return Ok(parameters);
     }
     parameters.set_reply_key_expr_any(alloc)?;
@@ -89,8 +57,8 @@ pub(super) fn parameters_of<'a>(
 fn mode_of(question: Question<'_>) -> ConsolidationMode
     ensures { result ≡ mode_of (question_by question.entry) }
 {
-    let given = Parameters::of(question.parameters.as_str());
-    mode_by(question.consolidation, given.contains_key("_time"))
+    let given = Parameters::of(question.inquiry.parameters.as_str());
+    mode_by(question.settings.consolidation, given.contains_key("_time"))
 }
 
 fn mode_by(mode: ConsolidationMode, timed: bool) -> ConsolidationMode
@@ -107,7 +75,7 @@ fn mode_by(mode: ConsolidationMode, timed: bool) -> ConsolidationMode
 fn timeout_of(default: u64, question: Question<'_>) -> u64
     ensures { result ≡ timeout_of default (question_by question.entry) }
 {
-    match question.timeout {
+    match question.settings.timeout {
         Some(timeout) => timeout,
         None => default,
     }
@@ -133,10 +101,10 @@ pub(super) fn row_waiting(
         any_key: parameters.reply_key_expr_any(),
         mode: mode_of(question),
         local_wanted: here,
-        network_wanted: has_network(question.destination),
+        network_wanted: has_network(question.settings.destination),
         deadline: moment.saturating_add(timeout_of(default, question)),
         querier: question.querier,
-        token: question.token,
+        token: question.inquiry.cancellation_token,
     }
 }
 
@@ -152,15 +120,19 @@ pub(super) fn get_request(
     requires parameters { parameters.now ≡ parameters_of (question_by question) }
     ensures { IfOk result (λ made. made ≡ get_request number key.now.text (question_by question.entry)) }
 {
+    let key = into_owned(alloc, key.borrowing_clone())?;
+    let parameters = Text::of(alloc, parameters.as_str())?;
+    let value = sent_if(alloc, &question.inquiry.value)?;
+    let attachment = clone_bytes(&question.inquiry.attachment, alloc)?;
     Ok(RequestRow {
         local: true,
         rid: number,
-        key: into_owned(alloc, key.borrowing_clone())?,
-        parameters: Text::of(alloc, parameters.as_str())?,
-        qos: question.qos,
-        source: question.source,
-        value: sent_value(alloc, question.value)?,
-        attachment: clone_bytes(question.attachment, alloc)?,
+        key,
+        parameters,
+        qos: question.settings.qos,
+        source: question.inquiry.source,
+        value,
+        attachment,
     })
 }
 
@@ -176,29 +148,29 @@ pub(super) fn request_of(
     requires { parameters.now ≡ parameters_of (question_by question) }
     ensures { IfOk result (λ made. made ≡ request_of default wire number (question_by question.entry)) }
 {
+    let parameters = Text::of(alloc, parameters.as_str())?;
+    let value = sent_if(alloc, &question.inquiry.value)?;
+    let attachment = clone_bytes(&question.inquiry.attachment, alloc)?;
     Ok(Request {
         rid: number,
         wire,
-        parameters: Text::of(alloc, parameters.as_str())?,
-        target: question.target,
+        parameters,
+        target: question.settings.target,
         consolidation: mode_of(question),
         timeout: timeout_of(default, question),
-        value: sent_value(alloc, question.value)?,
-        qos: question.qos,
-        source: question.source,
-        attachment: clone_bytes(question.attachment, alloc)?,
+        value,
+        qos: question.settings.qos,
+        source: question.inquiry.source,
+        attachment,
     })
 }
 
 /// A value as it is sent, where there is one.
-fn sent_value(alloc: Global, value: &Option<Value>) -> Result<Option<Value>, AllocError>
+fn sent_if(alloc: Global, value: &Option<Value>) -> Result<Option<Value>, AllocError>
     ensures { IfOk result (λ sent. sent ≡ option_map sent_value value.now) }
 {
     match value {
-        Some(value) => Ok(Some(Value {
-            payload: value.payload.try_clone(alloc)?,
-            encoding: text_of_encoding(alloc, &value.encoding)?,
-        })),
+        Some(value) => Ok(Some(sent_value(alloc, value)?)),
         None => Ok(None),
     }
 }

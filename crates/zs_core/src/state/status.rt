@@ -50,7 +50,7 @@ impl SessionState {
     pub fn is_taken(&self, token: u32) -> bool
         ensures { IsTaken self.now token result }
     {
-        self.taken_tokens.contains(token)
+        self.taken_cancellation_tokens.contains(token)
     }
 
     /// Whether the application declared something of that kind under that number which lives still, or asked a get under it that

@@ -2,15 +2,15 @@ ghost use Rattle.std.specs.Prelude.{◌≡◌, [], true, IsTrue, IfOk, OnErr};
 ghost use Rattle.zs_core.specs.Settings.{is_valid};
 ghost use Rattle.zs_events.specs.Turn.{was_refused};
 ghost use Rattle.zs_core.specs.Stands.{world_after, Steps, Previews};
+ghost use Rattle.zs_core.specs.Plans.{Plans};
 
 use super::SessionState;
 use crate::change::Decision;
+use crate::entity_table::EntityTable;
 use crate::id_set::IdSet;
 use crate::key_holders::KeyHolderCounts;
 use crate::liveliness::Liveliness;
 use crate::matching::Matching;
-use crate::pub_table::PubTable;
-use crate::querier_table::QuerierTable;
 use crate::settings::Settings;
 use std::alloc::{AllocError, Global};
 use zs_events::{Event, Turn};
@@ -31,9 +31,9 @@ impl SessionState {
             next_key: settings.key_start,
             tables: Tables::new(alloc),
             holders: KeyHolderCounts::new(alloc),
-            publishers: PubTable::new(alloc),
+            publishers: EntityTable::new(alloc),
             queryables: QueryableTable::new(alloc),
-            queriers: QuerierTable::new(alloc),
+            queriers: EntityTable::new(alloc),
             left_subs: IdSet::new(alloc),
             left_queryables: IdSet::new(alloc),
             groups: Groups::new(alloc),
@@ -41,17 +41,27 @@ impl SessionState {
             liveliness: Liveliness::new(alloc),
             matching: Matching::new(alloc),
             handing: RequestTable::new(alloc),
-            next_token: 0,
-            taken_tokens: IdSet::new(alloc),
+            next_cancellation_token: 0,
+            taken_cancellation_tokens: IdSet::new(alloc),
         })
+    }
+
+    /// What `step` would make of the event: the turn that it would give, and what it would change. Whoever has to find room
+    /// of its own for a turn does so between this and `apply`.
+    pub fn plan(&self, event: &Event) -> Result<Decision, AllocError>
+        ensures { IfOk result (λ made. Plans self.now event.now made) }
+    {
+        self.decide(event)
     }
 
     /// The turn that `step` would give for the event.
     pub fn preview(&self, event: &Event) -> Result<Turn, AllocError>
         ensures { IfOk result (λ turn. Previews self.now event.now turn) }
     {
-        let made = self.decide(event)?;
-        Ok(made.into_turn())
+        let made = self.plan(event)?;
+        let (turn, change) = made.into_parts();
+        drop(change);
+        Ok(turn)
     }
 
     /// Takes one event: gives its turn, and changes the session as the event says. What takes memory comes
@@ -61,7 +71,8 @@ impl SessionState {
         ensures refused { IfOk result (λ turn. was_refused turn.answer ≡ true → self.new ≡ self.old) }
         ensures err { OnErr result (self.new ≡ self.old) }
     {
-        let Decision { turn, change } = self.decide(event)?;
+        let made = self.plan(event)?;
+        let (turn, change) = made.into_parts();
         self.apply(change)?;
         Ok(turn)
     }

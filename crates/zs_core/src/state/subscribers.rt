@@ -1,4 +1,5 @@
 ghost use Rattle.std.specs.Prelude.{◌≡◌, ◌≢◌, ◌<◌, ◌++◌, ◌∷◌, [], Some, None, All, IfOk, OnOk, OnErr};
+ghost use Rattle.zs_events.specs.declared.chan.Chan.{Chan};
 ghost use Rattle.zs_core.specs.Turns.{known_at, open_decision};
 ghost use Rattle.zs_core.specs.Effects.{entity_sends};
 ghost use Rattle.zs_core.specs.Changes.{EntitiesFit, with_change};
@@ -11,12 +12,13 @@ ghost use Rattle.zs_core.specs.Subscribers.{is_sub, sub_at, sub_ends};
 
 use super::SessionState;
 use super::get_effects::push_get_ends;
-use super::groups::{join_group, joins_first, last_number, leave_group};
+use super::groups::{join_group, leave_found};
 use super::hearing::{own_sub_of, recounts_of};
 use super::keys::into_owned;
 use super::queryables::push_queryable_ends;
 use super::recipients::has_network;
 use super::tokens::{push_asking_ends, push_lsub_ends};
+use super::wires::push_send;
 use crate::change::{Change, Decision, EntityChange};
 use crate::key_list::{KeyList, copy_of};
 use std::alloc::{AllocError, Global};
@@ -28,7 +30,7 @@ use zs_wire::Message;
 
 impl SessionState {
     pub(super) fn decide_sub(&self, origin: Locality, key: &KeyArg) -> Result<Decision, AllocError>
-        ensures { IfOk result (λ made. made ≡ open_decision self.now (Event.Sub origin key.now)) }
+        ensures { IfOk result (λ made. made ≡ open_decision self.now (Event.Sub origin key.now Chan.Print)) }
     {
         let resolved = match self.resolve(key)? {
             Ok(key) => key,
@@ -43,7 +45,15 @@ impl SessionState {
             origin,
             key: into_owned(self.alloc, resolved)?,
         };
-        let effects = self.joining_sub(id, origin, key, &row.key)?;
+        let aggregates = &self.settings.aggregated_subscribers;
+        let effects = self.joining(
+            GroupKind::Subscribers,
+            aggregates,
+            id,
+            origin,
+            key,
+            &row.key,
+        )?;
         let change = Change::OfEntities(EntityChange::AddSub { row });
         Ok(Decision::accepted(Some(id), effects, change))
     }
@@ -54,66 +64,14 @@ impl SessionState {
         if !self.names_sub(id) {
             return Ok(Decision::refused(self.alloc, Refusal::NotFound));
         }
-        let mut effects = self.leaving_sub(id)?;
+        let row = self.tables.row(id);
+        let aggregates = &self.settings.aggregated_subscribers;
+        let mut effects = self.leaving(GroupKind::Subscribers, aggregates, row)?;
         effects.push(Effect::End {
             kind: Kind::Subscriber,
             id,
         })?;
         Ok(Decision::of(effects, Change::OfEntities(EntityChange::EndSub { id })))
-    }
-
-    /// What is sent where a subscriber joins the group of its text: the declaration of a group that had no members.
-    fn joining_sub(
-        &self,
-        id: u32,
-        origin: Locality,
-        key: &KeyArg,
-        resolved: &KeyExpr<'_>,
-    ) -> Result<Effects, AllocError>
-        ensures { IfOk result (λ effects. effects ≡ entity_sends (known_at self.now) (Event.Sub origin key.now) (Some id) (Some resolved.now.text) ++ []) }
-    {
-        let mut effects = Effects::new(self.alloc);
-        let aggregates = &self.settings.aggregated_subscribers;
-        if joins_first(
-            &self.groups,
-            GroupKind::Subscribers,
-            aggregates,
-            has_network(origin),
-            resolved,
-        ) {
-            let wire = self.group_wire(aggregates, key, resolved)?;
-            effects.push(Effect::Send(Message::DeclareSubscriber { id, wire }))?;
-        }
-        Ok(effects)
-    }
-
-    /// What is sent where a subscriber leaves it: the end of a group that has no other.
-    fn leaving_sub(&self, id: u32) -> Result<Effects, AllocError>
-        ensures { IfOk result (λ effects. effects ≡ entity_sends (known_at self.now) (Event.Undeclare EntityKind.Sub id) None None) }
-    {
-        let mut effects = Effects::new(self.alloc);
-        if let Some(number) = self.last_number_of_sub(id) {
-            effects.push(Effect::Send(Message::UndeclareSubscriber { id: number }))?;
-        }
-        Ok(effects)
-    }
-
-    /// The number of the group that a subscriber leaves as its last member, if it is there and the network was told of it.
-    fn last_number_of_sub(&self, id: u32) -> Option<u32>
-        ensures { leaving (company_at self.now.settings self.now.groups GroupKind.Subscribers) subscriber_end (option_map sub_shared (sub_at id self.now.entities.subs))
-            ≡ last_sends subscriber_end result }
-    {
-        let Some(row) = self.tables.row(id) else {
-            return None;
-        };
-        let aggregates = &self.settings.aggregated_subscribers;
-        last_number(
-            &self.groups,
-            GroupKind::Subscribers,
-            aggregates,
-            has_network(row.origin),
-            &row.key,
-        )
     }
 
     /// Whether a subscriber of that number can be named.
@@ -129,7 +87,7 @@ impl SessionState {
         let gets = self.asking.gets().numbers()?;
         let asking = self.liveliness.gets().numbers(self.alloc)?;
         let mut effects = Effects::new(self.alloc);
-        effects.push(Effect::Send(Message::Close))?;
+        push_send(self.alloc, &mut effects, Message::Close)?;
         push_queryable_ends(&mut effects, self.queryables.rows())?;
         push_ends(&mut effects, self.tables.rows())?;
         push_lsub_ends(&mut effects, self.liveliness.subs().rows())?;
@@ -191,12 +149,9 @@ impl SessionState {
         let _ascending = self.tables.rows();
         let goes = own_sub_of(&self.tables, id);
         let recounts = recounts_of(self.matching.listeners(), goes, None)?;
-        leave_sub_group(
-            &mut self.groups,
-            &self.tables,
-            &self.settings.aggregated_subscribers,
-            id,
-        );
+        let row = self.tables.row(id);
+        let aggregates = &self.settings.aggregated_subscribers;
+        leave_found(&mut self.groups, GroupKind::Subscribers, aggregates, row);
         self.tables.remove(id);
         self.matching.recount(&recounts);
         Ok(())
@@ -243,24 +198,6 @@ fn add_to_group(
         return Err(error);
     }
     Ok(())
-}
-
-/// A subscriber leaves the group of its text, if it is there.
-fn leave_sub_group(groups: &mut Groups, tables: &Tables, aggregates: &KeyList, id: u32)
-    ensures { groups.new ≡ with_groups GroupKind.Subscribers
-        (left_found aggregates.now (option_map sub_shared (sub_at id tables.now.rows)) (groups_of GroupKind.Subscribers groups.old)) groups.old }
-{
-    if let Some(row) = tables.row(id) {
-        let told = has_network(row.origin);
-        leave_group(
-            groups,
-            GroupKind::Subscribers,
-            aggregates,
-            told,
-            &row.key,
-            row.id,
-        );
-    }
 }
 
 /// Adds that these subscribers are called no more.

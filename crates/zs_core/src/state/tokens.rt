@@ -1,19 +1,21 @@
 //! Tokens that the network tells and ends, for those who want to know of them.
 
-ghost use Rattle.std.specs.Prelude.{◌≡◌, ◌++◌, map, is_some, Some, IfOk, OnOk};
+ghost use Rattle.std.specs.Prelude.{◌≡◌, ◌==◌, ◌++◌, [], map, is_some, Some, None, IfOk, OnOk};
+ghost use Rattle.std.specs.List.{find};
 ghost use Rattle.zs_keys.specs.Key.{undeclared};
-ghost use Rattle.zs_core.specs.Turns.{watch_at, open_decision, told_decision, ended_decision, ended_on};
+ghost use Rattle.zs_core.specs.Turns.{watch_at, open_decision, decision_of, told_decision, ended_decision, ended_on};
 ghost use Rattle.zs_core.specs.Tokens.{answers};
-ghost use Rattle.zs_core.specs.LivelinessEffects.{token_content, token_sample, hand_sample, hand_answer, end_asking, token_hands, answer_hands, answered_ends, told_hands, lsub_ends};
-ghost use Rattle.zs_core.specs.Publications.{content_by};
+ghost use Rattle.zs_core.specs.LivelinessEffects.{token_content, token_sample, token_reply, hand_sample, hand_answer, end_asking, token_hands, answer_hands, answered_ends, told_hands, lsub_ends};
 ghost use Rattle.zs_query.specs.Gets.{timeout_error};
 
 use super::SessionState;
-use super::content::{Content, default_encoding, sample_of};
-use super::keys::into_owned;
+use super::content::sample_of;
+use super::keys::{into_owned, is_blank};
 use crate::change::{Change, Decision, LivelinessChange};
 use std::alloc::{AllocError, Global};
-use zs_events::{Effect, Effects, Event, HandOver, Kind, Refusal};
+use zs_events::{
+    Content, Effect, Effects, Event, HandOver, Kind, Refusal, Shared, default_encoding,
+};
 use zs_keys::KeyExpr;
 use zs_sample::{
     CongestionControl, Encoding, Locality, QoSType, Reply, ReplyError, Sample, SampleKind, ZBytes,
@@ -96,12 +98,33 @@ impl SessionState {
             return self.end_token(id, &token.key, interest);
         }
         match wire {
-            Some(wire) => self.decide_ended_on(id, wire, interest),
-            None => {
-                let change = Change::OfLiveliness(LivelinessChange::ForgetToken { number: id });
-                Ok(Decision::of(Effects::new(self.alloc), change))
-            }
+            Some(wire) => self.decide_ended_by(id, wire, interest),
+            None => Ok(self.forget_token(id)),
         }
+    }
+
+    /// A token of an unknown number ends, on a key that is named, unless that is blank.
+    fn decide_ended_by(
+        &self,
+        id: u32,
+        wire: &WireExpr,
+        interest: Option<u32>,
+    ) -> Result<Decision, AllocError>
+        requires { find (λ token. token.number == id) self.now.liveliness.told ≡ None }
+        ensures { IfOk result (λ made. made ≡ open_decision self.now (Event.Net (Message.UndeclareToken id (Some wire.now) interest))) }
+    {
+        if is_blank(wire) {
+            return Ok(self.forget_token(id));
+        }
+        self.decide_ended_on(id, wire, interest)
+    }
+
+    /// A token of an unknown number ends, and nobody knows on which key.
+    fn forget_token(&self, id: u32) -> Decision
+        ensures { result ≡ decision_of None None [] (Change.OfLiveliness (LivelinessChange.ForgetToken id)) }
+    {
+        let change = Change::OfLiveliness(LivelinessChange::ForgetToken { number: id });
+        Decision::of(Effects::new(self.alloc), change)
     }
 
     /// A token of an unknown number ends, on a key that is named.
@@ -149,7 +172,8 @@ impl SessionState {
             return Ok(effects);
         }
         let sample = token_sample(self.alloc, kind, key.as_keyexpr())?;
-        hand_copies(self.alloc, &sample, &ids, &mut effects)?;
+        let sample = Shared::new(self.alloc, sample)?;
+        hand_copies(&sample, &ids, &mut effects)?;
         Ok(effects)
     }
 
@@ -177,31 +201,39 @@ fn answer(alloc: Global, interest: Option<u32>, key: KeyExpr<'_>) -> Result<Effe
     let mut effects = Effects::new(alloc);
     match interest {
         Some(number) => {
-            let sample = token_sample(alloc, SampleKind::Put, key)?;
-            effects.push(hand_answer(number, Reply::of(Ok(sample), None)))?;
+            let reply = token_reply(alloc, key)?;
+            effects.push(hand_answer(number, reply))?;
             Ok(effects)
         }
         None => Ok(effects),
     }
 }
 
-/// A copy of a sample for each of these subscribers. The copies share memory.
+/// A token that lives, as a reply.
+fn token_reply(alloc: Global, key: KeyExpr<'_>) -> Result<Shared<Reply>, AllocError>
+    requires { key ≡ undeclared key.text }
+    ensures { IfOk result (λ reply. reply ≡ token_reply key.entry.text) }
+{
+    let sample = token_sample(alloc, SampleKind::Put, key)?;
+    Shared::new(alloc, Reply::of(Ok(sample), None))
+}
+
+/// The same sample for each of these subscribers.
 fn hand_copies(
-    alloc: Global,
-    sample: &Sample,
+    sample: &Shared<Sample>,
     ids: &[u32],
     effects: &mut Effects,
 ) -> Result<(), AllocError>
     ensures { OnOk result (effects.new ≡ effects.old ++ map (hand_sample sample.now) ids.now) }
 {
     for id in ids {
-        effects.push(hand_sample(sample.try_clone(alloc)?, *id))?;
+        effects.push(hand_sample(sample.try_clone()?, *id))?;
     }
     Ok(())
 }
 
 /// A sample for a subscriber.
-pub(super) fn hand_sample(sample: Sample, id: u32) -> Effect
+pub(super) fn hand_sample(sample: Shared<Sample>, id: u32) -> Effect
     ensures { result ≡ hand_sample sample id }
 {
     Effect::Hand(HandOver::Sample {
@@ -224,7 +256,7 @@ pub(super) fn token_sample(
 }
 
 fn token_content(kind: SampleKind) -> Content
-    ensures { content_by result ≡ token_content kind }
+    ensures { result ≡ token_content kind }
 {
     Content {
         local: false,
@@ -254,8 +286,24 @@ pub(super) fn push_timeouts(
 ) -> Result<(), AllocError>
     ensures { OnOk result (effects.new ≡ effects.old ++ map (hand_answer timeout_error) numbers.now) }
 {
+    if numbers.is_empty() {
+        return Ok(());
+    }
+    let error = timeout_error(alloc)?;
+    let error = Shared::new(alloc, error)?;
+    push_answers(&error, numbers, effects)
+}
+
+/// The same reply for each of these gets of tokens.
+fn push_answers(
+    reply: &Shared<Reply>,
+    numbers: &[u32],
+    effects: &mut Effects,
+) -> Result<(), AllocError>
+    ensures { OnOk result (effects.new ≡ effects.old ++ map (hand_answer reply.now) numbers.now) }
+{
     for number in numbers {
-        effects.push(hand_answer(*number, timeout_error(alloc)?))?;
+        effects.push(hand_answer(*number, reply.try_clone()?))?;
     }
     Ok(())
 }
@@ -296,7 +344,7 @@ fn timeout_error(alloc: Global) -> Result<Reply, AllocError>
 }
 
 /// A reply for the get of tokens of a number.
-fn hand_answer(number: u32, reply: Reply) -> Effect
+fn hand_answer(number: u32, reply: Shared<Reply>) -> Effect
     ensures { result ≡ hand_answer reply number }
 {
     Effect::Hand(HandOver::Reply {

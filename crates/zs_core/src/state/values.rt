@@ -16,10 +16,11 @@ ghost use Rattle.zs_query.specs.declared.requests.Finished.{Finished};
 use super::SessionState;
 use super::get_effects::final_effects;
 use super::keys::into_owned;
+use super::wires::push_send;
 use crate::change::{Change, Decision, ValueChange};
 use crate::met::Met;
 use std::alloc::{AllocError, Global};
-use zs_events::{Effect, Effects, Event, HandOver, Refusal, clone_bytes};
+use zs_events::{Effect, Effects, Event, HandOver, Refusal, Shared, clone_bytes};
 use zs_keys::KeyExpr;
 use zs_query::{Finished, Finishing, GetTable, QueryData, RequestRow, RequestTable, Side};
 use zs_sample::QueryTarget;
@@ -86,7 +87,8 @@ impl SessionState {
             return final_effects(self.alloc, row.rid, outcome);
         }
         let mut effects = Effects::new(self.alloc);
-        effects.push(Effect::Send(Message::ResponseFinal { rid: row.rid }))?;
+        let last = Message::ResponseFinal { rid: row.rid };
+        push_send(self.alloc, &mut effects, last)?;
         Ok(effects)
     }
 
@@ -139,7 +141,7 @@ impl SessionState {
     {
         let mut effects = Effects::new(self.alloc);
         if met.is_empty() {
-            effects.push(Effect::Send(Message::ResponseFinal { rid }))?;
+            push_send(self.alloc, &mut effects, Message::ResponseFinal { rid })?;
             return Ok(effects);
         }
         self.hand_queries(&mut effects, row, met)?;
@@ -158,10 +160,11 @@ impl SessionState {
             ≡ effects.old ++ map hand_query (values_from self.now.handing.next self.now.handing.handed row.now met.now)) }
     {
         let query = QueryData::of(self.alloc, row)?;
+        let query = Shared::new(self.alloc, query)?;
         let mut value = self.handing.next();
         let ids = met.as_slice();
         for queryable in ids {
-            effects.push(hand_query(*queryable, value, query.try_clone(self.alloc)?))?;
+            effects.push(hand_query(*queryable, value, query.try_clone()?))?;
             value += 1;
         }
         Ok(())
@@ -266,7 +269,7 @@ fn clone_value(alloc: Global, value: &Option<Value>) -> Result<Option<Value>, Al
 }
 
 /// A query for a queryable, with the value under which it is answered.
-fn hand_query(queryable: u32, value: u32, query: QueryData) -> Effect
+fn hand_query(queryable: u32, value: u32, query: Shared<QueryData>) -> Effect
     ensures { result ≡ Effect.Hand (HandOver.Query queryable value query) }
 {
     Effect::Hand(HandOver::Query {

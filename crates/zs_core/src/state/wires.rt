@@ -1,13 +1,12 @@
-ghost use Rattle.std.specs.Prelude.{◌≡◌, None, Some, IfOk, IfSome, is_some, drop, chars, length, ◌==◌};
+ghost use Rattle.std.specs.Prelude.{◌≡◌, ◌++◌, ◌∷◌, [], None, Some, IfOk, OnOk, IfSome, is_some, drop, chars, length, ◌==◌};
 ghost use Rattle.std.specs.List.{starts_with};
+ghost use Rattle.zs_events.specs.declared.turn.Effect.{Effect};
 ghost use Rattle.zs_core.specs.Turns.{own_keys_at};
 ghost use Rattle.zs_core.specs.Sends.{goes_by_number, full_wire, wire_form, declared_by, push_with};
-ghost use Rattle.zs_core.specs.Publications.{content_by};
 
 use super::SessionState;
-use super::content::Content;
 use std::alloc::{AllocError, Global};
-use zs_events::KeyArg;
+use zs_events::{Content, Effect, Effects, KeyArg, Shared};
 use zs_keys::Declared;
 use zs_sample::Text;
 use zs_wire::{Mapping, Message, Push, WireExpr};
@@ -128,12 +127,25 @@ pub(super) fn push_of(
     wire: WireExpr,
     content: &Content,
 ) -> Result<Message, AllocError>
-    ensures { IfOk result (λ message. message ≡ push_with wire (content_by content.now)) }
+    ensures { IfOk result (λ message. message ≡ push_with wire content.now) }
 {
+    let body = content.body.try_clone(alloc)?;
     Ok(Message::Push(Push {
         wire,
-        body: content.body.try_clone(alloc)?,
+        body,
         qos: content.qos,
         reliable: content.reliable,
     }))
+}
+
+/// Adds that a message goes to the network.
+pub(super) fn push_send(
+    alloc: Global,
+    effects: &mut Effects,
+    message: Message,
+) -> Result<(), AllocError>
+    ensures { OnOk result (effects.new ≡ effects.old ++ Effect.Send message ∷ []) }
+{
+    let message = Shared::new(alloc, message)?;
+    effects.push(Effect::Send(message))
 }

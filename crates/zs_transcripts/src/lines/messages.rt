@@ -71,7 +71,13 @@ fn push_told(alloc: Global, push: &Push) -> Result<String, AllocError> {
     let kind = push.body.kind;
     let front = format!(in alloc; "push {wire} {kind:?}")?;
     let front = with_bytes(alloc, &front, &push.body.payload)?;
-    with_quality(alloc, &front, &push.body.encoding, &push.qos, push.reliable)
+    with_quality(
+        alloc,
+        &front,
+        push.body.encoding.as_str(),
+        &push.qos,
+        push.reliable,
+    )
 }
 
 fn request_told(alloc: Global, request: &Request) -> Result<String, AllocError> {

@@ -2,7 +2,9 @@
 
 use super::messages::message_told;
 use std::alloc::{AllocError, Global};
-use zs_events::{Chan, Event, KeyArg, ScriptEvent};
+use zs_events::{
+    Chan, Event, KeyArg, PublisherSettings, PushBody, QuerySettings, ScriptEvent, Update,
+};
 use zs_sample::{Locality, Text, Timestamp, ZBytes};
 use zs_script::{Line, parse_event};
 use zs_wire::{QoSType, Value};
@@ -23,9 +25,9 @@ pub(super) fn told(alloc: Global, text: &str) -> Result<String, AllocError> {
 
 fn line_told(alloc: Global, event: &ScriptEvent) -> Result<String, AllocError> {
     match event {
-        ScriptEvent::Core { event, to } => {
+        ScriptEvent::Core(event) => {
             let front = event_told(alloc, event)?;
-            with_channel(alloc, front, *to)
+            with_channel(alloc, front, event.channel())
         }
         ScriptEvent::Recv { kind, number } => format!(in alloc; "recv {kind:?} {number}"),
     }
@@ -43,10 +45,9 @@ fn event_told(alloc: Global, event: &Event) -> Result<String, AllocError> {
     match event {
         Event::Key { key } => keyed(alloc, "key", key),
         Event::UndeclareKey { key } => keyed(alloc, "undeclare key", key),
-        Event::Sub { origin, key } => placed(alloc, "sub", *origin, key),
-        Event::Pub { .. } => pub_told(alloc, event),
-        Event::Put { .. } => put_told(alloc, event),
-        Event::Delete { .. } => delete_told(alloc, event),
+        Event::Sub { origin, key, .. } => placed(alloc, "sub", *origin, key),
+        Event::Pub { key, settings } => pub_told(alloc, key, settings.get()),
+        Event::Publish { .. } => publish_told(alloc, event),
         Event::Queryable {
             origin,
             complete,
@@ -54,21 +55,15 @@ fn event_told(alloc: Global, event: &Event) -> Result<String, AllocError> {
         } => queryable_told(alloc, *origin, *complete, key),
         Event::Undeclare { kind, id } => format!(in alloc; "undeclare {kind:?} {id}"),
         Event::Background { kind, id } => format!(in alloc; "background {kind:?} {id}"),
-        Event::PublisherPut { id, payload, .. } => pput_told(alloc, *id, payload),
-        Event::PublisherDelete { id, timestamp, .. } => pdel_told(alloc, *id, timestamp),
+        Event::PublishBy { id, update } => publish_by_told(alloc, *id, update.get()),
         Event::Get { .. } => get_told(alloc, event),
         Event::Reply { .. } => reply_told(alloc, event),
-        Event::ReplyDelete { .. } => reply_delete_told(alloc, event),
-        Event::ReplyErr {
-            value,
-            payload,
-            encoding,
-        } => reply_error_told(alloc, *value, payload, encoding),
+        Event::ReplyErr { value, error } => reply_error_told(alloc, *value, error.get()),
         Event::Share { value } => format!(in alloc; "share {value}"),
         Event::Finish { value } => format!(in alloc; "finish {value}"),
         Event::Tick { now } => format!(in alloc; "tick {now}"),
         Event::Close => String::from_str(alloc, "close"),
-        Event::Net(message) => message_told(alloc, message),
+        Event::Net(message) => message_told(alloc, message.get()),
         _ => asking_told(alloc, event),
     }
 }
@@ -76,7 +71,7 @@ fn event_told(alloc: Global, event: &Event) -> Result<String, AllocError> {
 /// What asks by a querier or of liveliness, listens, or cancels.
 fn asking_told(alloc: Global, event: &Event) -> Result<String, AllocError> {
     match event {
-        Event::Querier { .. } => querier_told(alloc, event),
+        Event::Querier { key, settings } => querier_told(alloc, key, settings),
         Event::QuerierGet { .. } => querier_get_told(alloc, event),
         Event::Listen { parent, id } => format!(in alloc; "listen {parent:?} {id}"),
         Event::Status { parent, id } => format!(in alloc; "status {parent:?} {id}"),
@@ -87,128 +82,136 @@ fn asking_told(alloc: Global, event: &Event) -> Result<String, AllocError> {
         Event::LivelinessGet {
             key,
             timeout,
-            token,
-        } => lget_told(alloc, key, *timeout, *token),
+            cancellation_token,
+            ..
+        } => lget_told(alloc, key, *timeout, *cancellation_token),
         _ => String::from_str(alloc, "another event"),
     }
 }
 
-fn pub_told(alloc: Global, event: &Event) -> Result<String, AllocError> {
-    let Event::Pub {
+fn pub_told(
+    alloc: Global,
+    key: &KeyArg,
+    settings: &PublisherSettings,
+) -> Result<String, AllocError> {
+    let front = placed(alloc, "pub", settings.destination, key)?;
+    let encoding = settings.encoding.as_str();
+    let quality = settings.quality;
+    with_quality(alloc, &front, encoding, &quality.qos, quality.reliable)
+}
+
+fn publish_told(alloc: Global, event: &Event) -> Result<String, AllocError> {
+    let Event::Publish {
         destination,
         key,
-        encoding,
-        qos,
-        reliable,
+        update,
+        quality,
     } = event
     else {
-        return String::from_str(alloc, "no publisher");
+        return String::from_str(alloc, "no publication");
     };
-    let front = placed(alloc, "pub", *destination, key)?;
-    with_quality(alloc, &front, encoding, qos, *reliable)
+    let update = update.get();
+    let front = placed(alloc, verb(update, "put", "delete"), *destination, key)?;
+    let front = with_update(alloc, front, update)?;
+    match &update.body {
+        PushBody::Put { encoding, .. } => {
+            let encoding = named(encoding);
+            with_quality(alloc, &front, encoding, &quality.qos, quality.reliable)
+        }
+        PushBody::Delete => Ok(front),
+    }
 }
 
-fn put_told(alloc: Global, event: &Event) -> Result<String, AllocError> {
-    let Event::Put {
-        destination,
-        key,
-        payload,
-        encoding,
-        qos,
-        reliable,
-        ..
-    } = event
-    else {
-        return String::from_str(alloc, "no put");
-    };
-    let front = placed(alloc, "put", *destination, key)?;
-    let front = with_bytes(alloc, &front, payload)?;
-    with_quality(alloc, &front, encoding, qos, *reliable)
+/// A word for an update that puts, or for one that deletes.
+fn verb(update: &Update, put: &'static str, delete: &'static str) -> &'static str {
+    match &update.body {
+        PushBody::Put { .. } => put,
+        PushBody::Delete => delete,
+    }
 }
 
-fn delete_told(alloc: Global, event: &Event) -> Result<String, AllocError> {
-    let Event::Delete {
-        destination,
-        key,
-        timestamp,
-        ..
-    } = event
-    else {
-        return String::from_str(alloc, "no deletion");
-    };
-    let front = placed(alloc, "delete", *destination, key)?;
-    with_moment(alloc, &front, timestamp)
+/// The encoding, if it is named.
+fn named(encoding: &Option<Text>) -> &str {
+    match encoding {
+        Some(encoding) => encoding.as_str(),
+        None => "unnamed",
+    }
 }
 
-fn pput_told(alloc: Global, id: u32, payload: &ZBytes) -> Result<String, AllocError> {
-    let front = format!(in alloc; "pput {id}")?;
-    with_bytes(alloc, &front, payload)
+/// What is put, or the time of a deletion.
+fn with_update(alloc: Global, front: String, update: &Update) -> Result<String, AllocError> {
+    match &update.body {
+        PushBody::Put { payload, .. } => with_bytes(alloc, &front, payload),
+        PushBody::Delete => with_moment(alloc, &front, &update.timestamp),
+    }
 }
 
-fn pdel_told(alloc: Global, id: u32, timestamp: &Option<Timestamp>) -> Result<String, AllocError> {
-    let front = format!(in alloc; "pdel {id}")?;
-    with_moment(alloc, &front, timestamp)
+fn publish_by_told(alloc: Global, id: u32, update: &Update) -> Result<String, AllocError> {
+    let word = verb(update, "pput", "pdel");
+    let front = format!(in alloc; "{word} {id}")?;
+    let front = with_update(alloc, front, update)?;
+    match &update.body {
+        PushBody::Put { encoding, .. } => {
+            let front = front.as_str();
+            let encoding = named(encoding);
+            format!(in alloc; "{front} {encoding}")
+        }
+        PushBody::Delete => Ok(front),
+    }
 }
 
 fn get_told(alloc: Global, event: &Event) -> Result<String, AllocError> {
     let Event::Get {
-        destination,
         key,
-        parameters,
-        target,
-        consolidation,
-        timeout,
-        value,
-        qos,
-        any_key,
+        settings,
+        inquiry,
         ..
     } = event
     else {
         return String::from_str(alloc, "no get");
     };
-    let front = placed(alloc, "get", *destination, key)?;
+    let inquiry = inquiry.get();
+    let front = placed(alloc, "get", settings.destination, key)?;
     let front = front.as_str();
-    let parameters = parameters.as_str();
-    let priority = qos.priority;
-    let front = format!(in alloc;
-        "{front} and {parameters}: {target:?} {consolidation:?} {timeout:?} {any_key} {priority}"
-    )?;
-    with_value(alloc, front, value)
+    let parameters = inquiry.parameters.as_str();
+    let settings = settings_told(alloc, settings)?;
+    let front = format!(in alloc; "{front} and {parameters}: {settings}")?;
+    with_value(alloc, front, &inquiry.value)
 }
 
-fn querier_told(alloc: Global, event: &Event) -> Result<String, AllocError> {
-    let Event::Querier {
-        destination,
-        key,
+fn settings_told(alloc: Global, settings: &QuerySettings) -> Result<String, AllocError> {
+    let QuerySettings {
         target,
         consolidation,
         timeout,
         qos,
         any_key,
-    } = event
-    else {
-        return String::from_str(alloc, "no querier");
-    };
-    let front = placed(alloc, "querier", *destination, key)?;
-    let front = front.as_str();
+        ..
+    } = *settings;
     let priority = qos.priority;
-    format!(in alloc; "{front}: {target:?} {consolidation:?} {timeout:?} {any_key} {priority}")
+    format!(in alloc; "{target:?} {consolidation:?} {timeout:?} {any_key} {priority}")
+}
+
+fn querier_told(
+    alloc: Global,
+    key: &KeyArg,
+    settings: &QuerySettings,
+) -> Result<String, AllocError> {
+    let front = placed(alloc, "querier", settings.destination, key)?;
+    let front = front.as_str();
+    let settings = settings_told(alloc, settings)?;
+    format!(in alloc; "{front}: {settings}")
 }
 
 fn querier_get_told(alloc: Global, event: &Event) -> Result<String, AllocError> {
-    let Event::QuerierGet {
-        id,
-        parameters,
-        value,
-        token,
-        ..
-    } = event
-    else {
+    let Event::QuerierGet { id, inquiry, .. } = event else {
         return String::from_str(alloc, "no get");
     };
-    let parameters = parameters.as_str();
+    let inquiry = inquiry.get();
+    let parameters = inquiry.parameters.as_str();
+    let token = inquiry.cancellation_token;
     let front = format!(in alloc; "qget {id} and {parameters}: {token:?}")?;
-    with_value(alloc, front, value)
+    with_value(alloc, front, &inquiry.value)
 }
 
 fn lsub_told(alloc: Global, history: bool, key: &KeyArg) -> Result<String, AllocError> {
@@ -241,45 +244,24 @@ fn reply_told(alloc: Global, event: &Event) -> Result<String, AllocError> {
     let Event::Reply {
         value,
         key,
-        payload,
-        priority,
-        ..
+        update,
+        quality,
     } = event
     else {
         return String::from_str(alloc, "no reply");
     };
+    let update = update.get();
+    let word = verb(update, "reply", "replydel");
     let key = key_told(alloc, key)?;
-    let front = format!(in alloc; "reply {value} {key} {priority:?}")?;
-    with_bytes(alloc, &front, payload)
+    let priority = quality.priority;
+    let express = quality.express;
+    let front = format!(in alloc; "{word} {value} {key} {priority:?} {express:?}")?;
+    with_update(alloc, front, update)
 }
 
-fn reply_delete_told(alloc: Global, event: &Event) -> Result<String, AllocError> {
-    let Event::ReplyDelete {
-        value,
-        key,
-        timestamp,
-        express,
-        ..
-    } = event
-    else {
-        return String::from_str(alloc, "no reply");
-    };
-    let key = key_told(alloc, key)?;
-    let front = format!(in alloc; "replydel {value} {key} {express:?}")?;
-    with_moment(alloc, &front, timestamp)
-}
-
-fn reply_error_told(
-    alloc: Global,
-    value: u32,
-    payload: &ZBytes,
-    encoding: &Text,
-) -> Result<String, AllocError> {
+fn reply_error_told(alloc: Global, value: u32, error: &Value) -> Result<String, AllocError> {
     let front = format!(in alloc; "replyerr {value}")?;
-    let front = with_bytes(alloc, &front, payload)?;
-    let front = front.as_str();
-    let encoding = encoding.as_str();
-    format!(in alloc; "{front} {encoding}")
+    value_told(alloc, &front, error)
 }
 
 pub(super) fn with_value(
@@ -343,12 +325,11 @@ pub(super) fn with_moment(
 pub(super) fn with_quality(
     alloc: Global,
     front: &String,
-    encoding: &Text,
+    encoding: &str,
     qos: &QoSType,
     reliable: bool,
 ) -> Result<String, AllocError> {
     let front = front.as_str();
-    let encoding = encoding.as_str();
     let priority = qos.priority;
     format!(in alloc; "{front} {encoding} {priority} {reliable}")
 }

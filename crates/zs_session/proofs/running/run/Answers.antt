@@ -1,9 +1,10 @@
 use Rattle.std.proofs.Common.{refl, sym}
 use Rattle.std.specs.Prelude.{Err, map}
 use Rattle.std.specs.String.{string_bytes}
-use Rattle.zs_session.specs.declared.errors.DriveError.TheVariants.{NoMemory}
-use Rattle.zs_session.specs.Driving.{Outlet, Supply}
-use Rattle.zs_session.proofs.Exits.{unstarted}
+use Rattle.zs_driving.specs.declared.errors.DriveError.TheVariants.{NoMemory}
+use Rattle.zs_driving.specs.Driving.{Outlet, Supply}
+use Rattle.zs_driving.proofs.Exits.{unstarted}
+use Rattle.zs_session.specs.Driving.{task}
 use Rattle.zs_session.proofs.Soaking.{not_both}
 use Rattle.zs_session.proofs.running.run.Goals as goal
 
@@ -21,8 +22,8 @@ returns-in-Err-clause-runs g c =
     let from : Outlet = record { written = g.K.Sink.written c.args.sink.now; faults = g.K.Sink.faults c.args.sink.now } in
     λ s found. record {
       answer = Err NoMemory;
-      status_is = c.status_of.ensures;
-      drives = unstarted s before from;
+      status_is = c.conclude.ensures.status;
+      drives = unstarted (task s) _ refl before from;
       completes = λ input holds valid read write. refl;
-      complains = c.complain_of.ensures;
+      complains = c.conclude.ensures.complains;
     }

@@ -1,6 +1,6 @@
 use Rattle.std.proofs.Common.{◌<◌, [], length, append-nil, arith}
 use Rattle.std.proofs.lemmas.Bool.Decides.{nat_tests}
-use Rattle.zs_script.proofs.FirstLine.{lines-at, lines-rest}
+use Rattle.zs_lines.proofs.FirstLine.{lines-at, lines-rest}
 use Rattle.zs_session.proofs.soak.first_line.Goals as goal
 
 pub returns-in-Some-clause-line : goal.returns-in-Some-clause-line

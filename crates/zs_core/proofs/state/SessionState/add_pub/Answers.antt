@@ -22,7 +22,7 @@ invariant_of-self-2 c =
     let up : c.self.inside.next_entity ≤ c.self.inside.next_entity + 1 = omega arith in
     let less : c.args.row.id < c.self.inside.next_entity + 1 = omega (arith, id) in
     record {
-      pubs = rw (c.in_ok-add_to_group.ensures.publishers) (rows_push (λ (row : PubRow). row.id) c.self.inside.next_entity c.self.inside.publishers c.args.row id c.self.invariant.pubs);
+      pubs = rw (c.in_ok-add_to_group.ensures.table) (rows_push (λ (row : PubRow). row.id) c.self.inside.next_entity c.self.inside.publishers c.args.row id c.self.invariant.pubs);
       subs = rows_weaker (λ (row : SubRow). row.id) c.self.inside.next_entity c.self.inside.tables.rows c.self.invariant.subs;
       queryables = rows_weaker (λ (row : QueryableRow). row.id) c.self.inside.next_entity c.self.inside.queryables c.self.invariant.queryables;
       pub_groups = rw (ap (λ (gs : AllGroups). gs.publishers) c.in_ok-add_to_group.ensures.groups)

@@ -24,7 +24,7 @@ invariant_of-self-2 c =
       subs = rows_weaker (λ (row : SubRow). row.id) c.self.inside.next_entity c.self.inside.tables.rows c.self.invariant.subs;
       pubs = rows_weaker (λ (row : PubRow). row.id) c.self.inside.next_entity c.self.inside.publishers c.self.invariant.pubs;
       queryables = rows_weaker (λ (row : QueryableRow). row.id) c.self.inside.next_entity c.self.inside.queryables c.self.invariant.queryables;
-      queriers = rw (c.in_ok-add_to_group.ensures.queriers) (rows_push (λ (row : QuerierRow). row.id) c.self.inside.next_entity c.self.inside.queriers c.args.row id c.self.invariant.queriers);
+      queriers = rw (c.in_ok-add_to_group.ensures.table) (rows_push (λ (row : QuerierRow). row.id) c.self.inside.next_entity c.self.inside.queriers c.args.row id c.self.invariant.queriers);
       sub_groups = rw (ap (λ (gs : AllGroups). gs.subscribers) c.in_ok-add_to_group.ensures.groups)
           (groups_weaker c.self.inside.next_entity (c.self.inside.next_entity + 1) c.self.inside.groups.subscribers up c.self.invariant.sub_groups);
       pub_groups = rw (ap (λ (gs : AllGroups). gs.publishers) c.in_ok-add_to_group.ensures.groups)

@@ -1,7 +1,6 @@
 use Rattle.std.proofs.Common.{◌≡◌, IfOk, sym, ap, subst}
 use Rattle.zs_core.specs.World.{World}
 use Rattle.zs_core.specs.declared.change.Decision.{Decision}
-use Rattle.zs_core.specs.Answers.{quality_by}
 use Rattle.zs_query.specs.Unfinished.{value_at}
 use Rattle.zs_core.proofs.Answered.{answered}
 use Rattle.zs_core.proofs.state.SessionState.decide_answer.Goals as goal
@@ -9,6 +8,6 @@ use Rattle.zs_core.proofs.state.SessionState.decide_answer.Goals as goal
 pub returns : goal.returns
 returns c =
     subst (λ (d : Decision). IfOk c.answer_by.result (λ made. made ≡ d))
-    (answered c.args.self.now c.args.value c.args.key.now (quality_by c.args.quality) c.args.body (value_at c.args.value c.self.inside.handing.values) c.in-Some.row c.in-Some.queryable
+    (answered c.args.self.now c.args.value c.args.key.now c.args.quality c.args.body (value_at c.args.value c.self.inside.handing.values) c.in-Some.row c.in-Some.queryable
     c.in-Some.ensures (ap (λ (w : World). value_at c.args.value w.handing.values) (sym c.self.view_is)))
     c.answer_by.ensures

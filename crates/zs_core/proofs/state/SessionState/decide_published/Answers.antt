@@ -6,7 +6,6 @@ use Rattle.zs_core.specs.declared.change.Change.TheVariants.{Nothing}
 use Rattle.zs_core.specs.Turns.{decision_of, published_effects}
 use Rattle.zs_core.specs.World.{World}
 use Rattle.zs_core.specs.Publishers.{pub_at}
-use Rattle.zs_core.specs.Publications.{published_content}
 use Rattle.zs_core.proofs.Publishers.{unpublished, published}
 use Rattle.zs_core.proofs.state.SessionState.decide_published.Goals as goal
 
@@ -14,7 +13,7 @@ pub returns-in_default : goal.returns-in_default
 returns-in_default c =
     let rows : c.self.inside.publishers ≡ c.args.self.now.entities.pubs = ap (λ (w : World). w.entities.pubs) c.self.view_is in
     let none : pub_at c.args.id c.args.self.now.entities.pubs ≡ None = sym (c.in_default.ensures ∙ ap (pub_at c.args.id) rows) in
-    c.refused.ensures ∙ sym (unpublished c.args.self.now c.args.id (published_content c.args.content) none)
+    c.refused.ensures ∙ sym (unpublished c.args.self.now c.args.id c.args.update.now none)
 
 pub returns : goal.returns
 returns c =
@@ -25,4 +24,4 @@ returns c =
     c.of.ensures
     ∙ ap (λ (fx : List Effect). decision_of None None fx Nothing)
     (c.in_ok-effects.ensures ∙ (λ i. published_effects c.args.self.now c.args.id (Some (text i)) (OwnContent (content i))))
-    ∙ sym (published c.args.self.now c.args.id (published_content c.args.content) c.in-Some.row.now found c.key_of.ensures.canonical)
+    ∙ sym (published c.args.self.now c.args.id c.args.update.now c.in-Some.row.now found c.key_of.ensures.canonical)

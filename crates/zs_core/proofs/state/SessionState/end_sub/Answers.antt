@@ -13,10 +13,10 @@ invariant_of-self c =
       subs = rw c.remove.ensures.rows (rows_less (λ (row : SubRow). row.id) c.self.inside.next_entity c.args.id _ c.self.invariant.subs);
       pubs = c.self.invariant.pubs;
       queryables = c.self.invariant.queryables;
-      sub_groups = rw c.leave_sub_group.ensures (less_below c.self.inside.next_entity _ _ _ c.self.invariant.sub_groups);
-      pub_groups = rw c.leave_sub_group.ensures c.self.invariant.pub_groups;
+      sub_groups = rw c.leave_found.ensures (less_below c.self.inside.next_entity _ _ _ c.self.invariant.sub_groups);
+      pub_groups = rw c.leave_found.ensures c.self.invariant.pub_groups;
       queriers = c.self.invariant.queriers;
-      querier_groups = rw c.leave_sub_group.ensures c.self.invariant.querier_groups;
+      querier_groups = rw c.leave_found.ensures c.self.invariant.querier_groups;
       listening = below_set c.self.inside.next_entity c.deref.result.now c.self.inside.matching _ c.recount.ensures.kept c.self.invariant.listening;
       counted = rw c.remove.ensures.rows
           (counted_moved c.self.inside.tables.rows _ c.self.inside.queryables c.self.inside.queryables _ _ _ c.self.inside.matching _ c.recount.ensures.kept (c.deref.ensures.value ∙ all) up (sub_goes c.self.inside.tables.rows c.self.inside.queryables c.self.inside.matching.told c.args.id c.rows-ascending.ensures.ascending) c.self.invariant.counted);

@@ -3,13 +3,13 @@ use Rattle.std.specs.Prelude.{vec_len}
 use Rattle.std.proofs.lemmas.Bool.{eqb-true}
 use Rattle.std.proofs.lemmas.List.{nil_from_length}
 use Rattle.zs_events.specs.declared.turn.Effect.{Effect}
-use Rattle.zs_core.specs.Publications.{content_by, sample_on, hands, hands_to, reached}
+use Rattle.zs_core.specs.Publications.{sample_on, hands, hands_to, reached}
 use Rattle.zs_core.proofs.Publications.{reached_hands}
 use Rattle.zs_core.proofs.state.SessionState.hand_over.Goals as goal
 
 pub returns-then-is_empty : goal.returns-then-is_empty
 returns-then-is_empty c =
-    let sample = sample_on c.args.resolved.text (content_by c.args.content) in
+    let sample = sample_on c.args.resolved.text c.args.content in
     let nobody : c.in_ok-ids.ids.items ≡ [] = nil_from_length _ (sym c.in_ok-ids.ids.ok.0 ∙ eqb-true (vec_len c.in_ok-ids.ids) 0 (sym c.is_empty.ensures ∙ c.if-is_empty.true)) in
     let none : hands (record { local = c.args.content.local; destination = c.args.content.destination; sample = sample }) c.args.self.now.entities.subs ≡ [] =
     reached_hands c.args.content.local c.args.content.destination sample c.args.self.now.entities.subs
@@ -18,7 +18,7 @@ returns-then-is_empty c =
 
 pub returns : goal.returns
 returns c =
-    let sample = sample_on c.args.resolved.text (content_by c.args.content) in
+    let sample = sample_on c.args.resolved.text c.args.content in
     let all : hands_to c.in_ok-sample.sample c.deref.result.now
     ≡ hands (record { local = c.args.content.local; destination = c.args.content.destination; sample = sample }) c.args.self.now.entities.subs =
     ap (hands_to c.in_ok-sample.sample) (c.deref.ensures.value ∙ c.in_ok-ids.ensures)

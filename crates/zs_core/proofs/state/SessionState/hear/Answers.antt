@@ -45,7 +45,7 @@ returns-in-OfValues c =
     quiet c.args.effects.now c.args.self.now.matching.listeners (present_at c.args.self.now)
     ∙ ap (λ (change : Change). c.args.effects.now ++ listener_effects_at c.args.self.now (with_change change c.args.self.now)) (sym c.in-OfValues.is)
 
-pub returns-in-OfTokens : goal.returns-in-OfTokens
-returns-in-OfTokens c =
+pub returns-in-OfCancellation : goal.returns-in-OfCancellation
+returns-in-OfCancellation c =
     quiet c.args.effects.now c.args.self.now.matching.listeners (present_at c.args.self.now)
-    ∙ ap (λ (change : Change). c.args.effects.now ++ listener_effects_at c.args.self.now (with_change change c.args.self.now)) (sym c.in-OfTokens.is)
+    ∙ ap (λ (change : Change). c.args.effects.now ++ listener_effects_at c.args.self.now (with_change change c.args.self.now)) (sym c.in-OfCancellation.is)

@@ -1,11 +1,19 @@
-use Rattle.zs_core.proofs.Steps.{steps_on, decision_fits, refused_same}
+use Rattle.std.proofs.Common.{◌≡◌, sym, ap, ◌∙◌}
+use Rattle.zs_events.specs.Turn.{was_refused}
+use Rattle.zs_events.specs.declared.turn.Turn.{Turn}
+use Rattle.zs_core.specs.declared.change.Change.{Change}
+use Rattle.zs_core.specs.Changes.{with_change}
 use Rattle.zs_core.proofs.state.SessionState.step.Goals as goal
 
 pub apply-requires : goal.apply-requires
-apply-requires c = decision_fits c.args.self.now c.args.event.now c.in_ok-turn.field-0 c.in_ok-turn.ensures
+apply-requires c = rw c.into_parts.ensures.change c.in_ok-made.ensures.fits
 
 pub returns-clause-ok : goal.returns-clause-ok
-returns-clause-ok c = steps_on c.args.self.now c.apply.new.self c.args.event.now c.in_ok-turn.field-0 c.in_ok-turn.ensures c.in_ok-apply.ensures.ok
+returns-clause-ok c =
+    rw c.into_parts.ensures.turn
+    (c.in_ok-made.ensures.steps c.apply.new.self (c.in_ok-apply.ensures.ok ∙ ap (λ (change : Change). with_change change c.args.self.now) c.into_parts.ensures.change))
 
 pub returns-clause-refused : goal.returns-clause-refused
-returns-clause-refused c = refused_same c.args.self.now c.apply.new.self c.args.event.now c.in_ok-turn.field-0 c.in_ok-turn.ensures c.in_ok-apply.ensures.ok
+returns-clause-refused c = λ refused.
+    c.in_ok-apply.ensures.ok ∙ ap (λ (change : Change). with_change change c.args.self.now) c.into_parts.ensures.change
+    ∙ c.in_ok-made.ensures.refuses (sym (ap (λ (turn : Turn). was_refused turn.answer) c.into_parts.ensures.turn) ∙ refused)

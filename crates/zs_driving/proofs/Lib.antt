@@ -1,0 +1,4 @@
+pub mod Progress
+pub mod Exits
+pub mod Completing
+pub mod Languages

@@ -1,0 +1,5 @@
+pub mod Tasks
+pub mod Languages
+pub mod Driving
+pub mod Errors
+pub mod Statuses

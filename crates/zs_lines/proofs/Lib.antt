@@ -1,0 +1,4 @@
+pub mod Cuts
+pub mod FirstLine
+pub mod Answering
+pub mod Pieces

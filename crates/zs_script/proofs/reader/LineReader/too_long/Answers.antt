@@ -1,5 +1,0 @@
-use Rattle.zs_script.proofs.FirstLine.{long-rest}
-use Rattle.zs_script.proofs.reader.LineReader.too_long.Goals as goal
-
-pub returns-in-Ok-clause-answer : goal.returns-in-Ok-clause-answer
-returns-in-Ok-clause-answer c = (cc c.in-Ok.ensures.ok, long-rest c.args.self.now c.requires.whole c.requires.long)
