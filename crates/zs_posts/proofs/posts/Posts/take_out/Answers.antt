@@ -9,14 +9,16 @@ pub invariant_of-self : goal.invariant_of-self
 invariant_of-self g c =
     let old = c.self.inside.map.rows in
     let less = length_less (is_key c.args.key) old in
-    let is = ap (λ m. m.rows) c.remove.ensures.rows in
-    (omega (arith, ap length is, less, c.self.invariant.0),
-    subst (λ rows. IsSettled rows c.self.inside.ready.items) (sym is) record { no_other = without_not c.args.key old c.self.invariant.1.no_other; each = c.self.invariant.1.each })
+    let is = ap (λ m. m.rows) c.remove.ensures.rows in (
+      omega (arith, ap length is, less, c.self.invariant.0),
+      subst (λ rows. IsSettled rows c.self.inside.ready.items) (sym is) record { no_other = without_not c.args.key old c.self.invariant.1.no_other; each = c.self.invariant.1.each },
+    )
 
 pub invariant_of-self-in-None : goal.invariant_of-self-in-None
 invariant_of-self-in-None g c =
     let old = c.self.inside.map.rows in
     let less = length_less (is_key c.args.key) old in
-    let is = ap (λ m. m.rows) c.remove.ensures.rows in
-    (omega (arith, ap length is, less, c.self.invariant.0),
-    subst (λ rows. IsSettled rows c.self.inside.ready.items) (sym is) record { no_other = without_not c.args.key old c.self.invariant.1.no_other; each = c.self.invariant.1.each })
+    let is = ap (λ m. m.rows) c.remove.ensures.rows in (
+      omega (arith, ap length is, less, c.self.invariant.0),
+      subst (λ rows. IsSettled rows c.self.inside.ready.items) (sym is) record { no_other = without_not c.args.key old c.self.invariant.1.no_other; each = c.self.invariant.1.each },
+    )
