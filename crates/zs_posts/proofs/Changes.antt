@@ -31,6 +31,9 @@ module _ {K V : Type 0} (test : K → Bool) where
   pub later : (e : K × V) (es : List (K × V)) (o : Option V) → test e.0 ≡ false → o ≡ lookup test (e ∷ es) → o ≡ lookup test es
   later e es o here is = is ∙ ap (λ (b : Bool). cond b (Some e.1) (lookup test es)) here
 
+  pub absent : (e : K × V) (es : List (K × V)) → test e.0 ≡ true → None ≡ lookup test (e ∷ es) → ⊥
+  absent e es here is = none_some (is ∙ ap (λ (b : Bool). cond b (Some e.1) (lookup test es)) here)
+
   -- what holds of all entries
   pub all_set : (P : V → Type 0) (es : List (K × V)) (w : V) → P w → AllByRecursion (λ e. P e.1) es → AllByRecursion (λ e. P e.1) (set_value test es w)
   all_set P [] w new all = all

@@ -1,5 +1,6 @@
-mod Changes
-mod InTheTurn
-mod InTurn
-mod Rooms
-mod Settling
+pub mod Changes
+pub mod InTheTurn
+pub mod InTurn
+pub mod Opening
+pub mod Rooms
+pub mod Settling

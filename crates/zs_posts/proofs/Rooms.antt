@@ -45,19 +45,19 @@ draw_allowed slots id me number gate is s kept homes at small =
     let found = slice_index s.words 0 in
     let one : 0 < length s.words = omega (arith, kept.one_word) in
     let r = exchanged found number (number + 1)
-        (λ next. (w : View) × (gate_of : ℕ → TableId) × AllNumbered gate_of next (set s.views id w) × Draws (step slots 0 number (number + 1) (some gate)) me found (w, me.1))
-        (λ hit. (
-        Tag number gate,
-        drawn kept.gate_of number gate,
-        all_set (IsNumbered (drawn kept.gate_of number gate) (number + 1)) s.views id (Tag number gate) (omega arith, drawn_here kept.gate_of gate number)
-        (λ i v there. still kept.gate_of gate number v (subst (λ n. IsNumbered kept.gate_of n v) hit (kept.numbered i v there))),
-        ((λ _. refl), refl),
+    (λ next. (w : View) × (gate_of : ℕ → TableId) × AllNumbered gate_of next (set s.views id w) × Draws (step slots 0 number (number + 1) (some gate)) me found (w, me.1))
+    (λ hit. (
+      Tag number gate,
+      drawn kept.gate_of number gate,
+      all_set (IsNumbered (drawn kept.gate_of number gate) (number + 1)) s.views id (Tag number gate) (omega arith, drawn_here kept.gate_of gate number)
+          (λ i v there. still kept.gate_of gate number v (subst (λ n. IsNumbered kept.gate_of n v) hit (kept.numbered i v there))),
+      ((λ _. refl), refl),
     ))
-        (λ miss. (
-        me.0,
-        kept.gate_of,
-        (λ i v there. kept.numbered i v (subst (λ views. get_elem? views i ≡ some v) (set_again s.views id me.0 at) there)),
-        ((λ hit. absurd (miss hit)), refl),
+    (λ miss. (
+      me.0,
+      kept.gate_of,
+      (λ i v there. kept.numbered i v (subst (λ views. get_elem? views i ≡ some v) (set_again s.views id me.0 at) there)),
+      ((λ hit. absurd (miss hit)), refl),
     )) in
     let next = either (found == number) (number + 1) found in
     let here : slice_index (set s.words 0 next) 0 ≡ next = get_or-set_same s.words 0 next 0 one in

@@ -31,6 +31,14 @@ module _ {K V : Type 0} (test : K → Bool) where
       go true here rest = omega arith
       go false here rest = let shorter : length (remove_entry test es) + 1 ≡ length es = rest (later test e es (Some v) here is) in omega arith
 
+  pub length_less : (es : List (K × V)) → length (remove_entry test es) ≤ length es
+  length_less [] = omega arith
+  length_less (e ∷ es) = go (test e.0) (length_less es)
+    where
+      go : (b : Bool) → length (remove_entry test es) ≤ length es → length (cond b es (e ∷ remove_entry test es)) ≤ length (e ∷ es)
+      go true less = omega arith
+      go false less = omega arith
+
 and_false : (a : Bool) → a && false ≡ false
 and_false true = refl
 and_false false = refl
@@ -169,9 +177,9 @@ none_waits None old new items rest = shorter old (items ∙ rest)
     shorter [] e = refl
     shorter (x ∷ xs) e = absurd (omega (arith, ap length e, length-drop 1 (x ∷ xs)))
 
-pub none_beside : {A P Q : Type 0} (result : Option A) → P → IfNone result Q → IfNone result (P × Q)
-none_beside (Some a) p q = tt
-none_beside None p q = (p, q)
+pub none_beside : {A : Type 0} (P Q : Type 0) (result : Option A) → P → IfNone result Q → IfNone result (P × Q)
+none_beside P Q (Some a) p q = tt
+none_beside P Q None p q = (p, q)
 
 module _ {H : Type 0} (key : Key) where
   abbrev pub IsOther : PostSeen H → Type 0
@@ -206,3 +214,11 @@ module _ {H : Type 0} (key : Key) where
   none_found [] n all others = refl
   none_found (p ∷ ready) zero all others = absurd (omega arith)
   none_found (p ∷ ready) (suc n) all others = ap (λ b. cond b (Some p) (first_of key ready)) others.0 ∙ none_found ready n (omega arith) others.1
+
+  pub none_left : (ready : List (PostSeen H)) → first_of key ready ≡ None → without_first key ready ≡ ready
+  none_left [] none = refl
+  none_left (p ∷ ready) none = go (is_key key p.name.key) refl (none_left ready)
+    where
+      go : (b : Bool) → is_key key p.name.key ≡ b → (first_of key ready ≡ None → without_first key ready ≡ ready) → cond b ready (p ∷ without_first key ready) ≡ p ∷ ready
+      go true is rest = absurd (none_some (sym none ∙ ap (λ (b : Bool). cond b (Some p) (first_of key ready)) is))
+      go false is rest = ap (λ more. p ∷ more) (rest (sym (ap (λ (b : Bool). cond b (Some p) (first_of key ready)) is) ∙ none))

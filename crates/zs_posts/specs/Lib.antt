@@ -5,5 +5,5 @@ pub mod Passes
 pub mod Posts
 pub mod Lending
 pub mod Calls
-pub mod Turns
 pub mod Settled
+pub mod Turns

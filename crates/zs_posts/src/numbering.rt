@@ -5,9 +5,16 @@ use zs_gate::Keeper;
 // What one seat knows. No value of it is made, and of a keeper only its gate counts.
 pub enum View {
     Blank,
-    Tag { number: u64, gate: Keeper },
+    Tag {
+        number: u64,
+        gate: Keeper,
+    },
     // A tag that was joined with another one of its number.
-    Both { number: u64, gate: Keeper, other: Keeper },
+    Both {
+        number: u64,
+        gate: Keeper,
+        other: Keeper,
+    },
 }
 
 pub struct Rule;

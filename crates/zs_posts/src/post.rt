@@ -67,7 +67,8 @@ impl<H> Post<H> {
         name: Name,
         handler: &Option<Arc<H>>,
     ) -> Result<Post<H>, AllocError>
-        where H: Drop,
+    where
+        H: Drop,
         ensures { IfOk result (λ p. p ≡ record { name = name; handler = option_map arc_value handler.now; ended = false; gate = p.gate; room = maker.now; number = p.number; out = 0 }) }
     {
         let handler = share(handler)?;

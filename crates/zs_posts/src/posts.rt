@@ -3,6 +3,7 @@ ghost use Rattle.std.specs.Prelude.{◌≡◌, ℕ, ◌+◌, ◌≤◌, true, fa
 ghost use Rattle.std.specs.Arc.{arc_value};
 ghost use Rattle.std.specs.List.{AllByRecursion, remove};
 ghost use Rattle.std.specs.Option.{is_some, option_to_list};
+ghost use Rattle.std.specs.Vec.{vec_len};
 ghost use Rattle.std.specs.VecDeque.{deque_len, deque_capacity};
 ghost use Rattle.atomic_table.specs.Seated.{TableId};
 ghost use Rattle.zs_posts.specs.Posts.{post_at, spent_at, is_spent};
@@ -79,6 +80,9 @@ fn place_of<H>(ready: &VecDeque<Post<H>>, key: Key) -> Option<usize>
 }
 
 impl<H> Posts<H> {
+    ghost use Rattle.zs_posts.specs.Settled.{PostsSeen};
+    ghost use Rattle.zs_posts.specs.Turns.{IsOpened, IsTurn};
+
     /// No post, in a room of its own.
     ///
     /// # Errors
@@ -171,6 +175,7 @@ impl<H> Posts<H> {
     ) -> Result<Vec<Call<H, T>>, NoPass>
     where
         H: Drop,
+        ensures few { IfOk result (λ calls. vec_len calls ≤ vec_len wanted) }
         ensures calls { IfOk result (λ calls. map call_seen calls.items ≡ calls_of wanted.items self.old.rows) }
         ensures posts { IfOk result (λ _. self.new ≡ record self.old { rows = lend_all (turn_keys wanted.items self.old.rows) self.old.rows }) }
         ensures fits { IfOk result (λ _. is_overdrawn (turn_keys wanted.items self.old.rows) self.old.rows ≡ false) }
@@ -179,6 +184,39 @@ impl<H> Posts<H> {
         ensures err { OnErr result (self.new ≡ self.old) }
     {
         self.map.lend_turn(alloc, wanted)
+    }
+
+    /// Opens a post as `open` does and then lends as `lend_turn` does, both or neither. At `Err` nothing has changed.
+    ///
+    /// # Errors
+    ///
+    /// Where all passes of a gate are out, and for want of memory, which also stands for a key that has a post.
+    pub fn open_and_lend<T: Drop>(
+        &mut self,
+        alloc: Global,
+        name: Name,
+        handler: &Option<Arc<H>>,
+        wanted: Vec<Wanted<T>>,
+    ) -> Result<Vec<Call<H, T>>, NoPass>
+    where
+        H: Drop,
+        ensures few { IfOk result (λ calls. vec_len calls ≤ vec_len wanted) }
+        ensures ok { IfOk result (λ calls. (opened : PostsSeen H) × IsOpened name (option_map arc_value handler.now) self.old opened × IsTurn wanted.items opened (map call_seen calls.items) self.new) }
+        ensures none { IfOk result (λ _. post_at name.key self.old.rows ≡ None) }
+        ensures full { result ≡ Err NoPass.Full → (opened : PostsSeen H) × IsOpened name (option_map arc_value handler.now) self.old opened × (is_overdrawn (turn_keys wanted.items opened.rows) opened.rows ≡ true) }
+        ensures err { OnErr result (self.new ≡ self.old) }
+    {
+        let Ok(()) = self.open(alloc, name, handler) else {
+            return Err(NoPass::NoMemory);
+        };
+        match self.lend_turn(alloc, wanted) {
+            Ok(calls) => Ok(calls),
+            Err(why) => {
+                let post = self.take_out(name.key);
+                drop(post);
+                Err(why)
+            }
+        }
     }
 
     /// Takes a pass back. One whose post is gone goes with it.

@@ -106,8 +106,7 @@ impl Maker {
             return Err(AllocError);
         }
         let shared = &self.board.shared;
-        let found =
-            shared.compare_exchange_with::<Draw>(&mut seat, 0, number, number + 1, keeper);
+        let found = shared.compare_exchange_with::<Draw>(&mut seat, 0, number, number + 1, keeper);
         if found != number {
             return Err(AllocError);
         }

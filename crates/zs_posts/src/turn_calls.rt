@@ -57,6 +57,7 @@ impl<H: Drop> PostMap<H> {
     ) -> Result<(), NoPass>
         requires empty { calls.old.items ≡ [] }
         requires wide { vec_len wanted ≤ vec_capacity calls.old }
+        ensures few { OnOk result (vec_len calls.new ≤ vec_len wanted) }
         ensures ok { OnOk result (Underway self.old.room wanted.items self.old.rows [] (map call_seen calls.new.items) self.new.rows) }
         ensures err { OnErr result ((left : List (IsWanted T)) × Underway self.old.room wanted.items self.old.rows left (map call_seen calls.new.items) self.new.rows) }
         ensures room { self.new.room ≡ self.old.room }
@@ -96,6 +97,7 @@ impl<H: Drop> PostMap<H> {
         alloc: Global,
         wanted: Vec<Wanted<T>>,
     ) -> Result<Vec<Call<H, T>>, NoPass>
+        ensures few { IfOk result (λ calls. vec_len calls ≤ vec_len wanted) }
         ensures calls { IfOk result (λ calls. map call_seen calls.items ≡ calls_of wanted.items self.old.rows) }
         ensures rows { IfOk result (λ _. self.new.rows ≡ lend_all (turn_keys wanted.items self.old.rows) self.old.rows) }
         ensures fits { IfOk result (λ _. is_overdrawn (turn_keys wanted.items self.old.rows) self.old.rows ≡ false) }

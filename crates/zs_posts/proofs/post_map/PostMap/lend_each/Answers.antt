@@ -19,5 +19,6 @@ loop-next-preserved g c =
       underway = subst (λ more. Underway old.room c.args.wanted.items old.rows (into_iter_items c.next.new.self) more c.lend_item.new.self.rows) (sym lent.2) (lent_more underway here);
       room = c.in-Ok.ensures.room ∙ c.loop-next.invariant.room;
       wide = omega (arith, c.in-Some.ensures.len, c.in-Ok.ensures.len, c.in-Ok.ensures.capacity, c.loop-next.invariant.wide);
+      few = omega (arith, c.in-Some.ensures.len, c.in-Ok.ensures.len, c.loop-next.invariant.few);
       left = omega (arith, c.in-Some.ensures.len, ap length c.in-Some.ensures.items, c.loop-next.invariant.left);
     }

@@ -10,6 +10,7 @@ invariant-loop-next g l = record {
   underway : Underway l.fn.self.room l.fn.wanted.items l.fn.self.rows (into_iter_items l.left) (map call_seen l.calls.items) l.self.rows;
   room : l.self.room ≡ l.fn.self.room;
   wide : vec_len l.calls + into_iter_len l.left ≤ vec_capacity l.calls;
+  few : vec_len l.calls + into_iter_len l.left ≤ vec_len l.fn.wanted;
   left : length (into_iter_items l.left) ≡ into_iter_len l.left;
 }
 

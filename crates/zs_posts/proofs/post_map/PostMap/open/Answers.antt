@@ -21,5 +21,5 @@ returns-clause-ok g c =
       c.in-Ok.post.gate,
       c.in-Ok.post.number,
       seen_changed_in _ _ _ _ (λ room rows. with_post c.args.name.key (fresh c.args.name handler c.in-Ok.post.gate room c.in-Ok.post.number) rows) c.self.view_is
-      (c.in-Ok-insert.ensures.entries ∙ ap (λ p. with_post c.args.name.key p c.self.inside.posts.entries) c.in-Ok.ensures),
+          (c.in-Ok-insert.ensures.entries ∙ ap (λ p. with_post c.args.name.key p c.self.inside.posts.entries) c.in-Ok.ensures),
     )

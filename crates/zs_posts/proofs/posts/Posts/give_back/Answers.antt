@@ -8,6 +8,7 @@ settle-requires g c = omega (arith, ap (λ m. length m.rows) c.unlend.ensures, l
 
 pub invariant_of-self : goal.invariant_of-self
 invariant_of-self g c =
-    let changes = ap (λ m. m.rows) c.unlend.ensures ∙ ap (λ k. changed (lowered_by c.args.lent) k c.self.inside.map.rows) (sym c.key-key.ensures) in
-    (c.settle.ensures.room,
-    settled_now (lowered_by c.args.lent) c.key-key.result c.self.inside.map.rows _ _ c.self.inside.ready.items _ c.self.invariant.1 changes (ap (λ m. m.rows) c.settle.ensures.rows) c.settle.ensures.ready)
+    let changes = ap (λ m. m.rows) c.unlend.ensures ∙ ap (λ k. changed (lowered_by c.args.lent) k c.self.inside.map.rows) (sym c.key-key.ensures) in (
+      c.settle.ensures.room,
+      settled_now (lowered_by c.args.lent) c.key-key.result c.self.inside.map.rows _ _ c.self.inside.ready.items _ c.self.invariant.1 changes (ap (λ m. m.rows) c.settle.ensures.rows) c.settle.ensures.ready,
+    )

@@ -1,4 +1,4 @@
-use Rattle.std.proofs.Common.{map, subst, arith}
+use Rattle.std.proofs.Common.{◌≡◌, map, subst, arith}
 use Rattle.std.specs.List.{AllByRecursion}
 use Rattle.std.specs.Prelude.{IfOk}
 use Rattle.zs_posts.specs.Calls.{call_seen, all_lents, turn_keys}

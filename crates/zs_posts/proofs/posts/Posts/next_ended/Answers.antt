@@ -8,4 +8,4 @@ use Rattle.zs_posts.proofs.posts.Posts.next_ended.Goals as goal
 pub returns-clause-none : goal.returns-clause-none
 returns-clause-none g c =
     subst (λ s. IfNone c.pop_front.result (AllByRecursion (λ e. is_spent e.1 ≡ false) s.rows × (s.ready ≡ []))) c.self.view_is
-    (none_beside c.pop_front.result c.self.invariant.1.no_other (none_waits c.pop_front.result _ _ c.pop_front.ensures.items c.pop_front.ensures.rest))
+    (none_beside _ _ c.pop_front.result c.self.invariant.1.no_other (none_waits c.pop_front.result _ _ c.pop_front.ensures.items c.pop_front.ensures.rest))
