@@ -3,14 +3,13 @@ use Rattle.std.proofs.Common.{◌≡◌, ℕ, List, [], Bool, true, false, Optio
 use Rattle.std.specs.Prelude.{if◌then◌else◌}
 use Rattle.zs_events.specs.declared.event.Event.TheVariants.{Net, Reply as reply_event}
 use Rattle.zs_events.specs.declared.key_arg.KeyArg.{KeyArg}
+use Rattle.zs_events.specs.declared.publication.ReplyQuality.{ReplyQuality}
+use Rattle.zs_events.specs.declared.update.Update.{Update}
 use Rattle.zs_wire.specs.declared.message.Message.TheVariants.{Response as response_message}
 use Rattle.zs_core.specs.World.{World}
 use Rattle.zs_wire.specs.declared.response.Answered.{Answered}
 use Rattle.zs_wire.specs.declared.response.Answered.TheVariants.{Reply, Err as Error}
 use Rattle.zs_wire.specs.declared.response.Response.{Response}
-use Rattle.zs_wire.specs.declared.origin.SourceInfo.{SourceInfo}
-use Rattle.zs_wire.specs.declared.origin.Timestamp.{Timestamp}
-use Rattle.zs_wire.specs.declared.quality.CongestionControl.{CongestionControl}
 use Rattle.zs_query.specs.declared.query_value.QueryValue.{QueryValue}
 use Rattle.zs_query.specs.declared.requests.Finished.{Finished}
 use Rattle.zs_query.specs.declared.requests.Finished.TheVariants.{Unknown, MoreLeft, Last}

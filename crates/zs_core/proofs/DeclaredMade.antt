@@ -5,7 +5,7 @@ use Rattle.zs_keys.specs.Key.{Key as a_key}
 use Rattle.zs_sample.specs.declared.locality.Locality.{Locality}
 use Rattle.zs_wire.specs.declared.wire_expr.WireExpr.{WireExpr}
 use Rattle.zs_tables.specs.Numbers.{key_at, number_at}
-use Rattle.zs_events.specs.declared.event.Event.TheVariants.{Key, UndeclareKey, Sub, Pub, Queryable, Net}
+use Rattle.zs_events.specs.declared.event.Event.TheVariants.{Key, UndeclareKey, Sub, Pub, Queryable, Querier, Net}
 use Rattle.zs_events.specs.declared.chan.Chan.{Chan}
 use Rattle.zs_events.specs.declared.publication.PublisherSettings.{PublisherSettings}
 use Rattle.zs_events.specs.declared.key_arg.KeyArg.{KeyArg}

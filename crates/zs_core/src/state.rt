@@ -45,7 +45,8 @@ mod tokens;
 mod values;
 mod wires;
 
-/// A session: what the application declared, and the numbers that it draws next. It changes by `step` alone.
+/// A session: what the application declared, and the numbers that it draws next. It changes by `step` alone, or by `apply` with
+/// the change of a `plan`.
 /// Contracts see it as a `World` of plain lists and counters.
 #[derive(Drop)]
 pub struct SessionState {

@@ -1,5 +1,5 @@
 -- What is sent tells of no refusal and no sample handed to a subscriber, and its texts are plain.
-use Rattle.std.proofs.Common.{◌≡◌, ℕ, zero, suc, ◌==◌, ◌≤◌, ◌++◌, List, [], ◌∷◌, length, take, drop, map, filter, Bool, true, false, not, ◌&&◌, Option, Some, None, IfSome, refl, ◌∙◌, ap, subst, arith}
+use Rattle.std.proofs.Common.{◌≡◌, ℕ, zero, suc, ◌==◌, ◌≤◌, ◌++◌, List, [], ◌∷◌, length, take, drop, map, filter, Bool, true, false, not, ◌&&◌, Option, Some, None, IfSome, refl, sym, ◌∙◌, ap, subst, arith}
 use Rattle.std.specs.Prelude.{chars, if◌then◌else◌, is_some, nat_le, option_map, unwrap_or}
 use Rattle.std.specs.List.{AllByRecursion, list_all, starts_with}
 use Rattle.std.specs.Str.{IsUtf8}

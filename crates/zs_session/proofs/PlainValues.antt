@@ -19,8 +19,9 @@ use Rattle.zs_events.specs.declared.event.Event.{Event}
 use Rattle.zs_events.specs.declared.event.Event.TheVariants.{Get, QuerierGet, Undeclare, Net, Reply as reply_event, ReplyErr}
 use Rattle.zs_events.specs.declared.entity_kind.EntityKind.{EntityKind}
 use Rattle.zs_events.specs.declared.entity_kind.EntityKind.TheVariants.{Sub as sub_kind, Pub as pub_kind, Queryable as queryable_kind, Querier as querier_kind, Listener as listener_kind, Token as token_kind, Lsub as lsub_kind}
-use Rattle.zs_events.specs.Kinds.{Question, ToGets, NoGet, Asks, AsksBy, Answers, gets_ended, ToValues, Requested, AnswersBy, AnswersError, SharesValue, GivesBack, text_if, value_texts, response_key, response_texts, row_of}
+use Rattle.zs_events.specs.Kinds.{Question, ToGets, NoGet, Asks, AsksBy, Answers, gets_ended, ToValues, Requested, AnswersBy, AnswersError, SharesValue, GivesBack, value_texts, response_key, response_texts, row_of}
 use Rattle.zs_events.specs.declared.inquiry.Inquiry.{Inquiry}
+use Rattle.zs_events.specs.Updates.{texts_by}
 use Rattle.zs_core.specs.Entry.{Entry}
 use Rattle.zs_core.specs.declared.querier.QuerierRow.{QuerierRow}
 use Rattle.zs_core.specs.Queriers.{querier_at, asks_of, to_gets_by}
@@ -28,7 +29,7 @@ use Rattle.zs_core.specs.Live.{live_queryables, live_queriers, to_gets_of}
 use Rattle.zs_core.specs.Questions.{parameters_of, sent_value}
 use Rattle.zs_core.specs.Values.{met_by_get, met_by_request, get_request, network_request, share_of, drawn_by, news_by_draw, times_handed, handing_by, value_news, values_now}
 use Rattle.zs_core.specs.GetEffects.{hand_query}
-use Rattle.zs_script.specs.Plain.{is_plain, is_plain_text, is_field_text, is_plain_key, is_plain_named, is_plain_event}
+use Rattle.zs_script.specs.Plain.{is_plain, is_plain_text, is_field_text, is_plain_key, is_plain_named, is_plain_event, text_if}
 use Rattle.zs_driving.proofs.Progress.{all_append}
 use Rattle.zs_session.proofs.PlainKeys.{IsText, AllPlain, PlainPast, body_plain, field_text, last_plain, texts_plain, plain_encoding, default_plain, filter_all, found_all}
 use Rattle.zs_session.proofs.PlainParameters.{all_map, trimmed, parameters_text}

@@ -1,5 +1,5 @@
 -- A run of the session by lines, told of the script.
-use Rattle.std.proofs.Common.{◌≡◌, ℕ, List, Option, refl, sym, ◌∙◌, ap, subst}
+use Rattle.std.proofs.Common.{◌≡◌, ℕ, List, [], Option, refl, sym, ◌∙◌, ap, subst}
 use Rattle.std.specs.Prelude.{is_some, Result}
 use Rattle.zs_driving.specs.declared.driving.Driven.{Driven}
 use Rattle.zs_driving.specs.declared.errors.DriveError.{DriveError}

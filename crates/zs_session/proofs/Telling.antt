@@ -60,7 +60,8 @@ use Rattle.zs_session.proofs.PlainValues.{to_plain, does_plain, drawn_plain, val
 use Rattle.zs_session.proofs.PlainGets.{open_plain, told_quiet, request_quiet}
 use Rattle.zs_session.proofs.PlainAnswers.{value_quiet}
 use Rattle.zs_session.proofs.PlainLiveliness.{tokens_plain, watch_quiet}
-use Rattle.zs_session.proofs.Cutting.{ArePlain, all_append, lines_all}
+use Rattle.zs_driving.proofs.Progress.{all_append}
+use Rattle.zs_session.proofs.Cutting.{ArePlain, lines_all}
 
 -- the fields of each line of a turn
 abbrev pub turn_rows : Turn → List (List (List ℕ))

@@ -135,11 +135,11 @@ impl SessionState {
         ensures { IfOk result (λ row. listed row ≡ listening self.now.entities.pubs self.now.entities.queriers number (parent_kind_of parent) id) }
     {
         match parent {
-            ParentKind::Pub => match self.publishers.get(id) {
+            ParentKind::Pub => match self.live_publisher(id) {
                 Some(row) => on_pub(self.alloc, number, row),
                 None => Ok(None),
             },
-            ParentKind::Querier => match self.queriers.get(id) {
+            ParentKind::Querier => match self.live_querier(id) {
                 Some(row) => on_querier(self.alloc, number, row),
                 None => Ok(None),
             },

@@ -160,8 +160,8 @@ impl SessionState {
             return Ok(());
         }
         let sample = sample_of(self.alloc, resolved, content)?;
-        let sample = Shared::new(self.alloc, sample)?;
-        hand_to_all(effects, &ids, sample)
+        let shared = Shared::new(self.alloc, sample)?;
+        hand_to_all(effects, &ids, shared)
     }
 
     /// `recipients` with a counter of its own, which nobody reads.

@@ -1,7 +1,8 @@
 ghost use Rattle.std.specs.Prelude.{◌≡◌, true, IfOk, OnOk, OnErr};
 ghost use Rattle.zs_core.specs.Turns.{open_decision, published_decision};
 ghost use Rattle.zs_core.specs.Changes.{EntitiesFit, with_change};
-ghost use Rattle.zs_core.specs.Publishers.{prefix_of};
+ghost use Rattle.std.specs.Option.{option_copied};
+ghost use Rattle.zs_core.specs.Publishers.{prefix_of, pub_at};
 ghost use Rattle.zs_keys.specs.Key.{undeclared};
 ghost use Rattle.zs_keys.specs.Text.{is_canonical};
 
@@ -67,6 +68,13 @@ impl SessionState {
             row,
         )?;
         Ok(Decision::of(effects, Change::OfEntities(EntityChange::EndPub { id })))
+    }
+
+    /// The publisher of that number, if it is live.
+    pub(super) fn live_publisher(&self, id: u32) -> Option<&PubRow>
+        ensures { option_copied result ≡ pub_at id self.now.entities.pubs }
+    {
+        self.publishers.get(id)
     }
 
     /// What a publisher is told to publish goes out on its key, with its destination and qualities.

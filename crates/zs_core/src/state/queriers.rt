@@ -1,6 +1,7 @@
 //! Queriers, which share a network declaration by their keys.
 
 ghost use Rattle.std.specs.Prelude.{◌≡◌, Some, true, IfOk, OnOk, OnErr};
+ghost use Rattle.std.specs.Option.{option_copied};
 ghost use Rattle.zs_keys.specs.Key.{undeclared};
 ghost use Rattle.zs_keys.specs.Text.{is_canonical};
 ghost use Rattle.zs_core.specs.Turns.{open_decision};
@@ -63,6 +64,13 @@ impl SessionState {
         push_cut_gets(self.asking.gets(), Ender::Querier(id), &mut effects)?;
         let change = Change::OfEntities(EntityChange::EndQuerier { id });
         Ok(Decision::of(effects, change))
+    }
+
+    /// The querier of that number, if it is live.
+    pub(super) fn live_querier(&self, id: u32) -> Option<&QuerierRow>
+        ensures { option_copied result ≡ querier_at id self.now.entities.queriers }
+    {
+        self.queriers.get(id)
     }
 
     /// The declaration of a querier's key, where it was named by a declared one.

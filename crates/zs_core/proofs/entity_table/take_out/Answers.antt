@@ -19,3 +19,6 @@ pub returns-in-Err-clause-rows : goal.returns-in-Err-clause-rows
 returns-in-Err-clause-rows g c =
     let place = rw c.deref.ensures.value at c.in-Err.ensures in
     sym (filter_none (λ row. (g.R.Entity.shared row).id) c.args.id c.args.rows.now.items (missing (λ row. (g.R.Entity.shared row).id) c.args.id c.args.rows.now.items _ place))
+
+pub place_of-requires : goal.place_of-requires
+place_of-requires g c = rw c.deref.ensures.value c.requires

@@ -1,8 +1,8 @@
 use Rattle.zs_session.proofs.Retelling.{rules_are, behind_none, drives_script}
 use Rattle.zs_session.proofs.driving.drive_session.Goals as goal
 
-pub requires_of-drive_lines : goal.requires_of-drive_lines
-requires_of-drive_lines g c = behind_none c.args.settings.now c.args.session.now c.requires
+pub drive_lines-requires : goal.drive_lines-requires
+drive_lines-requires g c = behind_none c.args.settings.now c.args.session.now c.requires
 
 pub returns-clause-drives : goal.returns-clause-drives
 returns-clause-drives g c =

@@ -13,7 +13,8 @@ use Rattle.zs_core.proofs.state.SessionState.add_querier.Goals as goal
 pub add_to_group-requires-clause-new : goal.add_to_group-requires-clause-new
 add_to_group-requires-clause-new c =
     let id : c.args.row.id ≡ c.self.inside.next_entity = c.requires.0 ∙ sym (ap (λ (w : World). w.counters.entity) c.self.view_is) in
-    no_member c.self.inside.next_entity c.args.row.id c.args.row.key.text c.self.inside.groups.queriers c.self.invariant.querier_groups (omega (arith, id))
+    rw c.new-alone.ensures
+    (no_member c.self.inside.next_entity c.args.row.id c.args.row.key.text c.self.inside.groups.queriers c.self.invariant.querier_groups (omega (arith, id)))
 
 pub invariant_of-self-2 : goal.invariant_of-self-2
 invariant_of-self-2 c =
@@ -30,7 +31,7 @@ invariant_of-self-2 c =
       pub_groups = rw (ap (λ (gs : AllGroups). gs.publishers) c.in_ok-add_to_group.ensures.groups)
           (groups_weaker c.self.inside.next_entity (c.self.inside.next_entity + 1) c.self.inside.groups.publishers up c.self.invariant.pub_groups);
       querier_groups = rw (ap (λ (gs : AllGroups). gs.queriers) c.in_ok-add_to_group.ensures.groups)
-          (more_below c.self.inside.next_entity (c.self.inside.next_entity + 1) [] (querier_shared c.args.row) c.self.inside.groups.queriers up less c.self.invariant.querier_groups);
+          (more_below c.self.inside.next_entity (c.self.inside.next_entity + 1) c.new-alone.result (querier_shared c.args.row) c.self.inside.groups.queriers up less c.self.invariant.querier_groups);
       listening = rows_weaker (λ (l : Listener). l.row.id) c.self.inside.next_entity c.self.inside.matching.listeners c.self.invariant.listening;
       counted = c.self.invariant.counted;
     }

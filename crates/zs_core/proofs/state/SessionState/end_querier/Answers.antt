@@ -12,7 +12,7 @@ invariant_of-self c = record {
   queriers = rw c.remove.ensures (rows_less (λ (row : QuerierRow). row.id) c.self.inside.next_entity c.args.id _ c.self.invariant.queriers);
   sub_groups = rw c.leave_found.ensures c.self.invariant.sub_groups;
   pub_groups = rw c.leave_found.ensures c.self.invariant.pub_groups;
-  querier_groups = rw c.leave_found.ensures (less_below c.self.inside.next_entity [] _ _ c.self.invariant.querier_groups);
+  querier_groups = rw c.leave_found.ensures (less_below c.self.inside.next_entity c.new-alone.result _ _ c.self.invariant.querier_groups);
   listening = below_fewer c.self.inside.next_entity _ c.self.inside.matching _ c.end_of.ensures.kept c.self.invariant.listening;
   counted = counted_fewer c.self.inside.tables.rows c.self.inside.queryables _ c.self.inside.matching _ c.end_of.ensures.kept c.self.invariant.counted;
 }

@@ -19,9 +19,9 @@ returns-then-is_empty c =
 pub returns : goal.returns
 returns c =
     let sample = sample_on c.args.resolved.text c.args.content in
-    let all : hands_to c.in_ok-sample.sample c.deref.result.now
+    let all : hands_to c.in_ok-shared.shared c.deref.result.now
     ≡ hands (record { local = c.args.content.local; destination = c.args.content.destination; sample = sample }) c.args.self.now.entities.subs =
-    ap (hands_to c.in_ok-sample.sample) (c.deref.ensures.value ∙ c.in_ok-ids.ensures)
-    ∙ ap (λ s. hands_to s (reached c.args.content.local c.args.content.destination c.args.resolved.text c.args.self.now.entities.subs)) c.in_ok-sample.ensures
+    ap (hands_to c.in_ok-shared.shared) (c.deref.ensures.value ∙ c.in_ok-ids.ensures)
+    ∙ ap (λ s. hands_to s (reached c.args.content.local c.args.content.destination c.args.resolved.text c.args.self.now.entities.subs)) (c.in_ok-shared.ensures ∙ c.in_ok-sample.ensures)
     ∙ sym (reached_hands c.args.content.local c.args.content.destination sample c.args.self.now.entities.subs) in
     subst (λ (fx : List Effect). OnOk c.hand_to_all.result (c.hand_to_all.new.effects ≡ c.args.effects.now ++ fx)) all c.hand_to_all.ensures

@@ -11,10 +11,10 @@ pub returns-clause-text : goal.returns-clause-text
 returns-clause-text c =
     let waiting = c.args.transcript.now in
     let n = c.args.number in
-    let closed = c.is_closed.result in
+    let closed = c.is_closed-closed.result in
     at_ok c.add_read-added.result (λ is s h stands.
     let answer = answer_of s h c.args.kind c.args.id in
     is
     ∙ (ap (λ (o : Option (Received HandOver)). waiting ++ read_text n o closed)
     (answer_is s h c.args.kind c.args.id c.args.self.now.channels c.recv-answer.result stands.1 c.recv-answer.ensures.answer)
-    ∙ ap (λ (b : Bool). waiting ++ read_text n answer b) (c.is_closed.ensures.told s (core_of h) stands.0))) c.add_read-added.ensures.ok
+    ∙ ap (λ (b : Bool). waiting ++ read_text n answer b) (c.is_closed-closed.ensures.told s (core_of h) stands.0))) c.add_read-added.ensures.ok
