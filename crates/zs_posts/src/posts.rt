@@ -100,7 +100,7 @@ impl<H> Posts<H> {
     }
 
     /// What is true of all posts: those that were ended and have no pass out wait, and no other one does.
-    pub fn is_settled(&self)
+    pub fn tell_settled(&self)
         ensures { IsSettled self.now.rows self.now.ready }
     {
         let _ = &self.ready;

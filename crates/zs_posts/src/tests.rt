@@ -15,6 +15,9 @@ fn named(key: Key) -> Name {
     }
 }
 
+// What is behind a lock that threads share goes from one thread to another.
+fn crosses_threads<T: Send>(_value: &T) {}
+
 // A post that has a pass out is given out by its key alone, and one that has none once it was ended.
 #[test]
 fn ended_posts_are_given_out(rt: HostRuntime) -> Result<(), Fail> {
@@ -35,6 +38,7 @@ fn ended_posts_are_given_out(rt: HostRuntime) -> Result<(), Fail> {
         panic!(rt; "no passes");
     };
     assert!(rt; calls.len() == 1);
+    crosses_threads(&calls);
     posts.end(key);
     posts.end(other);
     let Some(first) = posts.next_ended() else {
@@ -45,5 +49,6 @@ fn ended_posts_are_given_out(rt: HostRuntime) -> Result<(), Fail> {
     assert!(rt; posts.holds(key) && !posts.holds(other));
     assert!(rt; posts.take_out(key).is_some());
     assert!(rt; !posts.holds(key));
+    crosses_threads(&posts);
     Ok(())
 }
