@@ -1,0 +1,67 @@
+-- What a call inside of its gates tells.
+use Rattle.std.specs.Prelude.{◌≡◌, Bool, true, false, ◌||◌, List, [], ◌∷◌, ◌++◌, Option, Some, None, option_map}
+use Rattle.std.specs.List.{AllByRecursion}
+use Rattle.atomic_table.specs.Seated.{TableId}
+use Rattle.zs_posts.specs.Passes.{LentSeen}
+use Rattle.zs_posts.specs.Calls.{passes_lents}
+use Rattle.zs_posts.specs.declared.call.Call.{Call}
+use Rattle.zs_posts.specs.declared.passes.Passes.{Passes}
+use Rattle.zs_hands.specs.declared.handed.Handed.{Handed}
+use Rattle.zs_hands.specs.declared.handed.Handed.TheVariants.{Called, Evicted, Skipped}
+use Rattle.zs_hands.specs.declared.handed.RanCall.{RanCall}
+
+-- a pass but for its note
+abbrev pub unnoted : LentSeen → LentSeen
+unnoted lent = record lent { noted = false }
+
+-- the pass that came back is the one that was lent
+abbrev pub AreSame : Option LentSeen → Option LentSeen → Type 0
+AreSame lent back = option_map unnoted lent ≡ option_map unnoted back
+
+-- there is a pass whose last step found its gate's mark
+abbrev pub is_noted : Option LentSeen → Bool
+is_noted None = false
+is_noted (Some lent) = lent.noted
+
+-- one of the gates gave its pass back
+abbrev pub is_any_noted : Passes → Bool
+is_any_noted p = is_noted p.session || (is_noted p.parent || (is_noted p.token || p.own.noted))
+
+-- the passes are those of before
+pub record AreBack (lent back : Passes) : Type 0 where
+  pub session : AreSame lent.session back.session
+  pub parent : AreSame lent.parent back.parent
+  pub token : AreSame lent.token back.token
+  pub own : unnoted lent.own ≡ unnoted back.own
+
+module _ {T D : Type 0} where
+  -- the handler was called unless a gate gave its pass back, and then the item comes back
+  abbrev pub IsFor : T → Bool → Handed T D → Type 0
+  IsFor item noted (Called done) = noted ≡ false
+  IsFor item noted (Evicted other done) = noted ≡ false
+  IsFor item noted (Skipped back) = (noted ≡ true) × (back ≡ item)
+
+  -- what a call with that item and those passes tells
+  pub record Answers (item : T) (lent : Passes) (ran : RanCall T D) : Type 0 where
+    pub report : IsFor item (is_any_noted ran.passes) ran.report
+    pub passes : AreBack lent ran.passes
+
+  -- of calls in turn
+  abbrev pub AnswersAll : {H : Type 0} → List (Call H T) → List (RanCall T D) → Type 0
+  AnswersAll [] [] = Unit {0}
+  AnswersAll [] (ran ∷ more) = ⊥
+  AnswersAll (call ∷ calls) [] = ⊥
+  AnswersAll (call ∷ calls) (ran ∷ more) = Answers call.item call.passes ran × AnswersAll calls more
+
+  -- all passes of calls that ran, and what they told
+  abbrev pub ran_lents : List (RanCall T D) → List LentSeen
+  ran_lents [] = []
+  ran_lents (ran ∷ more) = passes_lents ran.passes ++ ran_lents more
+
+  abbrev pub reports_of : List (RanCall T D) → List (Handed T D)
+  reports_of [] = []
+  reports_of (ran ∷ more) = ran.report ∷ reports_of more
+
+-- all passes of a room
+abbrev pub AreOfRoom : TableId → List LentSeen → Type 0
+AreOfRoom room lents = AllByRecursion (λ l. l.room ≡ room) lents
