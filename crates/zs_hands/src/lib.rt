@@ -15,6 +15,3 @@ mod run;
 pub use ending::{Closing, Ending};
 pub use handed::{Handed, RanCall};
 pub use hands::{Hands, HandsRoom, Ran};
-
-#[cfg(test)]
-mod tests;
