@@ -1,0 +1,84 @@
+//! Which handlers a turn calls, and with what.
+ghost use Rattle.std.specs.Prelude.{◌≡◌, [], ◌++◌, IfOk, OnOk};
+ghost use Rattle.zs_turns.specs.Calls.{hand_key, hand_item, wanted_by, wanted_of};
+
+use crate::item::Item;
+use crate::query::Query;
+use std::alloc::{AllocError, Global};
+use zs_events::{Effect, HandOver, Kind};
+use zs_posts::{Key, Wanted};
+use zs_sample::MatchingStatus;
+
+/// The gate of the handler that is called with the hand-over.
+fn hand_key(item: &HandOver) -> Key
+    ensures { result ≡ hand_key item.now }
+{
+    match item {
+        HandOver::Sample { kind, id, .. } => Key::Of(*kind, *id),
+        HandOver::Reply { kind, id, .. } => Key::Of(*kind, *id),
+        HandOver::Query { id, .. } => Key::Of(Kind::Queryable, *id),
+    }
+}
+
+/// What is handed with the hand-over of a session with that tag.
+fn hand_item(alloc: Global, tag: u64, item: &HandOver) -> Result<Item, AllocError>
+    ensures { IfOk result (λ made. made ≡ hand_item tag item.now) }
+{
+    match item {
+        HandOver::Sample { sample, .. } => {
+            let sample = sample.try_clone()?;
+            Ok(Item::Sample(sample))
+        }
+        HandOver::Reply { reply, .. } => {
+            let reply = reply.try_clone()?;
+            Ok(Item::Reply(reply))
+        }
+        HandOver::Query { value, query, .. } => {
+            let query = Query::of(alloc, tag, *value, query.get())?;
+            Ok(Item::Query(query))
+        }
+    }
+}
+
+/// Adds what the effect wants of the handler that it calls, if it calls one.
+fn add_wanted(
+    alloc: Global,
+    tag: u64,
+    effect: &Effect,
+    all: &mut Vec<Wanted<Item>>,
+) -> Result<(), AllocError>
+    ensures { OnOk result (all.new.items ≡ all.old.items ++ wanted_by tag effect.now) }
+{
+    match effect {
+        Effect::Hand(item) => {
+            let key = hand_key(item);
+            let item = hand_item(alloc, tag, item)?;
+            all.push(Wanted { key, item })?;
+            Ok(())
+        }
+        Effect::Matching { id, matching } => {
+            let key = Key::Of(Kind::Listener, *id);
+            let item = Item::Matching(MatchingStatus::of(*matching));
+            all.push(Wanted { key, item })?;
+            Ok(())
+        }
+        _ => Ok(()),
+    }
+}
+
+/// What the effects of a session with that tag want of the handlers that they call, in order. Samples and replies stay in
+/// their places; of a query only the payload and the attachment do, since a queryable may change what it was handed.
+///
+/// # Errors
+///
+/// Want of memory alone.
+#[tactic(auto, unfolding(crate::specs::Calls::wanted_of))]
+pub fn wanted(alloc: Global, tag: u64, effects: &[Effect]) -> Result<Vec<Wanted<Item>>, AllocError>
+    ensures { IfOk result (λ all. all.items ≡ wanted_of tag effects.now) }
+{
+    let mut all = Vec::new(alloc);
+    for effect in effects {
+        add_wanted(alloc, tag, effect, &mut all)?;
+    }
+    Ok(all)
+}
