@@ -1,0 +1,26 @@
+-- What was prepared and then finished was carried out.
+use Rattle.std.proofs.Common.{◌≡◌, ℕ, List, ◌∷◌, Option, refl, sym, ap, ◌∙◌, subst}
+use Rattle.std.specs.Prelude.{is_some}
+use Rattle.zs_events.specs.declared.event.Event.{Event}
+use Rattle.zs_events.specs.declared.turn.Turn.{Turn}
+use Rattle.zs_posts.specs.declared.key.Key.{Key}
+use Rattle.zs_posts.specs.declared.key.Name.{Name}
+use Rattle.zs_posts.specs.declared.call.Wanted.{Wanted}
+use Rattle.zs_posts.specs.Settled.{PostsSeen}
+use Rattle.zs_posts.specs.Calls.{CallSeen}
+use Rattle.zs_turns.specs.declared.item.Item.{Item}
+use Rattle.zs_turns.specs.Calls.{wanted_of}
+use Rattle.zs_turns.specs.Gates.{opened_at}
+use Rattle.zs_exchange.specs.Begun.{Begun, Begins, ended_all}
+use Rattle.zs_exchange.specs.Exchange.{ExchangeSeen, Prepares, Carries}
+
+was_begun : {H T : Type 0} {name : Option Name} {handler : Option H} {wanted : List (Wanted T)} {first : PostsSeen H} {calls : List (CallSeen H T)} {now : PostsSeen H} → Begins name handler wanted first calls now → Begun name handler wanted first calls now
+was_begun b = record { opened = b.opened; opens = b.opens; turn = b.turn }
+
+module _ {H : Type 0} {e : Event} {turn : Turn} {handler : Option H} {place : ℕ} {first : ExchangeSeen H} {name : Option Name} {calls : List (CallSeen H Item)} {before : ℕ} {ends : List Key} {now : ExchangeSeen H} (p : Prepares e turn handler place first name calls before ends now) where
+  pub carried : (new : ExchangeSeen H) → new ≡ record now { posts = ended_all ends now.posts } → Carries e turn handler place first calls new
+  carried new is = record {
+    between = now.posts;
+    begun = subst (λ (n : Option Name). Begun n handler (wanted_of first.tag turn.effects) first.posts calls now.posts) p.name_is (was_begun p.begins);
+    rest = is ∙ (λ i. record (p.rest i) { posts = ended_all (p.ends_are i) now.posts });
+  }

@@ -1,0 +1,3 @@
+pub mod Carrying
+mod Preparing
+pub mod Undoing

@@ -1,0 +1,50 @@
+-- What a cell makes of an event, from what the core and the exchange promise.
+use Rattle.std.proofs.Common.{◌≡◌, ℕ, true, List, [], ◌∷◌, ◌++◌, length, Option, refl, sym, ap, ◌∙◌, subst}
+use Rattle.zs_events.specs.declared.event.Event.{Event}
+use Rattle.zs_events.specs.declared.turn.Turn.{Turn}
+use Rattle.zs_core.specs.declared.settings.Settings.{Settings}
+use Rattle.zs_core.specs.declared.change.Decision.{Decision}
+use Rattle.zs_core.specs.World.{World}
+use Rattle.zs_core.specs.Changes.{with_change}
+use Rattle.zs_core.specs.Plans.{Plans}
+use Rattle.zs_posts.specs.Calls.{CallSeen}
+use Rattle.zs_turns.specs.declared.item.Item.{Item}
+use Rattle.zs_exchange.specs.Exchange.{ExchangeSeen, Carries, Overdrawn}
+use Rattle.zs_session_cell.specs.declared.entry.Entry.{Entry}
+use Rattle.zs_session_cell.specs.Core.{turn_at, Stepped}
+use Rattle.zs_session_cell.specs.Cells.{CellSeen, Takes, IsFull}
+use Rattle.zs_session_cell.specs.Journals.{history, IsKept, SessionSeen, Advances, IsOverdrawn}
+use Rattle.zs_session_cell.proofs.Core.{plan_previews, plan_steps, step_turn, preview_turn}
+use Rattle.zs_session_cell.proofs.Keeping.{kept_more}
+
+module _ {H : Type 0} {w : World} {e : Event} {d : Decision} (plans : Plans w e d) where
+  pub takes : (handler : Option H) (place : ℕ) (x now : ExchangeSeen H) (calls : List (CallSeen H Item)) (core : World) → core ≡ with_change d.change w → Carries e d.turn handler place x calls now
+      → Takes e handler place (record { world = w; exchange = x }) d.turn calls (record { world = core; exchange = now })
+  takes handler place x now calls core is carries = record { steps = plan_steps plans core is; refuses = λ r. is ∙ plans.refuses r; carries = carries }
+
+  pub is_full : (handler : Option H) (place : ℕ) (x : ExchangeSeen H) → Overdrawn e d.turn handler place x → IsFull e handler place (record { world = w; exchange = x })
+  is_full handler place x drawn = record { turn = d.turn; previews = plan_previews plans; overdrawn = drawn }
+
+abbrev pub session_seen : {H : Type 0} → Settings → List Entry → ExchangeSeen H → SessionSeen H
+session_seen s journal x = record { settings = s; journal = journal; exchange = x }
+
+abbrev pub entry_of : Event → Turn → Entry
+entry_of e turn = record { event = e; turn = turn }
+
+module _ {H : Type 0} (s : Settings) (journal : List Entry) (old : CellSeen H) (e : Event) (handler : Option H) (place : ℕ) (kept : IsKept old.world s journal) (place_is : place ≡ length journal) where
+  pub kept_now : (new : CellSeen H) (turn : Turn) (calls : List (CallSeen H Item)) → Takes e handler place old turn calls new → IsKept new.world s (journal ++ entry_of e turn ∷ [])
+  kept_now new turn calls t = kept_more old.world new.world s journal (entry_of e turn) kept t.steps
+
+  pub advances : (new : CellSeen H) (turn : Turn) (calls : List (CallSeen H Item)) → Takes e handler place old turn calls new
+      → Advances e handler (session_seen s journal old.exchange) turn calls (session_seen s (journal ++ entry_of e turn ∷ []) new.exchange)
+  advances new turn calls t = record {
+    turn_is = step_turn old.world new.world e turn s (history [] journal) t.steps kept.stands;
+    journal_is = refl;
+    carries = subst (λ (p : ℕ). Carries e turn handler p old.exchange calls new.exchange) place_is t.carries;
+    settings_is = refl;
+  }
+
+  pub overdrawn_in : IsFull e handler place old → IsOverdrawn e handler (session_seen s journal old.exchange)
+  overdrawn_in full =
+      subst (λ (p : ℕ). Overdrawn e (turn_at s (history [] journal) e) handler p old.exchange) place_is
+      (subst (λ (turn : Turn). Overdrawn e turn handler place old.exchange) (preview_turn old.world e full.turn s (history [] journal) full.previews kept.stands) full.overdrawn)

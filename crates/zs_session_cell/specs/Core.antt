@@ -1,0 +1,25 @@
+-- Words for what the core promises. They are those of the core under names of their own, so that nothing that cites them looks into the
+-- core's definitions.
+use Rattle.std.specs.Prelude.{List}
+use Rattle.zs_events.specs.declared.event.Event.{Event}
+use Rattle.zs_events.specs.declared.turn.Turn.{Turn}
+use Rattle.zs_core.specs.declared.settings.Settings.{Settings}
+use Rattle.zs_core.specs.World.{World}
+use Rattle.zs_core.specs.Effects.{effects}
+use Rattle.zs_core.specs.Stands.{Stands, Previews, Steps}
+
+-- the turn of an event behind a history
+unfoldable pub turn_at : Settings → List Event → Event → Turn
+turn_at s h e = effects s h e
+
+-- a state stands for settings and a history
+unfoldable pub StandsFor : World → Settings → List Event → Type 0
+StandsFor w s h = Stands w s h
+
+-- a turn is that of an event behind whatever history the state stands for
+unfoldable pub Previewed : World → Event → Turn → Type 0
+Previewed w e turn = Previews w e turn
+
+-- and the new state stands for that history with the event
+unfoldable pub Stepped : World → World → Event → Turn → Type 0
+Stepped old new e turn = Steps old new e turn
