@@ -154,6 +154,7 @@ impl Source for MemorySource {
         ensures ended { result ≡ Ok 0 → 0 < length into.new → HoldsNothing (Some self.old.left) }
         ensures kept { OnErr result (self.new.left ≡ self.old.left) }
         ensures later { self.old.faults ≤ self.new.faults }
+        ensures calm { OnOk result (self.new.faults ≡ self.old.faults) }
         ensures failed { OnErr result (HasRisen self.old.faults self.new.faults) }
         ensures listed { IsErr result ↔ IsFailingRead self.old }
         ensures unlisted { ¬ IsFailingRead self.old → self.new.faults ≡ self.old.faults }
@@ -257,6 +258,7 @@ impl Sink for MemorySink {
         ensures taken { IfOk result (λ count. PutsOn (Some self.old.written) (take count piece.now) (Some self.new.written)) }
         ensures kept { OnErr result (PutsOn (Some self.old.written) [] (Some self.new.written)) }
         ensures later { self.old.faults ≤ self.new.faults }
+        ensures calm { IfOk result (λ count. 0 < count → self.new.faults ≡ self.old.faults) }
         ensures failed { OnErr result (HasRisen self.old.faults self.new.faults) }
         ensures stuck { result ≡ Ok 0 → 0 < length piece.now → HasRisen self.old.faults self.new.faults }
         ensures fails_listed { IsFailingWrite self.old → IsErr result }

@@ -1,6 +1,6 @@
 //! Where bytes come from and go to, with a count of what went wrong.
 
-ghost use Rattle.std.specs.Prelude.{◌≡◌, ℕ, ◌<◌, ◌≤◌, List, [], length, take, Option, None, IfOk, OnErr};
+ghost use Rattle.std.specs.Prelude.{◌≡◌, ℕ, ◌<◌, ◌≤◌, List, [], length, take, Option, None, IfOk, OnOk, OnErr};
 ghost use Rattle.zs_keys.specs.Stream.{HasRisen, TakesOff, PutsOn, HoldsNothing, count_after, pieces_after};
 
 /// A read or a write that failed. The count of faults of its source or sink has risen.
@@ -31,6 +31,7 @@ pub trait Source {
         ensures counted { reads self.new ≡ count_after (reads self.old) 1 }
         ensures given { pieces self.new ≡ pieces_after (pieces self.old) result }
         ensures later { faults self.old ≤ faults self.new }
+        ensures calm { OnOk result (faults self.new ≡ faults self.old) }
         ensures failed { OnErr result (HasRisen (faults self.old) (faults self.new)) };
 }
 
@@ -49,6 +50,7 @@ pub trait Sink {
         ensures taken { IfOk result (λ count. PutsOn (written self.old) (take count piece.now) (written self.new)) }
         ensures kept { OnErr result (PutsOn (written self.old) [] (written self.new)) }
         ensures later { faults self.old ≤ faults self.new }
+        ensures calm { IfOk result (λ count. 0 < count → faults self.new ≡ faults self.old) }
         ensures failed { OnErr result (HasRisen (faults self.old) (faults self.new)) }
         ensures stuck { result ≡ Ok 0 → 0 < length piece.now → HasRisen (faults self.old) (faults self.new) };
 }

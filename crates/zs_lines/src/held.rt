@@ -96,6 +96,7 @@ impl Held {
         ensures err { IfErr result (λ error. (error ≡ LineError.ReadFault) ⊎ (error ≡ LineError.NoMemory)) }
         ensures read_fault { result ≡ Err LineError.ReadFault → HasRisen (S.faults source.old) (S.faults source.new) }
         ensures later { S.faults source.old ≤ S.faults source.new }
+        ensures calm { OnOk result (S.faults source.new ≡ S.faults source.old) }
     {
         self.close_up();
         self.bytes.reserve(PIECE)?;

@@ -190,6 +190,7 @@ impl LineReader {
         ensures read_fault { result ≡ Err LineError.ReadFault → HasRisen (S.faults source.old) (S.faults source.new) }
         ensures other { (n : ℕ) → result ≢ Err (LineError.LineTooLong n) }
         ensures later { S.faults source.old ≤ S.faults source.new }
+        ensures calm { result ≢ Err LineError.ReadFault → S.faults source.new ≡ S.faults source.old }
     {
         if self.turns == 0 {
             return Err(LineError::OutOfTurns);
@@ -222,6 +223,7 @@ impl LineReader {
             → S.reads source.new ≡ count_after (S.reads source.old) (self.old.turns - self.new.turns + 1) }
         ensures read_fault { result ≡ Err LineError.ReadFault → HasRisen (S.faults source.old) (S.faults source.new) }
         ensures later { S.faults source.old ≤ S.faults source.new }
+        ensures calm { result ≢ Err LineError.ReadFault → S.faults source.new ≡ S.faults source.old }
         ensures work { IfOk result (λ found. OnSome found (work self.new < work self.old)) }
     {
         'reads: loop {

@@ -1,4 +1,4 @@
-ghost use Rattle.std.specs.Prelude.{◌≤◌, OnOk, OnErr};
+ghost use Rattle.std.specs.Prelude.{◌≡◌, ◌≤◌, OnOk, OnErr};
 ghost use Rattle.zs_keys.specs.Stream.{HasRisen, PutsOn};
 ghost use Rattle.zs_lines.specs.Writing.{PutsFrontOn};
 
@@ -15,6 +15,7 @@ pub fn write_whole<K: Sink>(sink: &mut K, piece: &[u8]) -> Result<(), WriteFault
     ensures part { PutsFrontOn (K.written sink.old) piece.now (K.written sink.new) }
     ensures fault { OnErr result (HasRisen (K.faults sink.old) (K.faults sink.new)) }
     ensures later { K.faults sink.old ≤ K.faults sink.new }
+    ensures calm { OnOk result (K.faults sink.new ≡ K.faults sink.old) }
 {
     let mut rest = piece;
     while !rest.is_empty() {

@@ -1,4 +1,4 @@
-use Rattle.std.proofs.Common.{◌++◌, take, arith}
+use Rattle.std.proofs.Common.{◌∙◌, ◌++◌, take, arith}
 use Rattle.zs_lines.proofs.Pieces.{both-pieces, cut-again}
 use Rattle.zs_lines.proofs.writing.write_whole.Goals as goal
 
@@ -12,5 +12,5 @@ loop-rest-preserved g c =
         cut-again c.args.piece.now put.0 rest c.behind-rest.result.now count put.1 c.behind-rest.ensures,
         both-pieces _ _ _ put.0 (take count rest) put.2 c.in-Ok.ensures.taken,
       ),
-      omega (arith, c.in-Ok.ensures.later),
+      c.in-Ok.ensures.calm (omega (arith, c.if-count-eq0.false)) ∙ c.loop-rest.invariant.1,
     )

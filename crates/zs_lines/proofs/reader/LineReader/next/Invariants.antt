@@ -21,7 +21,7 @@ invariant-reads g l = record {
   seen : l.fn.self.ended ≡ false → l.self.ended ≡ true
       → g.S.Source.reads l.source ≡ count_after (g.S.Source.reads l.fn.source) (l.fn.self.turns - l.self.turns + 1);
   less : work l.self ≤ work l.fn.self;
-  later : g.S.Source.faults l.fn.source ≤ g.S.Source.faults l.source;
+  calm : g.S.Source.faults l.source ≡ g.S.Source.faults l.fn.source;
 }
 
 abbrev pub decreases-reads : goal.decreases-reads
