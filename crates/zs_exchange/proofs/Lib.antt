@@ -1,3 +1,5 @@
 pub mod Carrying
+pub mod Handlers
 mod Preparing
+pub mod Rooms
 pub mod Undoing

@@ -1,3 +1,4 @@
 pub mod Begun
 pub mod Exchange
 pub mod Ends
+pub mod Handlers

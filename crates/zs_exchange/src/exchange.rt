@@ -11,6 +11,7 @@ ghost use Rattle.zs_exchange.specs.Ends.{IsIdle, GivesOut, AreOf};
 ghost use Rattle.zs_posts.specs.Lending.{returned_all};
 ghost use Rattle.zs_posts.specs.Calls.{call_seen, all_lents};
 ghost use Rattle.zs_exchange.specs.Begun.{ended_all};
+ghost use Rattle.zs_exchange.specs.Handlers.{AreGates};
 ghost use Rattle.zs_exchange.specs.Exchange.{ExchangeSeen, Prepares, Overdrawn, IsNew};
 
 use crate::beginning::{begin, end_all, undo};
@@ -39,6 +40,7 @@ pub struct Exchange<H> {
 }
 
 impl<H> Model for Exchange<H> {
+    ghost use Rattle.zs_exchange.specs.Handlers.{AreGates};
     ghost use Rattle.zs_exchange.specs.Exchange.{ExchangeSeen};
 
     ghost Value = { ExchangeSeen H };
@@ -65,7 +67,8 @@ impl<H: Drop> Exchange<H> {
     ///
     /// Want of memory alone.
     pub fn new(alloc: Global, tag: u64, keeps: bool) -> Result<Exchange<H>, AllocError>
-        ensures { IfOk result (λ new. IsNew tag keeps new) }
+        ensures new { IfOk result (λ new. IsNew tag keeps new) }
+        ensures gates { IfOk result (λ new. AreGates new.posts.rows) }
     {
         let mut posts = Posts::new(alloc)?;
         let name = Name {
@@ -192,6 +195,7 @@ impl<H: Drop> Exchange<H> {
         requires { AreOfRoom self.old.posts.room (ran_lents ran.ran.items) }
         ensures reports { result.items ≡ reports_of ran.ran.items }
         ensures posts { self.new ≡ record self.old { posts = all_given_back (ran_lents ran.ran.items) self.old.posts } }
+        ensures room { self.new.posts.room ≡ self.old.posts.room }
     {
         ran.give_back(&mut self.posts)
     }
@@ -201,6 +205,7 @@ impl<H: Drop> Exchange<H> {
         ensures some { IfSome result (λ ending. GivesOut self.old.posts (option_map arc_value ending.handler) ending.drained self.new.posts) }
         ensures none { IfNone result (IsIdle self.old.posts × (self.new.posts ≡ self.old.posts)) }
         ensures rest { self.new ≡ record self.old { posts = self.new.posts } }
+        ensures room { self.new.posts.room ≡ self.old.posts.room }
     {
         match self.posts.next_ended() {
             Some(post) => Some(Ending::of(post)),

@@ -1,5 +1,5 @@
 -- The journal of a session, and what a session's cell makes of an event with it.
-use Rattle.std.specs.Prelude.{◌≡◌, List, [], ◌∷◌, ◌++◌, length, Option, None, if◌then◌else◌}
+use Rattle.std.specs.Prelude.{◌≡◌, ℕ, Bool, List, [], ◌∷◌, ◌++◌, length, Option, None, if◌then◌else◌}
 use Rattle.zs_events.specs.declared.event.Event.{Event}
 use Rattle.zs_events.specs.declared.turn.Turn.{Turn}
 use Rattle.zs_events.specs.Turn.{was_refused}
@@ -10,7 +10,7 @@ use Rattle.zs_posts.specs.Settled.{PostsSeen}
 use Rattle.zs_posts.specs.declared.call.Call.{Call}
 use Rattle.zs_turns.specs.declared.item.Item.{Item}
 use Rattle.zs_session_cell.specs.declared.entry.Entry.{Entry}
-use Rattle.zs_session_cell.specs.Core.{turn_at, StandsFor}
+use Rattle.zs_session_cell.specs.Core.{turn_at, closed_at, taken_at, StandsFor}
 use Rattle.zs_exchange.specs.Exchange.{ExchangeSeen, Carries, Overdrawn}
 
 -- the events of a journal, the newest first, behind those that were before it
@@ -34,9 +34,10 @@ pub record SessionSeen (H : Type 0) : Type 0 where
   pub journal : List Entry
   pub exchange : ExchangeSeen H
 
--- a turn, the calls that are to be made of it, and the handler that is to go back
+-- a turn, the same turn for whoever tells of it later, the calls that are to be made of it, and the handler that is to go back
 pub record HandingSeen (H : Type 0) : Type 0 where
   pub turn : Turn
+  pub spare : Option Turn
   pub calls : List (Call H Item)
   pub back : Option H
 
@@ -48,6 +49,13 @@ module _ {H : Type 0} where
   -- the turn of an event behind a session's journal
   abbrev pub turn_in : SessionSeen H → Event → Turn
   turn_in session e = turn_at session.settings (history [] session.journal) e
+
+  -- whether a session was closed, and whether a cancellation token was taken, by its journal
+  abbrev pub closed_in : SessionSeen H → Bool
+  closed_in session = closed_at session.settings (history [] session.journal)
+
+  abbrev pub taken_in : SessionSeen H → ℕ → Bool
+  taken_in session token = taken_at token session.settings (history [] session.journal)
 
   -- an event was taken into the core and the journal of a session
   pub record Advances (e : Event) (handler : Option H) (old : SessionSeen H) (turn : Turn) (calls : List (CallSeen H Item)) (new : SessionSeen H) : Type 0 where

@@ -17,6 +17,7 @@ use zs_turns::Item;
 /// has one runs it.
 pub struct Handing<H, D> {
     pub(crate) turn: Shared<Turn>,
+    pub(crate) spare: Option<Shared<Turn>>,
     pub(crate) hands: Hands<H, Item, D>,
     pub(crate) back: Option<Arc<H>>,
 }
@@ -28,7 +29,7 @@ impl<H, D> Model for Handing<H, D> {
 
     ghost Value = { HandingSeen H };
 
-    ghost view = { λ h. record { turn = h.turn; calls = h.hands.calls.items; back = option_map arc_value h.back } };
+    ghost view = { λ h. record { turn = h.turn; spare = h.spare; calls = h.hands.calls.items; back = option_map arc_value h.back } };
 }
 
 impl<H: Drop, D: Drop> Handing<H, D> {
@@ -47,6 +48,14 @@ impl<H: Drop, D: Drop> Handing<H, D> {
         self.back.take()
     }
 
+    /// The turn, in the place where the session's journal has it, at the first asking: for whoever tells of it later.
+    pub fn spare_turn(&mut self) -> Option<Shared<Turn>>
+        ensures turn { result ≡ self.old.spare }
+        ensures rest { self.new ≡ record self.old { spare = None } }
+    {
+        self.spare.take()
+    }
+
     /// Makes each call inside of its gates, in the order of the turn. It takes no memory.
     pub fn run<R: Wait>(self, rt: &R) -> Ran<Item, D>
     where
@@ -54,8 +63,14 @@ impl<H: Drop, D: Drop> Handing<H, D> {
         ensures calls { AnswersAll self.calls result.ran.items }
         ensures room { (room : TableId) → AreOfRoom room (all_lents (map call_seen self.calls)) → AreOfRoom room (ran_lents result.ran.items) }
     {
-        let Handing { turn, hands, back } = self;
+        let Handing {
+            turn,
+            spare,
+            hands,
+            back,
+        } = self;
         drop(turn);
+        drop(spare);
         drop(back);
         hands.run(rt)
     }
@@ -65,8 +80,14 @@ impl<H: Drop, D: Drop> Handing<H, D> {
         requires { self.calls ≡ [] }
         ensures { result ≡ self.turn }
     {
-        let Handing { turn, hands, back } = self;
+        let Handing {
+            turn,
+            spare,
+            hands,
+            back,
+        } = self;
         hands.let_go();
+        drop(spare);
         drop(back);
         turn
     }

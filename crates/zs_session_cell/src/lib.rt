@@ -4,10 +4,12 @@
 
 pub use entry::Entry;
 pub use handing::Handing;
+pub use no_handler::NoHandler;
 pub use session_cell::{NotTaken, SessionCell};
 pub use state::{CellState, Taken};
 
 mod entry;
 mod handing;
+mod no_handler;
 mod session_cell;
 mod state;

@@ -1,5 +1,5 @@
 //! The cell of a session with its journal.
-ghost use Rattle.std.specs.Prelude.{◌≡◌, ◌↔◌, [], None, IsTrue, IfSome, IfNone, ◌++◌, true, is_some, map, option_map, IfOk, IfErr, OnErr};
+ghost use Rattle.std.specs.Prelude.{◌≡◌, ◌↔◌, [], None, IsTrue, IfSome, IfNone, ◌++◌, true, is_some, map, option_map, IfOk, IfErr, Some, OnOk, OnErr};
 ghost use Rattle.std.specs.Arc.{arc_value};
 ghost use Rattle.std.specs.Option.{option_to_list};
 ghost use Rattle.zs_turns.specs.Gates.{takes_handler};
@@ -8,8 +8,9 @@ ghost use Rattle.zs_hands.specs.Answers.{AreOfRoom, ran_lents, reports_of};
 ghost use Rattle.zs_exchange.specs.Exchange.{IsNew};
 ghost use Rattle.zs_exchange.specs.Ends.{IsIdle, GivesOut, AreOf};
 ghost use Rattle.zs_core.specs.Settings.{is_valid};
-ghost use Rattle.zs_session_cell.specs.Journals.{session_with, Advances, Follows, IsOverdrawn, handler_back};
-ghost use Rattle.zs_posts.specs.Calls.{call_seen};
+ghost use Rattle.zs_exchange.specs.Handlers.{AreGates, NoneHeld};
+ghost use Rattle.zs_session_cell.specs.Journals.{session_with, Advances, Follows, IsOverdrawn, handler_back, closed_in, taken_in};
+ghost use Rattle.zs_posts.specs.Calls.{call_seen, all_lents};
 
 use crate::entry::Entry;
 use crate::handing::Handing;
@@ -21,7 +22,7 @@ use zs_core::Settings;
 use zs_events::{Event, Turn};
 use zs_gate::NoPass;
 use zs_hands::{Closing, Ending, Handed, Hands, Ran};
-use zs_posts::Key;
+use zs_posts::{Key, Room};
 use zs_shared::Shared;
 use zs_turns::Item;
 use zs_wire::Message;
@@ -53,9 +54,10 @@ pub struct NotTaken<H> {
     pub handler: Option<Arc<H>>,
 }
 
-// A turn with the calls that are to be made.
+// A turn, twice, with the calls that are to be made.
 struct Advanced<H, D> {
     turn: Shared<Turn>,
+    spare: Shared<Turn>,
     hands: Hands<H, Item, D>,
 }
 
@@ -86,6 +88,7 @@ impl<H: Drop> SessionCell<H> {
         ensures settings { IfOk result (λ new. new.settings ≡ settings.now) }
         ensures journal { IfOk result (λ new. new.journal ≡ []) }
         ensures exchange { IfOk result (λ new. IsNew settings.now.tag keeps new.exchange) }
+        ensures gates { IfOk result (λ new. AreGates new.exchange.posts.rows) }
     {
         let copy = settings.try_clone(alloc)?;
         let cell = CellState::new(alloc, settings, keeps)?;
@@ -110,15 +113,26 @@ impl<H: Drop> SessionCell<H> {
         requires { is_some handler ≡ true → takes_handler event ≡ true }
         ensures ok { IfOk result (λ given. Advances event (option_map arc_value handler) self.old given.turn (map call_seen given.calls) self.new) }
         ensures refused { IfOk result (λ given. given.back ≡ handler_back given.turn (option_map arc_value handler)) }
+        ensures spare { IfOk result (λ given. given.spare ≡ Some given.turn) }
+        ensures lents { IfOk result (λ given. AreOfRoom self.old.exchange.posts.room (all_lents (map call_seen given.calls))) }
+        ensures none { IfOk result (λ given. NoneHeld (option_map arc_value handler) self.old.exchange.posts → given.calls ≡ []) }
+        ensures gates { OnOk result (NoneHeld (option_map arc_value handler) self.old.exchange.posts → AreGates self.new.exchange.posts.rows) }
+        ensures room { self.new.exchange.posts.room ≡ self.old.exchange.posts.room }
         ensures back { IfErr result (λ refused. (refused.event ≡ event) × (refused.handler ≡ handler)) }
         ensures full { IfErr result (λ refused. refused.why ≡ NoPass.Full → IsOverdrawn event (option_map arc_value handler) self.old) }
+        ensures held { IfErr result (λ refused. refused.why ≡ NoPass.Full → NoneHeld (option_map arc_value handler) self.old.exchange.posts → ⊥) }
         ensures err { OnErr result (self.new ≡ self.old) }
     {
         match self.advance(&event, &handler) {
             Ok(taken) => {
-                let Advanced { turn, hands } = taken;
+                let Advanced { turn, spare, hands } = taken;
                 let back = back_of(turn.get(), handler);
-                Ok(Handing { turn, hands, back })
+                Ok(Handing {
+                    turn,
+                    spare: Some(spare),
+                    hands,
+                    back,
+                })
             }
             Err(why) => Err(NotTaken {
                 why,
@@ -135,7 +149,13 @@ impl<H: Drop> SessionCell<H> {
         handler: &Option<Arc<H>>,
     ) -> Result<Advanced<H, D>, NoPass>
         ensures ok { IfOk result (λ taken. Advances event.now (option_map arc_value handler.now) self.old taken.turn (map call_seen taken.hands.calls.items) self.new) }
+        ensures spare { IfOk result (λ taken. taken.spare ≡ taken.turn) }
+        ensures lents { IfOk result (λ taken. AreOfRoom self.old.exchange.posts.room (all_lents (map call_seen taken.hands.calls.items))) }
+        ensures none { IfOk result (λ taken. NoneHeld (option_map arc_value handler.now) self.old.exchange.posts → taken.hands.calls.items ≡ []) }
+        ensures gates { OnOk result (NoneHeld (option_map arc_value handler.now) self.old.exchange.posts → AreGates self.new.exchange.posts.rows) }
+        ensures room { self.new.exchange.posts.room ≡ self.old.exchange.posts.room }
         ensures full { result ≡ Err NoPass.Full → IsOverdrawn event.now (option_map arc_value handler.now) self.old }
+        ensures held { result ≡ Err NoPass.Full → NoneHeld (option_map arc_value handler.now) self.old.exchange.posts → ⊥ }
         ensures err { OnErr result (self.new ≡ self.old) }
     {
         let Ok(kept) = event.try_clone() else {
@@ -153,12 +173,42 @@ impl<H: Drop> SessionCell<H> {
                 return Err(why);
             }
         };
-        let Taken { turn, copy, hands } = taken;
+        let Taken {
+            turn,
+            copy,
+            spare,
+            hands,
+        } = taken;
         self.journal.push_reserved(Entry {
             event: kept,
             turn: copy,
         });
-        Ok(Advanced { turn, hands })
+        Ok(Advanced { turn, spare, hands })
+    }
+
+    /// The room of all passes: those that were lent here come back here.
+    ///
+    /// # Errors
+    ///
+    /// Want of memory alone.
+    pub fn room(&self) -> Result<Room, AllocError>
+        ensures { IfOk result (λ room. room ≡ self.now.exchange.posts.room) }
+    {
+        self.cell.room()
+    }
+
+    /// Whether the session was closed.
+    pub fn is_closed(&self) -> bool
+        ensures { result ≡ closed_in self.now }
+    {
+        self.cell.is_closed()
+    }
+
+    /// Whether that cancellation token was taken: a cancel named it, while the session was open.
+    pub fn is_taken(&self, token: u32) -> bool
+        ensures { result ≡ taken_in self.now token }
+    {
+        self.cell.is_taken(token)
     }
 
     /// All events that the session took, with their turns, the oldest first.
@@ -182,6 +232,7 @@ impl<H: Drop> SessionCell<H> {
         requires { AreOfRoom self.old.exchange.posts.room (ran_lents ran.ran.items) }
         ensures reports { result.items ≡ reports_of ran.ran.items }
         ensures posts { self.new ≡ session_with (all_given_back (ran_lents ran.ran.items) self.old.exchange.posts) self.old }
+        ensures room { self.new.exchange.posts.room ≡ self.old.exchange.posts.room }
     {
         self.cell.give_back(ran)
     }
@@ -192,6 +243,7 @@ impl<H: Drop> SessionCell<H> {
         ensures some { IfSome result (λ ending. GivesOut self.old.exchange.posts (option_map arc_value ending.handler) ending.drained self.new.exchange.posts) }
         ensures none { IfNone result (IsIdle self.old.exchange.posts × (self.new.exchange.posts ≡ self.old.exchange.posts)) }
         ensures rest { self.new ≡ session_with self.new.exchange.posts self.old }
+        ensures room { self.new.exchange.posts.room ≡ self.old.exchange.posts.room }
     {
         self.cell.ending()
     }

@@ -1,15 +1,16 @@
 //! A cell without a journal.
-ghost use Rattle.std.specs.Prelude.{◌≡◌, ◌↔◌, [], ◌++◌, None, is_some, map, option_map, IsTrue, IfOk, IfSome, IfNone, OnErr};
+ghost use Rattle.std.specs.Prelude.{◌≡◌, ◌↔◌, [], ◌++◌, None, is_some, map, option_map, IsTrue, IfOk, IfSome, IfNone, OnOk, OnErr};
 ghost use Rattle.std.specs.Option.{option_to_list};
 ghost use Rattle.std.specs.Arc.{arc_value};
-ghost use Rattle.zs_posts.specs.Calls.{call_seen};
+ghost use Rattle.zs_posts.specs.Calls.{call_seen, all_lents};
 ghost use Rattle.zs_posts.specs.Settled.{all_given_back, held_at, taken_out};
 ghost use Rattle.zs_hands.specs.Answers.{AreOfRoom, ran_lents, reports_of};
 ghost use Rattle.zs_exchange.specs.Exchange.{IsNew};
 ghost use Rattle.zs_exchange.specs.Ends.{IsIdle, GivesOut, AreOf};
 ghost use Rattle.zs_core.specs.Settings.{is_valid};
 ghost use Rattle.zs_core.specs.Plans.{Plans};
-ghost use Rattle.zs_session_cell.specs.Core.{StandsFor};
+ghost use Rattle.zs_exchange.specs.Handlers.{AreGates, NoneHeld};
+ghost use Rattle.zs_session_cell.specs.Core.{StandsFor, WasClosed, WasTaken};
 ghost use Rattle.zs_session_cell.specs.Cells.{Takes, IsFull, with_posts};
 
 use std::alloc::{AllocError, Global};
@@ -20,7 +21,7 @@ use zs_events::{Event, Turn};
 use zs_exchange::Exchange;
 use zs_gate::NoPass;
 use zs_hands::{Closing, Ending, Handed, Hands, Ran};
-use zs_posts::Key;
+use zs_posts::{Key, Room};
 use zs_shared::Shared;
 use zs_turns::Item;
 use zs_wire::Message;
@@ -117,6 +118,7 @@ impl<H: Drop> CellState<H> {
         requires { IsTrue (is_valid settings.now) }
         ensures core { IfOk result (λ new. StandsFor new.world settings.now []) }
         ensures exchange { IfOk result (λ new. IsNew settings.now.tag keeps new.exchange) }
+        ensures gates { IfOk result (λ new. AreGates new.exchange.posts.rows) }
     {
         let core = SessionState::new(alloc, settings)?;
         let exchange = Exchange::new(alloc, settings.tag, keeps)?;
@@ -143,7 +145,12 @@ impl<H: Drop> CellState<H> {
         ensures ok { IfOk result (λ taken. Takes event.now (option_map arc_value handler.now) place self.old taken.turn (map call_seen taken.hands.calls.items) self.new) }
         ensures copy { IfOk result (λ taken. taken.copy ≡ taken.turn) }
         ensures spare { IfOk result (λ taken. taken.spare ≡ taken.turn) }
+        ensures lents { IfOk result (λ taken. AreOfRoom self.old.exchange.posts.room (all_lents (map call_seen taken.hands.calls.items))) }
+        ensures none { IfOk result (λ taken. NoneHeld (option_map arc_value handler.now) self.old.exchange.posts → taken.hands.calls.items ≡ []) }
+        ensures gates { OnOk result (NoneHeld (option_map arc_value handler.now) self.old.exchange.posts → AreGates self.new.exchange.posts.rows) }
+        ensures room { self.new.exchange.posts.room ≡ self.old.exchange.posts.room }
         ensures full { result ≡ Err NoPass.Full → IsFull event.now (option_map arc_value handler.now) place self.old }
+        ensures held { result ≡ Err NoPass.Full → NoneHeld (option_map arc_value handler.now) self.old.exchange.posts → ⊥ }
         ensures err { OnErr result (self.new ≡ self.old) }
     {
         let Ok(planned) = plan(self.alloc, &self.core, event) else {
@@ -185,6 +192,31 @@ impl<H: Drop> CellState<H> {
         }
     }
 
+    /// The room of all passes: those that were lent here come back here.
+    ///
+    /// # Errors
+    ///
+    /// Want of memory alone.
+    pub fn room(&self) -> Result<Room, AllocError>
+        ensures { IfOk result (λ room. room ≡ self.now.exchange.posts.room) }
+    {
+        self.exchange.room()
+    }
+
+    /// Whether the session was closed.
+    pub fn is_closed(&self) -> bool
+        ensures { WasClosed self.now.world result }
+    {
+        self.core.is_closed()
+    }
+
+    /// Whether that cancellation token was taken: a cancel named it, while the session was open.
+    pub fn is_taken(&self, token: u32) -> bool
+        ensures { WasTaken self.now.world token result }
+    {
+        self.core.is_taken(token)
+    }
+
     /// Takes the message that was sent first of those that weren't taken yet.
     pub fn drain(&mut self) -> Option<Shared<Message>>
         ensures first { option_to_list result ++ self.new.exchange.outbox ≡ self.old.exchange.outbox }
@@ -198,6 +230,7 @@ impl<H: Drop> CellState<H> {
         requires { AreOfRoom self.old.exchange.posts.room (ran_lents ran.ran.items) }
         ensures reports { result.items ≡ reports_of ran.ran.items }
         ensures posts { self.new ≡ with_posts (all_given_back (ran_lents ran.ran.items) self.old.exchange.posts) self.old }
+        ensures room { self.new.exchange.posts.room ≡ self.old.exchange.posts.room }
     {
         self.exchange.give_back(ran)
     }
@@ -208,6 +241,7 @@ impl<H: Drop> CellState<H> {
         ensures some { IfSome result (λ ending. GivesOut self.old.exchange.posts (option_map arc_value ending.handler) ending.drained self.new.exchange.posts) }
         ensures none { IfNone result (IsIdle self.old.exchange.posts × (self.new.exchange.posts ≡ self.old.exchange.posts)) }
         ensures rest { self.new ≡ with_posts self.new.exchange.posts self.old }
+        ensures room { self.new.exchange.posts.room ≡ self.old.exchange.posts.room }
     {
         self.exchange.ending()
     }
