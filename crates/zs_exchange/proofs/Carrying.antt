@@ -19,7 +19,7 @@ use Rattle.zs_exchange.proofs.Handlers.{ended_gates, begun_calls, begun_gates}
 use Rattle.zs_exchange.proofs.Rooms.{ended_room, begun_room, begun_lents}
 
 was_begun : {H T : Type 0} {name : Option Name} {handler : Option H} {wanted : List (Wanted T)} {first : PostsSeen H} {calls : List (CallSeen H T)} {now : PostsSeen H} → Begins name handler wanted first calls now → Begun name handler wanted first calls now
-was_begun b = record { opened = b.opened; opens = b.opens; turn = b.turn }
+was_begun b = record { opened = b.opened; free = b.free; opens = b.opens; turn = b.turn }
 
 module _ {H : Type 0} {e : Event} {turn : Turn} {handler : Option H} {place : ℕ} {first : ExchangeSeen H} {name : Option Name} {calls : List (CallSeen H Item)} {before : ℕ} {ends : List Key} {now : ExchangeSeen H} (p : Prepares e turn handler place first name calls before ends now) where
   pub carried : (new : ExchangeSeen H) → new ≡ record now { posts = ended_all ends now.posts } → Carries e turn handler place first calls new

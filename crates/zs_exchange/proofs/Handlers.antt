@@ -14,7 +14,7 @@ use Rattle.zs_exchange.specs.Begun.{Opens, Begun, Overdraws, ended_all}
 use Rattle.zs_exchange.specs.Handlers.{AreGates, NoneHeld}
 
 module _ {H : Type 0} where
-  keys_none : (key : Key) (o : Option (PostSeen H)) → handler_of o ≡ None → keys_for key o ≡ []
+  pub keys_none : (key : Key) (o : Option (PostSeen H)) → handler_of o ≡ None → keys_for key o ≡ []
   keys_none key None is = refl
   keys_none key (Some p) is = ap (λ (h : Option H). keys_under key h p.name) is
 
@@ -45,8 +45,8 @@ module _ {H : Type 0} where
   opened_gates : (name : Option Name) (handler : Option H) (old opened : PostsSeen H) → Opens name handler old opened → handler ≡ None → AreGates old.rows → AreGates opened.rows
   opened_gates None handler old opened is none all = subst (λ (s : PostsSeen H). AreGates s.rows) (sym is) all
   opened_gates (Some name) handler old opened is none all =
-      subst (λ (s : PostsSeen H). AreGates s.rows) (sym is.1.1)
-      (all_put (λ (p : PostSeen H). p.handler ≡ None) name.key (fresh name handler is.0 old.room is.1.0) old.rows none all)
+      subst (λ (s : PostsSeen H). AreGates s.rows) (sym is.2)
+      (all_put (λ (p : PostSeen H). p.handler ≡ None) name.key (fresh name handler is.0 old.room is.1) old.rows none all)
 
   spent_gates : (key : Key) (rows : Rows H) → AreGates rows → AreGates (without_spent key rows)
   spent_gates key rows all = go (spent_at key rows)

@@ -1,5 +1,7 @@
 pub mod Carrying
+pub mod Flags
 pub mod Handlers
+mod Held
 mod Preparing
 pub mod Rooms
 pub mod Undoing

@@ -13,7 +13,7 @@ use Rattle.zs_exchange.specs.Begun.{Opens, Begun, ended_all}
 module _ {H : Type 0} where
   opened_room : (name : Option Name) (handler : Option H) (old opened : PostsSeen H) → Opens name handler old opened → opened.room ≡ old.room
   opened_room None handler old opened is = ap (λ (s : PostsSeen H). s.room) is
-  opened_room (Some name) handler old opened is = ap (λ (s : PostsSeen H). s.room) is.1.1
+  opened_room (Some name) handler old opened is = ap (λ (s : PostsSeen H). s.room) is.2
 
   pub ended_room : (keys : List Key) (posts : PostsSeen H) → (ended_all keys posts).room ≡ posts.room
   ended_room [] posts = refl

@@ -2,3 +2,4 @@ pub mod Begun
 pub mod Exchange
 pub mod Ends
 pub mod Handlers
+pub mod Flags

@@ -14,7 +14,7 @@ ghost use Rattle.zs_exchange.specs.Begun.{ended_all};
 ghost use Rattle.zs_exchange.specs.Handlers.{AreGates};
 ghost use Rattle.zs_exchange.specs.Exchange.{ExchangeSeen, Prepares, Overdrawn, IsNew};
 
-use crate::beginning::{begin, end_all, undo};
+use crate::beginning::{TurnCalls, begin, end_all, undo};
 use crate::outbox::send_all;
 use std::alloc::{AllocError, Global};
 use std::collections::VecDeque;
@@ -25,7 +25,7 @@ use zs_gate::NoPass;
 use zs_hands::{Closing, Ending, Handed, Hands, HandsRoom, Ran};
 use zs_posts::{Call, Key, Name, Posts, Room};
 use zs_shared::Shared;
-use zs_turns::{Item, opened_name, turn_ends, wanted};
+use zs_turns::{Item, opened_name, turn_ends};
 use zs_wire::Message;
 
 /// The gates of a session with the handlers behind them, and the messages that are to be sent. Contracts see both, the
@@ -121,15 +121,17 @@ impl<H: Drop> Exchange<H> {
         let Ok(ends) = turn_ends(self.alloc, event, turn) else {
             return Err(NoPass::NoMemory);
         };
-        let Ok(wanted) = wanted(self.alloc, self.tag, turn.effects.as_slice()) else {
-            return Err(NoPass::NoMemory);
-        };
-        let Ok(room) = HandsRoom::new(self.alloc, wanted.len()) else {
-            return Err(NoPass::NoMemory);
-        };
         let before = self.outbox.len();
-        let calls = match begin(&mut self.posts, self.alloc, name, handler, wanted) {
-            Ok(calls) => calls,
+        let begun = begin(
+            &mut self.posts,
+            self.alloc,
+            name,
+            handler,
+            self.tag,
+            turn.effects.as_slice(),
+        );
+        let TurnCalls { calls, room } = match begun {
+            Ok(begun) => begun,
             Err(why) => return Err(why),
         };
         match send_all(self.keeps, turn.effects.as_slice(), &mut self.outbox) {

@@ -16,6 +16,7 @@ use Rattle.zs_session_cell.specs.Cells.{CellSeen, Takes, IsFull}
 use Rattle.zs_session_cell.specs.Journals.{history, IsKept, SessionSeen, Advances, IsOverdrawn}
 use Rattle.zs_session_cell.proofs.Core.{plan_previews, plan_steps, step_turn, preview_turn}
 use Rattle.zs_session_cell.proofs.Keeping.{kept_more}
+use Rattle.zs_session_cell.proofs.Naming.{taken_flags}
 
 module _ {H : Type 0} {w : World} {e : Event} {d : Decision} (plans : Plans w e d) where
   pub takes : (handler : Option H) (place : ℕ) (x now : ExchangeSeen H) (calls : List (CallSeen H Item)) (core : World) → core ≡ with_change d.change w → Carries e d.turn handler place x calls now
@@ -31,9 +32,11 @@ session_seen s journal x = record { settings = s; journal = journal; exchange = 
 abbrev pub entry_of : Event → Turn → Entry
 entry_of e turn = record { event = e; turn = turn }
 
-module _ {H : Type 0} (s : Settings) (journal : List Entry) (old : CellSeen H) (e : Event) (handler : Option H) (place : ℕ) (kept : IsKept old.world s journal) (place_is : place ≡ length journal) where
-  pub kept_now : (new : CellSeen H) (turn : Turn) (calls : List (CallSeen H Item)) → Takes e handler place old turn calls new → IsKept new.world s (journal ++ entry_of e turn ∷ [])
-  kept_now new turn calls t = kept_more old.world new.world s journal (entry_of e turn) kept t.steps
+module _ {H : Type 0} (s : Settings) (journal : List Entry) (old : CellSeen H) (e : Event) (handler : Option H) (place : ℕ) (kept : IsKept old.world s journal old.exchange.posts) (place_is : place ≡ length journal) where
+  pub kept_now : (new : CellSeen H) (turn : Turn) (calls : List (CallSeen H Item)) → Takes e handler place old turn calls new → IsKept new.world s (journal ++ entry_of e turn ∷ []) new.exchange.posts
+  kept_now new turn calls t =
+      kept_more old.world new.world s journal (entry_of e turn) old.exchange.posts new.exchange.posts kept t.steps
+      (taken_flags journal e turn handler old.exchange calls new.exchange kept.flags (subst (λ (p : ℕ). Carries e turn handler p old.exchange calls new.exchange) place_is t.carries))
 
   pub advances : (new : CellSeen H) (turn : Turn) (calls : List (CallSeen H Item)) → Takes e handler place old turn calls new
       → Advances e handler (session_seen s journal old.exchange) turn calls (session_seen s (journal ++ entry_of e turn ∷ []) new.exchange)

@@ -1,17 +1,22 @@
 -- The journal of a session, and what a session's cell makes of an event with it.
-use Rattle.std.specs.Prelude.{◌≡◌, ℕ, Bool, List, [], ◌∷◌, ◌++◌, length, Option, None, if◌then◌else◌}
+use Rattle.std.specs.Prelude.{◌≡◌, ℕ, Bool, List, [], ◌∷◌, ◌++◌, length, drop, Option, None, if◌then◌else◌}
+use Rattle.std.specs.List.{list_any}
 use Rattle.zs_events.specs.declared.event.Event.{Event}
 use Rattle.zs_events.specs.declared.turn.Turn.{Turn}
 use Rattle.zs_events.specs.Turn.{was_refused}
 use Rattle.zs_core.specs.declared.settings.Settings.{Settings}
 use Rattle.zs_core.specs.World.{World}
+use Rattle.zs_posts.specs.declared.key.Key.{Key}
+use Rattle.zs_posts.specs.Keys.{is_key}
 use Rattle.zs_posts.specs.Calls.{CallSeen}
 use Rattle.zs_posts.specs.Settled.{PostsSeen}
 use Rattle.zs_posts.specs.declared.call.Call.{Call}
 use Rattle.zs_turns.specs.declared.item.Item.{Item}
+use Rattle.zs_turns.specs.Gates.{ends_at}
 use Rattle.zs_session_cell.specs.declared.entry.Entry.{Entry}
 use Rattle.zs_session_cell.specs.Core.{turn_at, closed_at, taken_at, StandsFor}
 use Rattle.zs_exchange.specs.Exchange.{ExchangeSeen, Carries, Overdrawn}
+use Rattle.zs_exchange.specs.Flags.{AreFlagged}
 
 -- the events of a journal, the newest first, behind those that were before it
 abbrev pub history : List Event → List Entry → List Event
@@ -23,10 +28,23 @@ abbrev pub Follows : Settings → List Event → List Entry → Type 0
 Follows s before [] = Unit {0}
 Follows s before (entry ∷ journal) = (entry.turn ≡ turn_at s before entry.event) × Follows s (entry.event ∷ before) journal
 
--- a state stands for the events of a journal, whose turns are theirs
-pub record IsKept (w : World) (s : Settings) (journal : List Entry) : Type 0 where
+-- whether entries name a key: their turns end what has it
+abbrev pub names_end : Key → List Entry → Bool
+names_end key journal = list_any (λ entry. list_any (λ k. is_key k key) (ends_at entry.event entry.turn)) journal
+
+-- whether the entries of a journal do so from a place on
+abbrev pub named_since : List Entry → Key → ℕ → Bool
+named_since journal key place = names_end key (drop place journal)
+
+-- each post was ended exactly where the journal named its key, from the entry on that opened it
+abbrev pub FlagsOf : {H : Type 0} → List Entry → PostsSeen H → Type 0
+FlagsOf journal posts = AreFlagged (named_since journal) (length journal) posts
+
+-- a state stands for the events of a journal, whose turns are theirs, and the posts are marked as it says
+pub record IsKept {H : Type 0} (w : World) (s : Settings) (journal : List Entry) (posts : PostsSeen H) : Type 0 where
   pub stands : StandsFor w s (history [] journal)
   pub follows : Follows s [] journal
+  pub flags : FlagsOf journal posts
 
 -- the settings, the journal, the oldest entry first, and what stands between the core and its callers
 pub record SessionSeen (H : Type 0) : Type 0 where

@@ -9,7 +9,7 @@ ghost use Rattle.zs_exchange.specs.Exchange.{IsNew};
 ghost use Rattle.zs_exchange.specs.Ends.{IsIdle, GivesOut, AreOf};
 ghost use Rattle.zs_core.specs.Settings.{is_valid};
 ghost use Rattle.zs_exchange.specs.Handlers.{AreGates, NoneHeld};
-ghost use Rattle.zs_session_cell.specs.Journals.{session_with, Advances, Follows, IsOverdrawn, handler_back, closed_in, taken_in};
+ghost use Rattle.zs_session_cell.specs.Journals.{session_with, Advances, Follows, FlagsOf, IsOverdrawn, handler_back, closed_in, taken_in};
 ghost use Rattle.zs_posts.specs.Calls.{call_seen, all_lents};
 
 use crate::entry::Entry;
@@ -43,7 +43,7 @@ impl<H> Model for SessionCell<H> {
 
     ghost view = { λ s. record { settings = s.settings; journal = s.journal.items; exchange = s.cell.exchange } };
 
-    ghost invariant = { λ s. IsKept s.cell.world s.settings s.journal.items };
+    ghost invariant = { λ s. IsKept s.cell.world s.settings s.journal.items s.cell.exchange.posts };
 }
 
 /// An event that wasn't taken, with the handler that came with it, and why.
@@ -217,6 +217,14 @@ impl<H: Drop> SessionCell<H> {
         ensures turns { Follows self.now.settings [] self.now.journal }
     {
         self.journal.as_slice()
+    }
+
+    /// What is true of all gates that are held: each was ended exactly where a turn of the journal ends it, from the event on
+    /// that opened it. So `ending` gives out what was ended and nothing else, and each once.
+    pub fn tell_flags(&self)
+        ensures { FlagsOf self.now.journal self.now.exchange.posts }
+    {
+        let _ = &self.settings;
     }
 
     /// Takes the message that was sent first of those that weren't taken yet.
