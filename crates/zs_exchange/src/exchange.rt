@@ -1,7 +1,7 @@
 //! What stands between a session's core and those who take what comes of its events.
-ghost use Rattle.std.specs.Prelude.{◌≡◌, ◌↔◌, ◌≤◌, ℕ, ◌++◌, None, is_some, map, option_map, IfOk, IfSome, IfNone, OnErr, Option};
+ghost use Rattle.std.specs.Prelude.{◌≡◌, ◌↔◌, ◌≤◌, ℕ, [], ◌++◌, None, is_some, length, map, option_map, slice_get, IfOk, IfSome, IfNone, OnErr, Option};
 ghost use Rattle.std.specs.Arc.{arc_value};
-ghost use Rattle.std.specs.Option.{option_to_list};
+ghost use Rattle.std.specs.Option.{option_copied, option_to_list};
 ghost use Rattle.zs_events.specs.declared.event.Event.{Event as AnEvent};
 ghost use Rattle.zs_events.specs.declared.turn.Turn.{Turn as ATurn};
 ghost use Rattle.std.specs.Vec.{vec_len, vec_capacity};
@@ -184,9 +184,24 @@ impl<H: Drop> Exchange<H> {
         Hands::of(calls, room)
     }
 
+    /// The message that was sent first of those that weren't taken yet. It stays.
+    pub fn first(&self) -> Option<&Shared<Message>>
+        ensures { option_copied result ≡ slice_get self.now.outbox 0 }
+    {
+        self.outbox.front()
+    }
+
+    /// How many messages weren't taken yet.
+    pub fn waiting(&self) -> usize
+        ensures { result ≡ length self.now.outbox }
+    {
+        self.outbox.len()
+    }
+
     /// Takes the message that was sent first of those that weren't taken yet.
     pub fn drain(&mut self) -> Option<Shared<Message>>
         ensures first { option_to_list result ++ self.new.outbox ≡ self.old.outbox }
+        ensures none { IfNone result (self.old.outbox ≡ []) }
         ensures rest { self.new ≡ record self.old { outbox = self.new.outbox } }
     {
         self.outbox.pop_front()

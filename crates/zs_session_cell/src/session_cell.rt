@@ -230,6 +230,7 @@ impl<H: Drop> SessionCell<H> {
     /// Takes the message that was sent first of those that weren't taken yet.
     pub fn drain(&mut self) -> Option<Shared<Message>>
         ensures first { option_to_list result ++ self.new.exchange.outbox ≡ self.old.exchange.outbox }
+        ensures none { IfNone result (self.old.exchange.outbox ≡ []) }
         ensures rest { self.new ≡ record self.old { exchange = record self.old.exchange { outbox = self.new.exchange.outbox } } }
     {
         self.cell.drain()

@@ -1,6 +1,6 @@
 //! A cell without a journal.
-ghost use Rattle.std.specs.Prelude.{◌≡◌, ◌↔◌, [], ◌++◌, None, is_some, map, option_map, IsTrue, IfOk, IfSome, IfNone, OnOk, OnErr};
-ghost use Rattle.std.specs.Option.{option_to_list};
+ghost use Rattle.std.specs.Prelude.{◌≡◌, ◌↔◌, [], ◌++◌, None, is_some, length, map, option_map, slice_get, IsTrue, IfOk, IfSome, IfNone, OnOk, OnErr};
+ghost use Rattle.std.specs.Option.{option_copied, option_to_list};
 ghost use Rattle.std.specs.Arc.{arc_value};
 ghost use Rattle.zs_posts.specs.Calls.{call_seen, all_lents};
 ghost use Rattle.zs_posts.specs.Settled.{all_given_back, held_at, taken_out};
@@ -217,9 +217,24 @@ impl<H: Drop> CellState<H> {
         self.core.is_taken(token)
     }
 
+    /// The message that was sent first of those that weren't taken yet. It stays.
+    pub fn first(&self) -> Option<&Shared<Message>>
+        ensures { option_copied result ≡ slice_get self.now.exchange.outbox 0 }
+    {
+        self.exchange.first()
+    }
+
+    /// How many messages weren't taken yet.
+    pub fn waiting(&self) -> usize
+        ensures { result ≡ length self.now.exchange.outbox }
+    {
+        self.exchange.waiting()
+    }
+
     /// Takes the message that was sent first of those that weren't taken yet.
     pub fn drain(&mut self) -> Option<Shared<Message>>
         ensures first { option_to_list result ++ self.new.exchange.outbox ≡ self.old.exchange.outbox }
+        ensures none { IfNone result (self.old.exchange.outbox ≡ []) }
         ensures rest { self.new ≡ record self.old { exchange = record self.old.exchange { outbox = self.new.exchange.outbox } } }
     {
         self.exchange.drain()
