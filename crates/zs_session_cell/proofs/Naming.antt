@@ -44,7 +44,7 @@ ends_added [] named k place = or_false (named k place)
     or_false false = refl
 ends_added (key ∷ keys) named k place = ends_added keys (with_end key named) k place ∙ or_assoc (named k place) (is_key key k) (list_any (λ q. is_key q k) keys)
 
-entry_of : Event → Turn → Entry
+abbrev pub entry_of : Event → Turn → Entry
 entry_of e turn = record { event = e; turn = turn }
 
 -- a journal with one entry more

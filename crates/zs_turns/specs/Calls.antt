@@ -41,3 +41,7 @@ module _ {H : Type 0} where
   -- what is wanted of handlers that are held
   abbrev pub held_of : Rows H → List (Wanted Item) → List (Wanted Item)
   held_of rows ws = filter (λ w. is_some (handler_at w.key rows)) ws
+
+  -- and of those that one effect calls
+  abbrev pub held_by : Rows H → ℕ → Effect → List (Wanted Item)
+  held_by rows tag e = held_of rows (wanted_by tag e)

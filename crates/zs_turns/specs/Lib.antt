@@ -1,4 +1,3 @@
 pub mod Gates
 pub mod Calls
 pub mod Queries
-pub mod Loans

@@ -101,7 +101,6 @@ fn add_wanted<H>(
 /// # Errors
 ///
 /// Want of memory alone.
-#[tactic(auto, unfolding(crate::specs::Calls::wanted_of))]
 pub fn wanted<H>(
     alloc: Global,
     tag: u64,

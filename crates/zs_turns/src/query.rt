@@ -30,9 +30,6 @@ impl Model for Query {
 }
 
 impl Query {
-    ghost use Rattle.std.specs.Borrow.{sem};
-    ghost use Rattle.zs_turns.specs.Loans.{LendsPayload, LendsAttachment};
-
     /// A query with these fields, of a session with that tag. It shares the memory of the payload and the attachment.
     pub fn of(alloc: Global, tag: u64, value: u32, fields: &QueryData) -> Result<Query, AllocError>
         ensures { IfOk result (λ query. query ≡ record { data_of = fields.now; value = value; tag = tag }) }
@@ -86,14 +83,6 @@ impl Query {
         self.fields.payload()
     }
 
-    /// The payload, to be changed: no one else sees the change.
-    pub fn payload_mut(&mut self) -> Option<&mut ZBytes>
-        ensures value { option_copied_mut result ≡ self.old.data_of.payload }
-        ensures* writes_back { sem 𝓛 (LendsPayload self.entry result) }
-    {
-        self.fields.payload_mut()
-    }
-
     /// What the payload is, if there is one.
     pub fn encoding(&self) -> Option<&Encoding>
         ensures { option_copied result ≡ self.now.data_of.encoding }
@@ -106,14 +95,6 @@ impl Query {
         ensures { option_copied result ≡ self.now.data_of.attachment }
     {
         self.fields.attachment()
-    }
-
-    /// What was sent along beside the payload, to be changed: no one else sees the change.
-    pub fn attachment_mut(&mut self) -> Option<&mut ZBytes>
-        ensures value { option_copied_mut result ≡ self.old.data_of.attachment }
-        ensures* writes_back { sem 𝓛 (LendsAttachment self.entry result) }
-    {
-        self.fields.attachment_mut()
     }
 
     /// Who asked, where that is known.
