@@ -14,7 +14,7 @@ use Rattle.zs_posts.specs.declared.key.Key.{Key}
 use Rattle.zs_posts.specs.declared.key.Name.{Name}
 use Rattle.zs_posts.specs.Keys.{is_key}
 use Rattle.zs_posts.specs.Lending.{fresh}
-use Rattle.zs_posts.specs.Calls.{CallSeen}
+use Rattle.zs_posts.specs.Calls.{CallSeen, turn_keys}
 use Rattle.zs_posts.specs.Settled.{PostsSeen}
 use Rattle.zs_turns.specs.declared.item.Item.{Item}
 use Rattle.zs_turns.specs.Calls.{wanted_of}
@@ -71,7 +71,7 @@ module _ {H : Type 0} where
       → FlagsOf (journal ++ entry_of e turn ∷ []) new.posts
   taken_flags journal e turn handler old calls new f c =
       let opened : FlagsOf journal c.begun.opened = opens_flags journal (is_some handler) e turn.answer (opened_at (is_some handler) e (length journal) turn.answer) refl handler old.posts c.begun.opened c.begun.free c.begun.opens f in
-      let between : FlagsOf journal c.between = subst (λ (s : PostsSeen H). FlagsOf journal s) (sym c.begun.turn.posts_are) (lent_flags (named_since journal) (length journal) _ c.begun.opened opened) in
+      let between : FlagsOf journal c.between = subst (λ (s : PostsSeen H). FlagsOf journal s) (sym c.begun.turn.posts_are) (lent_flags (named_since journal) (length journal) (turn_keys (wanted_of old.tag turn.effects) c.begun.opened.rows) c.begun.opened opened) in
       let keys : List Key = ends_at e turn in
       subst (λ (x : ExchangeSeen H). FlagsOf (journal ++ entry_of e turn ∷ []) x.posts) (sym c.rest)
       (flags_so (with_ends keys (named_since journal)) (named_since (journal ++ entry_of e turn ∷ [])) (length journal) (length (journal ++ entry_of e turn ∷ [])) (longer journal)

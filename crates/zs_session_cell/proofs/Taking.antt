@@ -55,22 +55,36 @@ no_calls f (x ∷ xs) is = cc
 abbrev pub session_seen : {H : Type 0} → Settings → List Entry → ExchangeSeen H → SessionSeen H
 session_seen s journal x = record { settings = s; journal = journal; exchange = x }
 
-module _ {H : Type 0} (s : Settings) (journal : List Entry) (old : CellSeen H) (e : Event) (handler : Option H) (place : ℕ) (kept : IsKept old.world s journal old.exchange.posts) (place_is : place ≡ length journal) where
-  pub kept_now : (new : CellSeen H) (turn : Turn) (calls : List (CallSeen H Item)) → Takes e handler place old turn calls new → IsKept new.world s (journal ++ entry_of e turn ∷ []) new.exchange.posts
-  kept_now new turn calls t =
-      kept_more old.world new.world s journal (entry_of e turn) old.exchange.posts new.exchange.posts kept t.steps
-      (taken_flags journal e turn handler old.exchange calls new.exchange kept.flags (subst (λ (p : ℕ). Carries e turn handler p old.exchange calls new.exchange) place_is t.carries))
+module _ {H : Type 0} {e f : Event} {handler : Option H} {place now : ℕ} {old : CellSeen H} (same : e ≡ f) (place_is : place ≡ now) where
+  -- the same event, at the same place
+  pub takes_at : {turn : Turn} {calls : List (CallSeen H Item)} {new : CellSeen H} → Takes e handler place old turn calls new → Takes f handler now old turn calls new
+  takes_at {turn = turn} {calls = calls} {new = new} t = subst (λ (x : Event). Takes x handler now old turn calls new) same (subst (λ (p : ℕ). Takes e handler p old turn calls new) place_is t)
 
-  pub advances : (new : CellSeen H) (turn : Turn) (calls : List (CallSeen H Item)) → Takes e handler place old turn calls new
-      → Advances e handler (session_seen s journal old.exchange) turn calls (session_seen s (journal ++ entry_of e turn ∷ []) new.exchange)
-  advances new turn calls t = record {
-    turn_is = step_turn old.world new.world e turn s (history [] journal) t.steps kept.stands;
-    journal_is = refl;
-    carries = subst (λ (p : ℕ). Carries e turn handler p old.exchange calls new.exchange) place_is t.carries;
-    settings_is = refl;
-  }
+  pub full_at : IsFull e handler place old → IsFull f handler now old
+  full_at full = subst (λ (x : Event). IsFull x handler now old) same (subst (λ (p : ℕ). IsFull e handler p old) place_is full)
 
-  pub overdrawn_in : IsFull e handler place old → IsOverdrawn e handler (session_seen s journal old.exchange)
-  overdrawn_in full =
-      subst (λ (p : ℕ). Overdrawn e (turn_at s (history [] journal) e) handler p old.exchange) place_is
-      (subst (λ (turn : Turn). Overdrawn e turn handler place old.exchange) (preview_turn old.world e full.turn s (history [] journal) full.previews kept.stands) full.overdrawn)
+-- the journal with the entry that was put behind it
+pub journal_now : (journal reserved items : List Entry) (e f : Event) (turn copy : Turn) → reserved ≡ journal → items ≡ reserved ++ entry_of f copy ∷ [] → f ≡ e → copy ≡ turn → items ≡ journal ++ entry_of e turn ∷ []
+journal_now journal reserved items e f turn copy same is event_is turn_is = is ∙ (λ i. same i ++ entry_of (event_is i) (turn_is i) ∷ [])
+
+module _ {H : Type 0} (s : Settings) (journal items : List Entry) (old : CellSeen H) (e : Event) (handler : Option H) (kept : IsKept old.world s journal old.exchange.posts) where
+  pub kept_now : (new : CellSeen H) (turn : Turn) (calls : List (CallSeen H Item)) → items ≡ journal ++ entry_of e turn ∷ [] → Takes e handler (length journal) old turn calls new → IsKept new.world s items new.exchange.posts
+  kept_now new turn calls is t =
+      subst (λ (xs : List Entry). IsKept new.world s xs new.exchange.posts) (sym is)
+      (kept_more old.world new.world s journal (entry_of e turn) old.exchange.posts new.exchange.posts kept t.steps (taken_flags journal e turn handler old.exchange calls new.exchange kept.flags t.carries))
+
+  pub advances : (new : CellSeen H) (turn : Turn) (calls : List (CallSeen H Item)) (seen : SessionSeen H) → session_seen s journal old.exchange ≡ seen → items ≡ journal ++ entry_of e turn ∷ [] → Takes e handler (length journal) old turn calls new
+      → Advances e handler seen turn calls (session_seen s items new.exchange)
+  advances new turn calls seen view is t =
+      subst (λ (x : SessionSeen H). Advances e handler x turn calls (session_seen s items new.exchange)) view
+      (record {
+        turn_is = step_turn old.world new.world e turn s (history [] journal) t.steps kept.stands;
+        journal_is = is;
+        carries = t.carries;
+        settings_is = refl;
+      })
+
+  pub overdrawn_in : (seen : SessionSeen H) → session_seen s journal old.exchange ≡ seen → IsFull e handler (length journal) old → IsOverdrawn e handler seen
+  overdrawn_in seen view full =
+      subst (λ (x : SessionSeen H). IsOverdrawn e handler x) view
+      (subst (λ (turn : Turn). Overdrawn e turn handler (length journal) old.exchange) (preview_turn old.world e full.turn s (history [] journal) full.previews kept.stands) full.overdrawn)
