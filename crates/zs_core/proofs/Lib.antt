@@ -1,58 +1,58 @@
-mod Answered
-mod Asking
-mod Bounds
-mod Cancelling
-mod Causes
-mod Saying
-mod DeclaredMade
-mod AskedMade
-mod AnsweredMade
-mod ToldMade
-mod Changes
-mod Covered
-mod CoveredGroups
-mod CoveredKeys
-mod Decisions
-mod DeclaredKeys
-mod DistinctNumbers
-mod EndedGets
-mod Endings
-mod Entities
+pub mod Answered
+pub mod Asking
+pub mod Bounds
+pub mod Cancelling
+pub mod Causes
+pub mod Saying
+pub mod DeclaredMade
+pub mod AskedMade
+pub mod AnsweredMade
+pub mod ToldMade
+pub mod Changes
+pub mod Covered
+pub mod CoveredGroups
+pub mod CoveredKeys
+pub mod Decisions
+pub mod DeclaredKeys
+pub mod DistinctNumbers
+pub mod EndedGets
+pub mod Endings
+pub mod Entities
 pub mod Filters
-mod Finals
-mod Gets
-mod GroupNumbers
-mod Groups
-mod HolderCounts
-mod KeyNumbers
-mod Keys
-mod Live
-mod Numbered
-mod Numbers
-mod Placing
-mod Publications
-mod Publishers
-mod Queriers
-mod Messages
-mod Reading
-mod ToldNumbers
-mod Received
-mod OneMessage
-mod Recipients
-mod Replies
-mod Sharing
-mod Spelled
-mod Stands
-mod Steps
+pub mod Finals
+pub mod Gets
+pub mod GroupNumbers
+pub mod Groups
+pub mod HolderCounts
+pub mod KeyNumbers
+pub mod Keys
+pub mod Live
+pub mod Numbered
+pub mod Numbers
+pub mod Placing
+pub mod Publications
+pub mod Publishers
+pub mod Queriers
+pub mod Messages
+pub mod Reading
+pub mod ToldNumbers
+pub mod Received
+pub mod OneMessage
+pub mod Recipients
+pub mod Replies
+pub mod Sharing
+pub mod Spelled
+pub mod Stands
+pub mod Steps
 pub mod Watching
 pub mod Tokens
 pub mod Ended
-mod Untaken
-mod Values
+pub mod Untaken
+pub mod Values
 pub mod Hearing
 pub mod Counted
 pub mod Matched
 pub mod MatchingMade
 pub mod Listening
-mod Silent
-mod Knowing
+pub mod Silent
+pub mod Knowing

@@ -6,6 +6,8 @@ use Rattle.zs_wire.specs.declared.message.Message.{Message}
 use Rattle.zs_wire.specs.declared.message.Message.TheVariants.{DeclareKeyExpr, UndeclareKeyExpr, DeclareSubscriber, DeclareQueryable, DeclareToken, UndeclareToken, Interest, Push, Request, Response}
 use Rattle.zs_wire.specs.declared.interest.InterestWhat.TheVariants.{Queryables as of_queryables, Tokens as of_tokens}
 use Rattle.zs_wire.specs.declared.interest.InterestWhat.{InterestWhat}
+use Rattle.zs_wire.specs.declared.wire_expr.Mapping.{Mapping}
+use Rattle.zs_wire.specs.declared.wire_expr.Mapping.TheVariants.{Sender, Receiver}
 use Rattle.zs_wire.specs.declared.wire_expr.WireExpr.{WireExpr}
 use Rattle.zs_events.specs.declared.event.Event.{Event}
 use Rattle.zs_events.specs.declared.turn.Effect.{Effect}
@@ -41,16 +43,22 @@ abbrev pub read_by : WireExpr → Option (List ℕ) → Option (List ℕ)
 read_by wire front =
     if wire.scope == 0 then Some (encode_utf8_all wire.suffix) else option_map (λ text. text ++ encode_utf8_all wire.suffix) front
 
+-- the sender's texts, where that is whose numbers a wire expression names: of the receiver's own its messages tell nothing
+abbrev pub of_sender : Mapping → Option (List ℕ) → Option (List ℕ)
+of_sender Sender front = front
+of_sender Receiver front = None
+
 -- what a number stands for, for a receiver of these messages: what it was told last, if that was not taken back since
 abbrev pub number_text : ℕ → List Message → Option (List ℕ)
 number_text n [] = None
-number_text n (DeclareKeyExpr number wire ∷ before) = if number == n then read_by wire (number_text wire.scope before) else number_text n before
+number_text n (DeclareKeyExpr number wire ∷ before) =
+    if number == n then read_by wire (of_sender wire.mapping (number_text wire.scope before)) else number_text n before
 number_text n (UndeclareKeyExpr number ∷ before) = if number == n then None else number_text n before
 number_text n (message ∷ before) = number_text n before
 
 -- the text that a receiver of these messages reads a wire expression as
 abbrev pub read_as : List Message → WireExpr → Option (List ℕ)
-read_as before wire = read_by wire (number_text wire.scope before)
+read_as before wire = read_by wire (of_sender wire.mapping (number_text wire.scope before))
 
 -- the wire expression of a message, if it has one
 abbrev pub wire_in : Message → Option WireExpr

@@ -21,8 +21,8 @@ pub use querier::QuerierRow;
 pub use settings::Settings;
 pub use state::SessionState;
 pub use zs_events::{
-    Answer, BackgroundKind, Effect, Effects, EntityKind, Event, HandOver, KeyArg, Kind,
-    PublisherSettings, QuerySettings, Refusal, Turn,
+    Answer, BackgroundKind, Chan, Effect, Effects, EntityKind, Event, HandOver, KeyArg, Kind,
+    PublisherSettings, QuerySettings, Refusal, Shared, Turn,
 };
 pub use zs_tables::{KeyRef, QueryableRow, SubRow};
 

@@ -15,7 +15,7 @@ use Rattle.zs_driving.specs.declared.driving.Driven.{Driven}
 use Rattle.zs_driving.specs.declared.errors.DriveError.{DriveError}
 use Rattle.zs_driving.specs.declared.errors.DriveError.TheVariants.{ReadFault, WriteFault, BadLine, LineTooLong, OutOfTurns, NoMemory}
 use Rattle.zs_driving.specs.Tasks.{Task}
-use Rattle.zs_driving.specs.Driving.{Drives, DrivesTo, HasRead, HasReadAll, HasSpentTurns, IsDone, IsFront, StopsAt, IsNoLine, IsLong, PutsWaiting, Supply, Outlet, read_text}
+use Rattle.zs_driving.specs.Driving.{Drives, DrivesTo, HasRead, HasReadAll, HasSpentTurns, IsCalm, IsDone, IsFront, StopsAt, IsNoLine, IsLong, PutsWaiting, Supply, Outlet, read_text}
 use Rattle.zs_driving.specs.Errors.{drive_error}
 use Rattle.zs_driving.proofs.Progress.{Progress, fresh, front_none, front_read}
 
@@ -29,17 +29,18 @@ CauseOf t OutOfTurns before after from to Puts = HasSpentTurns t.turns before af
 CauseOf t NoMemory before after from to Puts = Unit {0}
 
 -- what holds at every exit
-pub record IsLeft (t : Task) (before after : Supply) (from to : Outlet) (Puts : List ℕ → Type 0) : Type 0 where
+pub record IsLeft (t : Task) (r : Result Driven DriveError) (before after : Supply) (from to : Outlet) (Puts : List ℕ → Type 0) : Type 0 where
   pub front : IsFront t before.left after.left Puts
   pub few_reads : after.pieces ≤ before.pieces + t.turns
   pub source_later : before.faults ≤ after.faults
   pub sink_later : from.faults ≤ to.faults
+  pub calm : IsCalm r before after from to
 
 same_error : (r : Result Driven DriveError) (e x : DriveError) → r ≡ Err e → r ≡ Err x → e ≡ x
 same_error r e x first second = cc
 
 pub stops : (t : Task) (IsEnd : ℕ → Type 0) (e : DriveError) (before after : Supply) (from to : Outlet) (Puts : List ℕ → Type 0)
-    → IsLeft t before after from to Puts → CauseOf t e before after from to Puts → DrivesTo t IsEnd (Err e) before after from to Puts
+    → IsLeft t (Err e) before after from to Puts → CauseOf t e before after from to Puts → DrivesTo t IsEnd (Err e) before after from to Puts
 stops t IsEnd e before after from to Puts left cause =
     let P : DriveError → Type 0 = λ x. CauseOf t x before after from to Puts in
     record {
@@ -54,6 +55,7 @@ stops t IsEnd e before after from to Puts left cause =
       write_fault = λ same. subst P (same_error (Err e) e WriteFault refl same) cause;
       source_later = left.source_later;
       sink_later = left.sink_later;
+      calm = left.calm;
     }
 
 -- an error that `?` hands on
@@ -223,6 +225,7 @@ module _ (t : Task) (text' whole' : List (List ℕ) → List ℕ) (Puts Puts' : 
     write_fault = d.write_fault;
     source_later = d.source_later;
     sink_later = d.sink_later;
+    calm = d.calm;
   }
 
 pub done_out : (t : Task) (left left' : Option (List ℕ)) (Puts Puts' : List ℕ → Type 0) (Closed : List (List ℕ) → Type 0) → ((output : List ℕ) → Puts output → Puts' output)
@@ -263,9 +266,9 @@ risen_later old mid new later (inr last) = inr (omega arith)
 
 -- all that waited was written at the end
 pub drives_out : (t : Task) (Closed : List (List ℕ) → Type 0) (r : Result Driven DriveError) (before after : Supply) (from mid to : Outlet) (waiting : List ℕ)
-    → Drives t Closed r before after from mid (PutsWaiting from.written waiting mid.written) → PutsOn mid.written waiting to.written → mid.faults ≤ to.faults
+    → Drives t Closed r before after from mid (PutsWaiting from.written waiting mid.written) → PutsOn mid.written waiting to.written → mid.faults ≤ to.faults → to.faults ≡ mid.faults
     → Drives t Closed r before after from to (λ output. PutsOn from.written output to.written)
-drives_out t Closed r before after from mid to waiting d put later =
+drives_out t Closed r before after from mid to waiting d put later calm =
     let Puts : List ℕ → Type 0 = PutsWaiting from.written waiting mid.written in
     let Puts' : List ℕ → Type 0 = λ output. PutsOn from.written output to.written in
     let puts = λ (output : List ℕ) (p : Puts output). puts_out from.written waiting mid.written to.written output p put in
@@ -284,6 +287,7 @@ drives_out t Closed r before after from mid to waiting d put later =
       write_fault = λ same. risen_later from.faults mid.faults to.faults later (d.write_fault same);
       source_later = d.source_later;
       sink_later = omega (arith, d.sink_later, later);
+      calm = λ no_read no_write. let same = d.calm no_read no_write in (same.0, calm ∙ same.1);
     }
 
 -- what waited at the end could not be written
@@ -294,11 +298,12 @@ pub drives_failed : (t : Task) (Closed Closed' : List (List ℕ) → Type 0) (wa
 drives_failed t Closed Closed' was r before after from mid to waiting d put later risen now =
     let Puts : List ℕ → Type 0 = λ output. PutsOn from.written output to.written in
     let IsEnd : ℕ → Type 0 = IsDone t before.left after.left Puts Closed' in
-    let left : IsLeft t before after from to Puts = record {
+    let left : IsLeft t (Err WriteFault) before after from to Puts = record {
       front = front_part t before.left after.left from.written waiting mid.written to.written put d.front;
       few_reads = d.few_reads;
       source_later = d.source_later;
       sink_later = omega (arith, d.sink_later, later);
+      calm = λ _ other. absurd (other refl);
     } in
     handed_on t IsEnd r WriteFault before after from to Puts now
     (stops t IsEnd WriteFault before after from to Puts left (risen_before from.faults mid.faults to.faults d.sink_later risen))
@@ -309,18 +314,19 @@ pub err_next : (t : Task) (IsEnd : ℕ → Type 0) (e : DriveError) (r : Result 
     → Progress t before.left mid.left old Puts Took number → Counted t before mid old
     → TakesOff mid.left given after.left → Reads old new given → (IsAtEnd old mid.left → new.ended ≡ true → IsSpent mid.left after.left)
     → after.pieces ≡ count_after mid.pieces (old.turns - new.turns) → before.faults ≤ after.faults → from.faults ≤ to.faults
-    → CauseOf t e before after from to Puts → DrivesTo t IsEnd r before after from to Puts
-err_next t IsEnd e r before mid after from to Puts old new given Took number now p counted took reads end pieces later later' cause =
+    → IsCalm (Err e) before after from to → CauseOf t e before after from to Puts → DrivesTo t IsEnd r before after from to Puts
+err_next t IsEnd e r before mid after from to Puts old new given Took number now p counted took reads end pieces later later' calm cause =
     handed_on t IsEnd r e before after from to Puts now (stops t IsEnd e before after from to Puts (record {
       front = front_read t before.left mid.left after.left old new Puts Took number p given took reads end;
       few_reads = few_next t before mid after old new given counted reads pieces;
       source_later = later;
       sink_later = later';
+      calm = calm;
     }) cause)
 
 -- a run that came to its end
 pub ends_well : (t : Task) (IsEnd : ℕ → Type 0) (driven : Driven) (before after : Supply) (from to : Outlet) (Puts : List ℕ → Type 0)
-    → IsEnd driven.events → HasReadAll before after → IsLeft t before after from to Puts → DrivesTo t IsEnd (Ok driven) before after from to Puts
+    → IsEnd driven.events → HasReadAll before after → IsLeft t (Ok driven) before after from to Puts → DrivesTo t IsEnd (Ok driven) before after from to Puts
 ends_well t IsEnd driven before after from to Puts done all left = record {
   done = done;
   all_read = all;
@@ -333,6 +339,7 @@ ends_well t IsEnd driven before after from to Puts done all left = record {
   write_fault = λ same. cc;
   source_later = left.source_later;
   sink_later = left.sink_later;
+  calm = left.calm;
 }
 
 -- nothing was put out and nothing waits
@@ -368,4 +375,5 @@ unstarted t IsEnd none before from =
       few_reads = omega arith;
       source_later = omega arith;
       sink_later = omega arith;
+      calm = λ _ _. (refl, refl);
     }) tt

@@ -1,5 +1,5 @@
 -- What one run over lines says of its source, its sink and its answer.
-use Rattle.std.specs.Prelude.{◌≡◌, ℕ, ◌+◌, ◌<◌, ◌≤◌, Bool, true, false, if◌then◌else◌, List, [], ◌∷◌, ◌++◌, length, Option, Some, None, Result, Err, IfOk}
+use Rattle.std.specs.Prelude.{◌≡◌, ◌≢◌, ℕ, ◌+◌, ◌<◌, ◌≤◌, Bool, true, false, if◌then◌else◌, List, [], ◌∷◌, ◌++◌, length, Option, Some, None, Result, Err, IfOk}
 use Rattle.std.specs.List.{AllByRecursion}
 use Rattle.std.specs.Result.{IsOkUnless}
 use Rattle.zs_keys.specs.Stream.{HasRisen, TakesOff, PutsOn, count_after}
@@ -105,6 +105,10 @@ pub record HasReadAll (before after : Supply) : Type 0 where
   pub made : after.reads ≡ count_after before.reads (count + 1)
   pub each : after.pieces ≡ count_after before.pieces count
 
+-- a run that answers no fault met none: none was swallowed
+abbrev pub IsCalm : Result Driven DriveError → Supply → Supply → Outlet → Outlet → Type 0
+IsCalm r before after from to = r ≢ Err ReadFault → r ≢ Err WriteFault → (after.faults ≡ before.faults) × (to.faults ≡ from.faults)
+
 -- What every run says, where that is what it says at its end: of what was put out at whatever exit, and the cause of
 -- each error.
 pub record DrivesTo (t : Task) (IsEnd : ℕ → Type 0) (r : Result Driven DriveError) (before after : Supply) (from to : Outlet) (Puts : List ℕ → Type 0) : Type 0 where
@@ -119,6 +123,7 @@ pub record DrivesTo (t : Task) (IsEnd : ℕ → Type 0) (r : Result Driven Drive
   pub write_fault : r ≡ Err WriteFault → HasRisen from.faults to.faults
   pub source_later : before.faults ≤ after.faults
   pub sink_later : from.faults ≤ to.faults
+  pub calm : IsCalm r before after from to
 
 -- What every run by a machine says, where `Closed` holds of the machine that took all lines and the end.
 abbrev pub Drives : Task → (List (List ℕ) → Type 0) → Result Driven DriveError → Supply → Supply → Outlet → Outlet → (List ℕ → Type 0) → Type 0

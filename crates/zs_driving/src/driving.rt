@@ -97,6 +97,7 @@ fn write_if_due<K: Sink>(
     ensures fault { OnErr result (HasRisen (K.faults sink.old) (K.faults sink.new)) }
     ensures only { IfErr result (λ error. error ≡ DriveError.WriteFault) }
     ensures later { K.faults sink.old ≤ K.faults sink.new }
+    ensures calm { OnOk result (K.faults sink.new ≡ K.faults sink.old) }
 {
     if holds_line && !transcript.is_full() {
         return Ok(());

@@ -58,6 +58,7 @@ impl Transcript {
         ensures empty { self.new ≡ [] }
         ensures fault { OnErr result (HasRisen (K.faults sink.old) (K.faults sink.new)) }
         ensures later { K.faults sink.old ≤ K.faults sink.new }
+        ensures calm { OnOk result (K.faults sink.new ≡ K.faults sink.old) }
     {
         let outcome = write_whole(sink, self.waiting.as_bytes());
         self.waiting.clear();

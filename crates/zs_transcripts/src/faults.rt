@@ -1,7 +1,7 @@
 //! Sources and sinks that fail at each read and at each write of a run over all kinds of events.
 
 use crate::spelling::{cut_words, sink, source, stuck_sink};
-use crate::transcripts::{ALL_KINDS, Parts, WORDS};
+use crate::transcripts::{ALL_KINDS, HOME, Parts, WORDS};
 use std::alloc::{AllocError, Global};
 use std::process::Abort;
 use std::test::Fail;
@@ -26,11 +26,12 @@ fn script(alloc: Global, parts: &Parts, fail: u64) -> Result<MemorySource, Alloc
 /// front of it.
 fn status_of(
     rt: &(impl Abort + AllocGlobal),
+    words: &str,
     parts: &Parts,
     mut source: MemorySource,
     mut output: MemorySink,
 ) -> Result<u8, AllocError> {
-    let words = cut_words(rt.alloc(), WORDS)?;
+    let words = cut_words(rt.alloc(), words)?;
     let mut complaints = sink(rt.alloc(), 4096, 0)?;
     let status = run(
         rt.alloc(),
@@ -51,26 +52,37 @@ fn status_of(
     Ok(status)
 }
 
-#[test]
-fn each_read_fails(rt: HostRuntime) -> Result<(), Fail> {
+/// Runs the script once for each of its reads, which fails in that run, and once without a fault.
+fn assert_reads_fail(
+    rt: &(impl Abort + AllocGlobal),
+    words: &str,
+    parts: &Parts,
+) -> Result<(), AllocError> {
     let alloc = rt.alloc();
-    let parts = ALL_KINDS.parts(alloc)?;
     // The last read sees the end.
     let reads = (parts.script.len().div_ceil(READ) + 1) as u64;
     for fail in 1..=reads {
-        let source = script(alloc, &parts, fail)?;
-        let status = status_of(&rt, &parts, source, sink(alloc, 4096, 0)?)?;
-        assert_eq!(rt; status, 6, "at read {fail}");
+        let source = script(alloc, parts, fail)?;
+        let status = status_of(rt, words, parts, source, sink(alloc, 4096, 0)?)?;
+        assert_eq!(*rt; status, 6, "at read {fail}");
     }
-    let source = script(alloc, &parts, reads + 1)?;
-    let status = status_of(&rt, &parts, source, sink(alloc, 4096, 0)?)?;
-    assert_eq!(rt; status, 0);
+    let source = script(alloc, parts, reads + 1)?;
+    let status = status_of(rt, words, parts, source, sink(alloc, 4096, 0)?)?;
+    assert_eq!(*rt; status, 0);
+    Ok(())
+}
+
+#[test]
+fn each_read_fails(rt: HostRuntime) -> Result<(), Fail> {
+    assert_reads_fail(&rt, WORDS, &ALL_KINDS.parts(rt.alloc())?)?;
+    assert_reads_fail(&rt, "drive", &HOME.parts(rt.alloc())?)?;
     Ok(())
 }
 
 /// How many writes a run makes, each of which ends it where it fails, or where it takes nothing.
 fn failing_writes(
     rt: &(impl Abort + AllocGlobal),
+    words: &str,
     parts: &Parts,
     takes_nothing: bool,
 ) -> Result<u64, AllocError> {
@@ -80,7 +92,7 @@ fn failing_writes(
         } else {
             sink(rt.alloc(), WRITE, fail)?
         };
-        let status = status_of(rt, parts, script(rt.alloc(), parts, 0)?, output)?;
+        let status = status_of(rt, words, parts, script(rt.alloc(), parts, 0)?, output)?;
         if status == 0 {
             return Ok(fail - 1);
         }
@@ -89,13 +101,23 @@ fn failing_writes(
     Ok(MANY)
 }
 
+/// Runs the script once for each of its writes, which fails or takes nothing in that run.
+fn assert_writes_fail(
+    rt: &(impl Abort + AllocGlobal),
+    words: &str,
+    parts: &Parts,
+) -> Result<(), AllocError> {
+    for takes_nothing in [false, true] {
+        let writes = failing_writes(rt, words, parts, takes_nothing)?;
+        assert!(*rt; writes >= (parts.output.len() / WRITE) as u64);
+        assert!(*rt; writes < MANY);
+    }
+    Ok(())
+}
+
 #[test]
 fn each_write_fails(rt: HostRuntime) -> Result<(), Fail> {
-    let parts = ALL_KINDS.parts(rt.alloc())?;
-    for takes_nothing in [false, true] {
-        let writes = failing_writes(&rt, &parts, takes_nothing)?;
-        assert!(rt; writes >= (parts.output.len() / WRITE) as u64);
-        assert!(rt; writes < MANY);
-    }
+    assert_writes_fail(&rt, WORDS, &ALL_KINDS.parts(rt.alloc())?)?;
+    assert_writes_fail(&rt, "drive", &HOME.parts(rt.alloc())?)?;
     Ok(())
 }

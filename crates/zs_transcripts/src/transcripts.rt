@@ -3,6 +3,7 @@
 
 use crate::spelling::{cut_words, sink, source, spell};
 pub(crate) use all_kinds::{ALL_KINDS, WORDS};
+pub(crate) use home::HOME;
 use std::alloc::{AllocError, Global};
 use std::process::Abort;
 use std::test::Fail;
@@ -14,6 +15,7 @@ mod channels;
 mod closing;
 mod declared_keys;
 mod gets;
+mod home;
 mod liveliness;
 mod matching;
 mod network;

@@ -9,4 +9,4 @@ returns-in_err-write_to g c =
 pub returns : goal.returns
 returns g c =
     drives_out _ _ c.take_lines-outcome.result _ _ _ _ _ c.take_lines-outcome.new.transcript
-    c.take_lines-outcome.ensures c.in_ok-write_to.ensures.whole c.write_to.ensures.later
+    c.take_lines-outcome.ensures c.in_ok-write_to.ensures.whole c.write_to.ensures.later c.in_ok-write_to.ensures.calm

@@ -1,4 +1,4 @@
-use Rattle.std.proofs.Common.{◌≡◌, ℕ, ◌+◌, ◌++◌, [], Option, Ok, Err, refl, sym, ◌∙◌, ap, subst, arith, false, true, Bool, List}
+use Rattle.std.proofs.Common.{◌≡◌, ℕ, ◌+◌, ◌++◌, [], Option, Result, Ok, Err, refl, sym, ◌∙◌, ap, subst, arith, false, true, Bool, List}
 use Rattle.zs_lines.specs.Reading.{Reading, Answers}
 use Rattle.zs_lines.specs.declared.reader.Line.{Line}
 use Rattle.zs_lines.specs.declared.reader.LineError.{LineError}
@@ -9,6 +9,10 @@ use Rattle.zs_driving.specs.declared.errors.DriveError.TheVariants.{WriteFault, 
 use Rattle.zs_driving.proofs.Exits.{stops, handed_on, next_cause, counted_same, counted_next, few_read, few_next, read_all, spent_all, risen_before, err_next, ends_well, begun_empty, counted_fresh, handed_error}
 use Rattle.zs_driving.proofs.Progress.{Progress, fresh, begun, due, front_written, is_next, stopped, stopped_long, spent_turns, went_on, end_is_next, closed, front_closed, waits_on, text_push}
 use Rattle.zs_driving.proofs.driving.take_lines.Goals as goal
+
+-- errors of equal results are equal
+error_same : (x y : LineError) (found found' : Result (Option Line) LineError) → found ≡ Err x → found' ≡ Err y → found ≡ found' → x ≡ y
+error_same x y found found' first second same = cc
 
 pub lines-init : goal.lines-init
 lines-init g c =
@@ -21,8 +25,8 @@ lines-init g c =
       progress = subst Q (sym c.new-reader.ensures)
           (begun t left (PutsWaiting W c.args.transcript.now W) Took c.requires.fresh (rw c.requires.empty (begun_empty W)));
       counted = counted_same t _ _ (fresh t) c.new-reader.result c.new-reader.ensures (counted_fresh t _);
-      source_later = omega arith;
-      sink_later = omega arith;
+      source_calm = refl;
+      sink_calm = refl;
     }
 
 pub returns-in_err-write_if_due : goal.returns-in_err-write_if_due
@@ -38,9 +42,10 @@ returns-in_err-write_if_due g c =
     (stops t _ WriteFault _ _ _ _ Puts (record {
       front = rw fault.err (front_written t _ _ c.lines.reader _ c.lines.taken W (g.K.Sink.written c.lines.sink) W' c.lines.transcript inv.progress fault.part);
       few_reads = few_read t _ _ c.lines.reader inv.counted;
-      source_later = inv.source_later;
-      sink_later = omega (arith, inv.sink_later, fault.later);
-    }) (risen_before _ _ _ inv.sink_later fault.fault))
+      source_later = omega (arith, inv.source_calm);
+      sink_later = omega (arith, inv.sink_calm, fault.later);
+      calm = λ _ other. absurd (other refl);
+    }) (risen_before _ _ _ (omega (arith, inv.sink_calm)) fault.fault))
 
 pub returns-in_err-line : goal.returns-in_err-line
 returns-in_err-line g c =
@@ -56,9 +61,10 @@ returns-in_err-line g c =
     let A : LineError → Type 0 = λ y. Answers reader c.next.new.self a.0 (Err y) in
     err_next t _ (drive_error line) c.from_residual-in_err-line.result _ _ _ _ _ _ reader c.next.new.self a.0 _ c.lines.taken
     c.from_residual-in_err-line.ensures.1 p k a.1 a.2 e.at_end e.pieces
-    (omega (arith, inv.source_later, e.later)) (omega (arith, inv.sink_later, c.write_if_due.ensures.later))
+    (omega (arith, inv.source_calm, e.later)) (omega (arith, inv.sink_calm, c.write_if_due.ensures.later))
+    (λ other _. (e.calm (λ same. other (ap (λ y. Err (drive_error y)) (error_same _ _ _ _ refl refl same))) ∙ inv.source_calm, c.in_ok-write_if_due.ensures.calm ∙ inv.sink_calm))
     (next_cause t line reader c.next.new.self a.0 _ _ _ _ _ a.3
-    (λ fault. risen_before _ _ _ inv.source_later (e.read_fault (ap (λ y. Err y) fault)))
+    (λ fault. risen_before _ _ _ (omega (arith, inv.source_calm)) (e.read_fault (ap (λ y. Err y) fault)))
     (λ place long. let at = subst A long a.3 in
     stopped_long t _ _ _ reader c.next.new.self _ _ c.lines.taken p a.0 a.1 a.2 e.at_end place at.0 at.1)
     (λ spent. let at = subst A spent a.3 in
@@ -77,7 +83,8 @@ returns-in_err-is_line g c =
     let a = e.answer in
     rw c.in_err-is_line.ensures.err (err_next t _ NoMemory c.from_residual-in_err-is_line.result _ _ _ _ _ _ reader c.next.new.self a.0 _ c.lines.taken
     c.from_residual-in_err-is_line.ensures.1 p k a.1 a.2 e.at_end e.pieces
-    (omega (arith, inv.source_later, e.later)) (omega (arith, inv.sink_later, c.write_if_due.ensures.later)) tt)
+    (omega (arith, inv.source_calm, e.later)) (omega (arith, inv.sink_calm, c.write_if_due.ensures.later))
+    (λ _ _. (e.calm (λ same. cc) ∙ inv.source_calm, c.in_ok-write_if_due.ensures.calm ∙ inv.sink_calm)) tt)
 
 pub returns-then-not-is_line : goal.returns-then-not-is_line
 returns-then-not-is_line g c =
@@ -96,7 +103,8 @@ returns-then-not-is_line g c =
     rw (c.in_ok-is_line.ensures.none (ap (λ b. Ok b) unknown))
     (err_next t _ (BadLine c.in-Some.line.number) (Err (BadLine c.in-Some.line.number)) _ _ _ _ _ _ reader c.next.new.self a.0 _ c.lines.taken
     refl p k a.1 a.2 e.at_end e.pieces
-    (omega (arith, inv.source_later, e.later)) (omega (arith, inv.sink_later, c.write_if_due.ensures.later))
+    (omega (arith, inv.source_calm, e.later)) (omega (arith, inv.sink_calm, c.write_if_due.ensures.later))
+    (λ _ _. (e.calm (λ same. cc) ∙ inv.source_calm, c.in_ok-write_if_due.ensures.calm ∙ inv.sink_calm))
     (stopped t _ _ _ reader c.next.new.self _ _ c.lines.taken c.in-Some.line.number c.in-Some.line.bytes.items p a.0 a.1 a.2 e.at_end line
     (sym c.in_ok-is_line.ensures.known ∙ unknown)))
 
@@ -125,8 +133,8 @@ lines-preserved g c =
           (waits_on _ c.write_if_due.new.transcript c.take.new.transcript _ _ (r.line_text h bytes) _ (c.in_ok-is_line.ensures.text taken r h p.stands next)
           (text_push r p.read bytes) p.output);
       counted = counted_next t _ _ _ reader c.next.new.self a.0 k a.2 e.pieces (λ unseen. e.reads (λ fault. cc) unseen) (λ ended. ap (λ source. g.S.Source.reads source) (e.still ended)) (e.seen (λ fault. cc));
-      source_later = omega (arith, inv.source_later, e.later);
-      sink_later = omega (arith, inv.sink_later, c.write_if_due.ensures.later);
+      source_calm = e.calm (λ same. cc) ∙ inv.source_calm;
+      sink_calm = c.in_ok-write_if_due.ensures.calm ∙ inv.sink_calm;
     }
 
 pub returns-in_default-checked_add : goal.returns-in_default-checked_add
@@ -142,7 +150,8 @@ returns-in_default-checked_add g c =
     let a = e.answer in
     err_next t _ NoMemory (Err NoMemory) _ _ _ _ _ _ reader c.next.new.self a.0 _ c.lines.taken
     refl p k a.1 a.2 e.at_end e.pieces
-    (omega (arith, inv.source_later, e.later)) (omega (arith, inv.sink_later, c.write_if_due.ensures.later)) tt
+    (omega (arith, inv.source_calm, e.later)) (omega (arith, inv.sink_calm, c.write_if_due.ensures.later))
+    (λ _ _. (e.calm (λ same. cc) ∙ inv.source_calm, c.in_ok-write_if_due.ensures.calm ∙ inv.sink_calm)) tt
 
 pub returns-in_err-end : goal.returns-in_err-end
 returns-in_err-end g c =
@@ -157,7 +166,8 @@ returns-in_err-end g c =
     let a = e.answer in
     rw c.in_err-end.ensures.err (err_next t _ NoMemory c.from_residual-in_err-end.result _ _ _ _ _ _ reader c.next.new.self a.0 _ c.lines.taken
     c.from_residual-in_err-end.ensures.1 p k a.1 a.2 e.at_end e.pieces
-    (omega (arith, inv.source_later, e.later)) (omega (arith, inv.sink_later, c.write_if_due.ensures.later)) tt)
+    (omega (arith, inv.source_calm, e.later)) (omega (arith, inv.sink_calm, c.write_if_due.ensures.later))
+    (λ _ _. (e.calm (λ same. cc) ∙ inv.source_calm, c.in_ok-write_if_due.ensures.calm ∙ inv.sink_calm)) tt)
 
 pub returns : goal.returns
 returns g c =
@@ -193,6 +203,7 @@ returns g c =
         pieces = g.S.Source.pieces c.next.new.source;
         faults = g.S.Source.faults c.next.new.source;
       }) reader c.next.new.self a.0 k a.2 e.pieces;
-      source_later = omega (arith, inv.source_later, e.later);
-      sink_later = omega (arith, inv.sink_later, c.write_if_due.ensures.later);
+      source_later = omega (arith, inv.source_calm, e.later);
+      sink_later = omega (arith, inv.sink_calm, c.write_if_due.ensures.later);
+      calm = λ _ _. (e.calm (λ same. cc) ∙ inv.source_calm, c.in_ok-write_if_due.ensures.calm ∙ inv.sink_calm);
     })

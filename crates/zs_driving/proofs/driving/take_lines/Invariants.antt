@@ -1,4 +1,4 @@
-use Rattle.std.proofs.Common.{◌≤◌, ℕ, List}
+use Rattle.std.proofs.Common.{◌≡◌, ℕ, List}
 use Rattle.zs_lines.specs.Reading.{work}
 use Rattle.zs_driving.specs.Tasks.{task_of}
 use Rattle.zs_driving.specs.Driving.{PutsWaiting}
@@ -16,8 +16,8 @@ invariant-lines g l = record {
       (record { left = g.S.Source.left l.fn.source; reads = g.S.Source.reads l.fn.source; pieces = g.S.Source.pieces l.fn.source; faults = g.S.Source.faults l.fn.source })
       (record { left = g.S.Source.left l.source; reads = g.S.Source.reads l.source; pieces = g.S.Source.pieces l.source; faults = g.S.Source.faults l.source })
       l.reader;
-  source_later : g.S.Source.faults l.fn.source ≤ g.S.Source.faults l.source;
-  sink_later : g.K.Sink.faults l.fn.sink ≤ g.K.Sink.faults l.sink;
+  source_calm : g.S.Source.faults l.source ≡ g.S.Source.faults l.fn.source;
+  sink_calm : g.K.Sink.faults l.sink ≡ g.K.Sink.faults l.fn.sink;
 }
 
 abbrev pub decreases-lines : goal.decreases-lines
