@@ -1,19 +1,18 @@
 -- The marks of posts, as gates are opened, lent, ended and given out.
-use Rattle.std.proofs.Common.{◌≡◌, ℕ, ◌-◌, ◌≤◌, Bool, true, false, cond, List, [], ◌∷◌, ◌++◌, Option, Some, None, refl, sym, ap, ◌∙◌, subst, arith}
+use Rattle.std.proofs.Common.{◌≡◌, ℕ, ◌-◌, ◌≤◌, Bool, true, false, cond, List, [], ◌∷◌, ◌++◌, Option, Some, None, refl, sym, ap, ◌∙◌, arith}
 use Rattle.std.specs.Prelude.{◌&&◌, ◌||◌, ◌==◌}
 use Rattle.std.specs.List.{AllByRecursion}
 use Rattle.std.specs.Ordering.{is_eq, ordering_reverse, match_ordering}
 use Rattle.std.specs.declared.cmp.Ordering.{Ordering}
 use Rattle.std.specs.declared.cmp.Ordering.TheVariants.{Less, Equal, Greater}
-use Rattle.atomic_table.specs.Seated.{TableId}
 use Rattle.zs_posts.specs.declared.key.Key.{Key}
 use Rattle.zs_posts.specs.declared.key.Name.{Name}
 use Rattle.zs_posts.specs.contracts.key.KeyOrd.TheImpl.Laws.{total-law}
 use Rattle.zs_posts.specs.Keys.{is_key, key_order}
 use Rattle.zs_posts.specs.Passes.{LentSeen}
 use Rattle.zs_posts.specs.Posts.{PostSeen, Rows, post_at, changed, raised, lowered_by, flagged, is_spent, spent_at}
-use Rattle.zs_posts.specs.Lending.{fresh, with_post, without, lend, lend_all, returned}
-use Rattle.zs_posts.specs.Settled.{PostsSeen, posts_seen, if_spent, without_spent, settled, ended, given_back, all_given_back, without_first, ready_without, taken_out}
+use Rattle.zs_posts.specs.Lending.{with_post, without, lend, lend_all, returned}
+use Rattle.zs_posts.specs.Settled.{PostsSeen, posts_seen, if_spent, settled, ended, given_back, all_given_back, without_first, ready_without, taken_out}
 use Rattle.zs_posts.proofs.Changes.{absent, later, all_changed, all_found, all_put, all_without}
 use Rattle.zs_posts.proofs.InTurn.{all_append}
 use Rattle.zs_exchange.specs.Begun.{ended_all}

@@ -5,10 +5,9 @@ use Rattle.zs_posts.specs.declared.key.Name.{Name}
 use Rattle.zs_posts.specs.declared.call.Wanted.{Wanted}
 use Rattle.zs_posts.specs.Keys.{is_key}
 use Rattle.zs_posts.specs.Posts.{PostSeen, Rows, post_at, changed, flagged, spent_at}
-use Rattle.zs_posts.specs.Lending.{fresh, without, with_post, lend_all, lents_of, is_overdrawn}
+use Rattle.zs_posts.specs.Lending.{fresh, without, lend_all, lents_of, is_overdrawn}
 use Rattle.zs_posts.specs.Calls.{CallSeen, handler_of, handler_at, keys_under, keys_for, call_keys, call_for, calls_of, turn_keys}
 use Rattle.zs_posts.specs.Settled.{PostsSeen, without_spent, ended}
-use Rattle.zs_posts.specs.Turns.{IsTurn}
 use Rattle.zs_posts.proofs.Changes.{all_changed, all_found, all_put, all_without}
 use Rattle.zs_exchange.specs.Begun.{Opens, Begun, Overdraws, ended_all}
 use Rattle.zs_exchange.specs.Handlers.{AreGates, NoneHeld}

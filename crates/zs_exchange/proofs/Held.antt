@@ -5,7 +5,7 @@ use Rattle.std.specs.List.{AllByRecursion}
 use Rattle.zs_posts.specs.declared.key.Key.{Key}
 use Rattle.zs_posts.specs.declared.call.Wanted.{Wanted}
 use Rattle.zs_posts.specs.Keys.{is_key}
-use Rattle.zs_posts.specs.Posts.{PostSeen, Rows, post_at, changed, raised}
+use Rattle.zs_posts.specs.Posts.{Rows, post_at, raised}
 use Rattle.zs_posts.specs.Lending.{lend, lend_all, lents_of, is_overdrawn}
 use Rattle.zs_posts.specs.Calls.{CallSeen, all_lents, handler_of, handler_at, call_keys, call_for, calls_of, turn_keys}
 use Rattle.zs_posts.specs.Settled.{PostsSeen}

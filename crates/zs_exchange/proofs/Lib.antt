@@ -2,6 +2,5 @@ pub mod Carrying
 pub mod Flags
 pub mod Handlers
 mod Held
-mod Preparing
 pub mod Rooms
 pub mod Undoing

@@ -1,5 +1,5 @@
 -- What was prepared leaves no trace where it is taken back.
-use Rattle.std.proofs.Common.{◌≡◌, ℕ, List, ◌∷◌, ◌++◌, length, take, Option, Some, None, refl, sym, ap, ◌∙◌, subst}
+use Rattle.std.proofs.Common.{◌≡◌, ℕ, List, take, Option, sym, ap, ◌∙◌, subst}
 use Rattle.std.proofs.Math.Seq.{take-append_seam}
 use Rattle.std.specs.List.{AllByRecursion}
 use Rattle.zs_wire.specs.declared.message.Message.{Message}
@@ -8,11 +8,9 @@ use Rattle.zs_events.specs.declared.turn.Turn.{Turn}
 use Rattle.zs_posts.specs.declared.key.Key.{Key}
 use Rattle.zs_posts.specs.declared.key.Name.{Name}
 use Rattle.zs_posts.specs.declared.call.Wanted.{Wanted}
-use Rattle.zs_posts.specs.Posts.{Rows, post_at}
 use Rattle.zs_posts.specs.Lending.{returned_all}
 use Rattle.zs_posts.specs.Settled.{PostsSeen, IsSettled, posts_seen}
 use Rattle.zs_posts.specs.Calls.{CallSeen, all_lents}
-use Rattle.zs_posts.specs.Turns.{IsTurn}
 use Rattle.zs_turns.specs.declared.item.Item.{Item}
 use Rattle.zs_exchange.specs.Begun.{Begins, closed}
 use Rattle.zs_exchange.specs.Exchange.{ExchangeSeen, Prepares, kept_messages}

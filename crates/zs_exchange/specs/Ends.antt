@@ -1,5 +1,5 @@
 -- Which gates a session gives out.
-use Rattle.std.specs.Prelude.{◌≡◌, true, false, List, [], ◌∷◌, Option, Some, None}
+use Rattle.std.specs.Prelude.{◌≡◌, true, false, [], ◌∷◌, Option, Some, None}
 use Rattle.std.specs.List.{AllByRecursion}
 use Rattle.atomic_table.specs.Seated.{TableId}
 use Rattle.zs_posts.specs.Posts.{PostSeen, is_spent}

@@ -1,5 +1,5 @@
 -- Whether posts were ended exactly where their keys were named for it.
-use Rattle.std.specs.Prelude.{◌≡◌, ℕ, ◌≤◌, Bool, true, false, List, [], ◌∷◌}
+use Rattle.std.specs.Prelude.{◌≡◌, ℕ, ◌≤◌, Bool, true, false, [], ◌∷◌}
 use Rattle.std.specs.List.{AllByRecursion}
 use Rattle.zs_posts.specs.declared.key.Key.{Key}
 use Rattle.zs_posts.specs.Keys.{is_key}

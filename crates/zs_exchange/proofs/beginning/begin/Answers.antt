@@ -1,4 +1,4 @@
-use Rattle.std.proofs.Common.{◌≡◌, ap, ◌∙◌}
+use Rattle.std.proofs.Common.{ap, ◌∙◌}
 use Rattle.zs_exchange.specs.Begun.{closed}
 use Rattle.zs_exchange.proofs.beginning.begin.Goals as goal
 

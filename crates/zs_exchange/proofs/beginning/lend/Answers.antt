@@ -1,4 +1,4 @@
-use Rattle.std.proofs.Common.{◌≡◌, map, ap, Err}
+use Rattle.std.proofs.Common.{map, ap, Err}
 use Rattle.zs_posts.specs.Calls.{call_seen}
 use Rattle.zs_posts.proofs.Changes.{why_out}
 use Rattle.zs_turns.specs.Calls.{wanted_of}

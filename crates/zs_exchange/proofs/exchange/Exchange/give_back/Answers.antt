@@ -1,4 +1,4 @@
-use Rattle.std.proofs.Common.{◌≡◌, ap, ◌∙◌}
+use Rattle.std.proofs.Common.{ap, ◌∙◌}
 use Rattle.zs_posts.specs.Settled.{PostsSeen}
 use Rattle.zs_hands.specs.Answers.{ran_lents}
 use Rattle.zs_exchange.specs.Exchange.{ExchangeSeen}

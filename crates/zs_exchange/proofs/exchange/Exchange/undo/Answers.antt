@@ -1,4 +1,4 @@
-use Rattle.std.proofs.Common.{◌≡◌, ℕ, map, take, sym, ap, ◌∙◌, subst}
+use Rattle.std.proofs.Common.{map, sym, subst}
 use Rattle.zs_posts.specs.Calls.{call_seen}
 use Rattle.zs_exchange.specs.Exchange.{ExchangeSeen, Prepares}
 use Rattle.zs_exchange.proofs.Undoing.{prepared_back}
