@@ -66,6 +66,15 @@ impl<H, T, D> Hands<H, T, D> {
 }
 
 impl<H: Drop, T: Drop, D: Drop> Hands<H, T, D> {
+    /// Lets go of no calls.
+    pub fn let_go(self)
+        requires { self.calls.items ≡ [] }
+    {
+        let Hands { calls, room } = self;
+        drop(calls);
+        drop(room);
+    }
+
     /// Makes each call inside of its gates, in order. It takes no memory.
     pub fn run<R: Wait>(self, rt: &R) -> Ran<T, D>
     where

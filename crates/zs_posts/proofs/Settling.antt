@@ -13,8 +13,8 @@ use Rattle.zs_posts.specs.declared.key.Key.{Key}
 use Rattle.zs_posts.specs.declared.key.Name.{Name}
 use Rattle.zs_posts.specs.Keys.{is_key, key_order}
 use Rattle.zs_posts.specs.Passes.{LentSeen}
-use Rattle.zs_posts.specs.Posts.{PostSeen, MapSeen, Rows, post_at, changed, raised, is_spent, spent_at}
-use Rattle.zs_posts.specs.Lending.{fresh, with_post, without, lend, lend_all, returned}
+use Rattle.zs_posts.specs.Posts.{PostSeen, MapSeen, Rows, post_at, changed, raised, lowered_by, is_spent, spent_at}
+use Rattle.zs_posts.specs.Lending.{fresh, with_post, without, lend, lend_all, returned, returned_all}
 use Rattle.zs_posts.specs.Settled.{IsSettled, if_spent, without_spent, first_of, without_first}
 use Rattle.zs_posts.proofs.Changes.{none_some, out, later, all_changed, all_put, all_without}
 use Rattle.zs_posts.proofs.InTurn.{all_append}
@@ -65,6 +65,10 @@ module _ {H : Type 0} where
   pub length_lent : (keys : List Key) (rows : Rows H) → length (lend_all keys rows) ≡ length rows
   length_lent [] rows = refl
   length_lent (key ∷ keys) rows = length_lent keys (lend key rows) ∙ length_changed raised key rows
+
+  pub length_returned : (lents : List LentSeen) (rows : Rows H) → length (returned_all lents rows) ≡ length rows
+  length_returned [] rows = refl
+  length_returned (lent ∷ lents) rows = length_changed (lowered_by lent) lent.key (returned_all lents rows) ∙ length_returned lents rows
 
   pub length_put : (key : Key) (p : PostSeen H) (rows : Rows H) → length (with_post key p rows) ≤ length rows + 1
   length_put key p [] = omega arith

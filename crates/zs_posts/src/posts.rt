@@ -7,7 +7,7 @@ ghost use Rattle.std.specs.Vec.{vec_len};
 ghost use Rattle.std.specs.VecDeque.{deque_len, deque_capacity};
 ghost use Rattle.atomic_table.specs.Seated.{TableId};
 ghost use Rattle.zs_posts.specs.Posts.{post_at, spent_at, is_spent};
-ghost use Rattle.zs_posts.specs.Lending.{fresh, with_post, without, lend_all, is_overdrawn};
+ghost use Rattle.zs_posts.specs.Lending.{fresh, with_post, without, lend_all, is_overdrawn, returned_all};
 ghost use Rattle.zs_posts.specs.Calls.{handler_at, passes_lents, call_seen, all_lents, turn_keys, calls_of};
 ghost use Rattle.zs_posts.specs.Settled.{IsSettled, if_spent, without_spent, ended, given_back, all_given_back, first_of, without_first, held_at, taken_out};
 
@@ -178,12 +178,24 @@ impl<H> Posts<H> {
         ensures few { IfOk result (λ calls. vec_len calls ≤ vec_len wanted) }
         ensures calls { IfOk result (λ calls. map call_seen calls.items ≡ calls_of wanted.items self.old.rows) }
         ensures posts { IfOk result (λ _. self.new ≡ record self.old { rows = lend_all (turn_keys wanted.items self.old.rows) self.old.rows }) }
+        ensures back { IfOk result (λ calls. returned_all (all_lents (map call_seen calls.items)) self.new.rows ≡ self.old.rows) }
         ensures fits { IfOk result (λ _. is_overdrawn (turn_keys wanted.items self.old.rows) self.old.rows ≡ false) }
         ensures of_room { IfOk result (λ calls. AllByRecursion (λ l. l.room ≡ self.old.room) (all_lents (map call_seen calls.items))) }
         ensures full { result ≡ Err NoPass.Full → is_overdrawn (turn_keys wanted.items self.old.rows) self.old.rows ≡ true }
         ensures err { OnErr result (self.new ≡ self.old) }
     {
         self.map.lend_turn(alloc, wanted)
+    }
+
+    /// Takes the passes of calls back that were lent by the last `lend_turn`: with its calls the posts are as they were before it.
+    pub fn unlend_turn<T: Drop>(&mut self, calls: Vec<Call<H, T>>)
+    where
+        H: Drop,
+        requires of_room { AllByRecursion (λ l. l.room ≡ self.old.room) (all_lents (map call_seen calls.items)) }
+        requires settled { IsSettled (returned_all (all_lents (map call_seen calls.items)) self.old.rows) self.old.ready }
+        ensures { self.new ≡ record self.old { rows = returned_all (all_lents (map call_seen calls.items)) self.old.rows } }
+    {
+        self.map.unlend_each(calls);
     }
 
     /// Opens a post as `open` does and then lends as `lend_turn` does, both or neither. At `Err` nothing has changed.

@@ -74,7 +74,7 @@ impl<H: Drop> PostMap<H> {
     }
 
     // Takes the passes of calls back, the last first.
-    fn unlend_each<T: Drop>(&mut self, calls: Vec<Call<H, T>>)
+    pub(crate) fn unlend_each<T: Drop>(&mut self, calls: Vec<Call<H, T>>)
         requires { AllByRecursion (λ l. l.room ≡ self.old.room) (all_lents (map call_seen calls.items)) }
         ensures { self.new ≡ record self.old { rows = returned_all (all_lents (map call_seen calls.items)) self.old.rows } }
     {
@@ -100,6 +100,7 @@ impl<H: Drop> PostMap<H> {
         ensures few { IfOk result (λ calls. vec_len calls ≤ vec_len wanted) }
         ensures calls { IfOk result (λ calls. map call_seen calls.items ≡ calls_of wanted.items self.old.rows) }
         ensures rows { IfOk result (λ _. self.new.rows ≡ lend_all (turn_keys wanted.items self.old.rows) self.old.rows) }
+        ensures back { IfOk result (λ calls. returned_all (all_lents (map call_seen calls.items)) self.new.rows ≡ self.old.rows) }
         ensures fits { IfOk result (λ _. is_overdrawn (turn_keys wanted.items self.old.rows) self.old.rows ≡ false) }
         ensures of_room { IfOk result (λ calls. AllByRecursion (λ l. l.room ≡ self.old.room) (all_lents (map call_seen calls.items))) }
         ensures room { self.new.room ≡ self.old.room }

@@ -1,6 +1,6 @@
 -- Which handlers a turn calls, and with what.
-use Rattle.std.specs.Prelude.{ℕ, List, [], ◌∷◌}
-use Rattle.std.specs.List.{flat_map}
+use Rattle.std.specs.Prelude.{ℕ, is_some, List, [], ◌∷◌}
+use Rattle.std.specs.List.{filter, flat_map}
 use Rattle.zs_events.specs.declared.turn.Effect.{Effect}
 use Rattle.zs_events.specs.declared.turn.Effect.TheVariants.{Send, Hand, End, Matching}
 use Rattle.zs_events.specs.declared.turn.HandOver.{HandOver}
@@ -9,6 +9,8 @@ use Rattle.zs_events.specs.declared.turn.Kind.TheVariants.{Queryable, Listener}
 use Rattle.zs_posts.specs.declared.key.Key.{Key}
 use Rattle.zs_posts.specs.declared.key.Key.TheVariants.{Of}
 use Rattle.zs_posts.specs.declared.call.Wanted.{Wanted}
+use Rattle.zs_posts.specs.Calls.{handler_at}
+use Rattle.zs_posts.specs.Posts.{Rows}
 use Rattle.zs_turns.specs.declared.item.Item.{Item}
 use Rattle.zs_turns.specs.declared.item.Item.TheVariants.{Sample as sample_item, Reply as reply_item, Query as query_item, Matching as matching_item}
 
@@ -34,3 +36,12 @@ wanted_by tag (End kind id) = []
 -- and of all handlers that effects call, in order
 unfoldable pub wanted_of : ℕ → List Effect → List (Wanted Item)
 wanted_of tag fx = flat_map (wanted_by tag) fx
+
+module _ {H : Type 0} where
+  -- what is wanted of handlers that are held
+  abbrev pub held_of : Rows H → List (Wanted Item) → List (Wanted Item)
+  held_of rows ws = filter (λ w. is_some (handler_at w.key rows)) ws
+
+  -- and of those that one effect calls
+  abbrev pub held_by : Rows H → ℕ → Effect → List (Wanted Item)
+  held_by rows tag e = held_of rows (wanted_by tag e)

@@ -1,0 +1,4 @@
+mod Core
+mod Keeping
+mod Naming
+mod Taking
