@@ -1,7 +1,7 @@
 -- What an event brings about beside what gets are told, and beside what it does with query values: what holds of each sort of effects
 -- holds of all of them.
 use Rattle.std.proofs.Common.{◌≡◌, ℕ, List, [], ◌∷◌, ◌++◌, Bool, true, false, Option, Some, None, refl, map}
-use Rattle.std.specs.Prelude.{◌==◌, ◌||◌, nat_le, is_some, option_map, filter, not, if◌then◌else◌}
+use Rattle.std.specs.Prelude.{◌==◌, ◌||◌, nat_le, is_some, option_map, filter, if◌then◌else◌}
 use Rattle.std.specs.List.{AllByRecursion, find, list_any}
 use Rattle.zs_keys.specs.Key.{Key as a_key}
 use Rattle.zs_sample.specs.Reply.{Replied}
@@ -41,8 +41,8 @@ use Rattle.zs_core.specs.Queryables.{queryable_at, queryable_ends}
 use Rattle.zs_core.specs.Groups.{Shared, sub_shared, pub_shared, querier_shared, Company, joins_first, last_number, sends_if, last_sends, leaving, subscriber_end, interest_end, querier_end}
 use Rattle.zs_core.specs.Sends.{OwnKeys, full_wire, wire_form, declaration_of, key_sends, return_sends, is_sent, push_with, publication_sends, sends_of}
 use Rattle.zs_core.specs.Tokens.{answers, is_told}
-use Rattle.zs_core.specs.LivelinessEffects.{Watch, hand_sample, token_sample, hand_token, hand_told, token_reply, hand_answer, end_asking, lsub_ends, token_hands, history_hands, told_hands, answer_hands, ended_text, answered_ends, watch_effects}
-use Rattle.zs_core.specs.Effects.{Known, key_wire, queryable_leaves, entity_sends, token_declaration, lsub_mode, token_interest, declared_sends, publication_on, hands_for, hands_of, undeclared_ends, ends_of}
+use Rattle.zs_core.specs.LivelinessEffects.{Watch, token_sample, hand_token, hand_told, token_reply, end_asking, lsub_ends, token_hands, history_hands, told_hands, answer_hands, ended_text, watch_effects}
+use Rattle.zs_core.specs.Effects.{Known, key_wire, queryable_leaves, entity_sends, token_declaration, lsub_mode, token_interest, declared_sends, publication_on, hands_for, hands_of, ends_of}
 
 -- what holds of each sort: of what is sent, of samples for those who live, of the ends of these, of what a new subscriber to liveliness is
 -- handed, of what gets of tokens are handed and their ends, and of the end of what an event undeclares
@@ -55,7 +55,7 @@ pub record Around (known : Known) (e : Event) (number : Option ℕ) (P : Effect 
   pub lsub_end : AllByRecursion (λ (row : LivelinessSub). P (End LivelinessSubscriber row.id)) known.watch.subs
   pub own : (history : Bool) → (row_of e).to_liveliness ≡ Subscribes history → (id : ℕ) → number ≡ Some id → (sample : SampleFields) → P (Hand (sample_for LivelinessSubscriber id sample))
   pub asking : AllByRecursion (λ (g : TokensGet). (n : ℕ) → (g.number == n) ≡ true → (reply : Replied) → P (Hand (reply_for tokens_kind n reply))) known.watch.gets
-  pub asking_end : AllByRecursion (λ (g : TokensGet). (n : ℕ) → (g.number == n) ≡ true → P (End tokens_kind n)) known.watch.gets
+  pub asking_end : (m : ℕ) → (row_of e).to_liveliness ≡ EndsAnswers (Some m) → AllByRecursion (λ (g : TokensGet). (n : ℕ) → (g.number == n) ≡ true → P (End tokens_kind n)) known.watch.gets
   pub ended_sub : (id : ℕ) → e ≡ Undeclare sub_kind id → P (End Subscriber id)
   pub ended_queryable : (id : ℕ) → e ≡ Undeclare queryable_sort id → P (End queryable_kind id)
   pub ended_lsub : (id : ℕ) → e ≡ Undeclare lsub_sort id → P (End LivelinessSubscriber id)
@@ -244,7 +244,7 @@ watch_around P known e number text (EndsAnswers (Some n)) same ends by all = go 
     go : (b : Bool) → is_asking n known.watch.gets ≡ b → AllByRecursion P (if b then end_asking n ∷ [] else [])
     go true is = (
       any_holds (λ (g : TokensGet). g.number == n) (λ (g : TokensGet). (n : ℕ) → (g.number == n) ≡ true → P (End tokens_kind n)) (P (End tokens_kind n)) (λ g same holds. holds n same) known.watch.gets
-          by.asking_end is,
+          (by.asking_end n same) is,
       tt,
     )
     go false is = tt

@@ -1,7 +1,7 @@
 -- An event ends just those gets that its table leaves out.
 use Rattle.std.proofs.Common.{◌≡◌, ◌<◌, ◌+◌, ℕ, List, [], ◌∷◌, ◌++◌, Bool, true, false, Option, Some, None, refl, sym, ◌∙◌, ap, subst, arith, map}
-use Rattle.std.specs.Prelude.{◌==◌, ◌&&◌, ◌||◌, not, filter, is_some, max, if◌then◌else◌}
-use Rattle.std.specs.List.{AllByRecursion, find, flat_map, list_any}
+use Rattle.std.specs.Prelude.{◌==◌, ◌||◌, not, filter, is_some, if◌then◌else◌}
+use Rattle.std.specs.List.{AllByRecursion, flat_map}
 use mathlib.Core.List.{append-nil}
 use Rattle.zs_sample.specs.Reply.{Replied}
 use Rattle.zs_wire.specs.declared.body.Body.{Body}
@@ -16,7 +16,6 @@ use Rattle.zs_tables.specs.LivelinessGets.{numbers_with, over_at}
 use Rattle.zs_tables.specs.declared.liveliness_get.LivelinessGet.{LivelinessGet as TokensGet}
 use Rattle.zs_query.specs.declared.get_row.GetRow.{GetRow}
 use Rattle.zs_query.specs.declared.open_get.OpenGet.{OpenGet}
-use Rattle.zs_query.specs.declared.outcome.Outcome.{Outcome}
 use Rattle.zs_query.specs.declared.outcome.Outcome.TheVariants as outcome
 use Rattle.zs_query.specs.declared.outcome.Peek.{Peek}
 use Rattle.zs_query.specs.declared.outcome.Peek.TheVariants as peek
@@ -28,7 +27,7 @@ use Rattle.zs_query.specs.declared.side.Side.{Side}
 use Rattle.zs_query.specs.declared.side.Side.TheVariants.{Local, Network}
 use Rattle.zs_query.specs.Ascending.{Ascend}
 use Rattle.zs_query.specs.Gets.{get_at, with_get, without_get, fresh, peek_at, peek_get, replied, after_reply, other_side, wants, less_final, final_outcome, after_final, is_due, names, end_of, ends_at, timeout_error}
-use Rattle.zs_query.specs.Asked.{News, Quiet, ReplyTo, FinalOf, QuerierEnds, CancelledBy, is_end, waits, opened, gets_after}
+use Rattle.zs_query.specs.Asked.{Quiet, ReplyTo, FinalOf, QuerierEnds, CancelledBy, opened, gets_after}
 use Rattle.zs_query.specs.Unfinished.{value_at, values_from, finished}
 use Rattle.zs_query.specs.GetTable.{Asking}
 use Rattle.zs_query.proofs.Ascending.{all_weaker}
@@ -36,10 +35,8 @@ use Rattle.zs_query.proofs.Searching.{find_none}
 use Rattle.zs_events.specs.declared.event.Event.{Event}
 use Rattle.zs_events.specs.declared.event.Event.TheVariants.{Undeclare, Close, Net, Get, QuerierGet, Cancel, Tick, Reply as reply_event, ReplyErr, Finish, Share}
 use Rattle.zs_events.specs.declared.entity_kind.EntityKind.TheVariants.{Sub as sub_kind, Pub as pub_kind, Queryable as queryable_sort, Querier as querier_sort, Listener as listener_sort, Token as token_sort, Lsub as lsub_sort}
-use Rattle.zs_events.specs.declared.inquiry.Inquiry.{Inquiry}
 use Rattle.zs_events.specs.declared.publication.ReplyQuality.{ReplyQuality}
 use Rattle.zs_events.specs.declared.turn.Answer.TheVariants.{Ok as accepted}
-use Rattle.zs_events.specs.declared.turn.Effect.{Effect}
 use Rattle.zs_events.specs.declared.turn.Effect.TheVariants.{Send}
 use Rattle.zs_events.specs.Kinds.{NamedKey, OwnKey, QuerierKey, Question, Asks, ToValues, NoValue, QueryNumber, row_of}
 use Rattle.zs_core.specs.World.{World}
@@ -59,7 +56,7 @@ use Rattle.zs_core.specs.Turns.{to_gets_at, known_at}
 use Rattle.zs_core.proofs.Gets.{asking_by, IsAskedUnder}
 use Rattle.zs_laws.specs.Ended.{get_ended, picked, begun}
 use Rattle.zs_laws.proofs.Around.{others_of}
-use Rattle.zs_laws.proofs.Leaving.{same_number, not_same, filter_numbers, gone, none_gone, filter_more, only, found_here, filter_false}
+use Rattle.zs_laws.proofs.Leaving.{gone, none_gone, filter_more, only}
 use Rattle.zs_laws.proofs.Picking.{picked_append, picked_behind, others_end_none, ends_picked, replies_picked, queries_picked, last_picked, timeouts_picked, asking_picked}
 
 -- the numbers of gets, and those of them that are gone from others

@@ -1,7 +1,7 @@
 -- The ends that an event tells are those of the gets that are open no longer.
-use Rattle.std.proofs.Common.{◌≡◌, ◌≢◌, ◌<◌, ◌≤◌, ◌+◌, ℕ, List, [], ◌∷◌, ◌++◌, Bool, true, false, Option, Some, None, refl, sym, ◌∙◌, ap, subst, arith, map}
+use Rattle.std.proofs.Common.{◌≡◌, ◌<◌, ◌+◌, ℕ, List, [], ◌∷◌, ◌++◌, Bool, true, false, Option, Some, None, refl, sym, ◌∙◌, ap, subst, arith, map}
 use Rattle.std.specs.Prelude.{◌==◌, ◌||◌, ◌&&◌, not, filter, is_some, if◌then◌else◌}
-use Rattle.std.specs.List.{AllByRecursion, find, list_any}
+use Rattle.std.specs.List.{AllByRecursion, list_any}
 use Rattle.std.proofs.lemmas.Bool.{eqb-true}
 use mathlib.Core.List.{append-nil}
 use Rattle.zs_tables.specs.declared.listener.ListenerRow.{ListenerRow}
@@ -14,7 +14,7 @@ use Rattle.zs_query.specs.declared.outcome.Outcome.TheVariants as outcome
 use Rattle.zs_query.specs.declared.side.Side.{Side}
 use Rattle.zs_query.specs.Ascending.{Ascend}
 use Rattle.zs_query.specs.Gets.{get_at, fresh, replied, less_final, final_outcome, after_final, is_due, names}
-use Rattle.zs_query.specs.Asked.{News, Quiet, ReplyTo, FinalOf, AtMoment, QuerierEnds, CancelledBy, AllEnd, Asked, is_open, state, waits, opened, gets_after}
+use Rattle.zs_query.specs.Asked.{News, Quiet, ReplyTo, FinalOf, AtMoment, QuerierEnds, CancelledBy, AllEnd, Asked, is_open, state, waits, gets_after}
 use Rattle.zs_query.specs.GetTable.{Asking}
 use Rattle.zs_query.proofs.Ascending.{all_filter}
 use Rattle.zs_query.proofs.Hearing.{all_map, open_ascend}
@@ -40,17 +40,17 @@ use Rattle.zs_core.specs.Counters.{draws_query, next_query}
 use Rattle.zs_core.specs.Gets.{asked, open_now, news_of}
 use Rattle.zs_core.specs.Listeners.{is_listener, listener_ends}
 use Rattle.zs_core.specs.Matching.{turned}
-use Rattle.zs_core.specs.Questions.{is_some_met, row_waiting}
+use Rattle.zs_core.specs.Questions.{row_waiting}
 use Rattle.zs_core.specs.Values.{met_by_get}
 use Rattle.zs_core.specs.Turns.{text_for, to_gets_at, number_for, decision, with_listeners, listener_effects_at}
 use Rattle.zs_core.specs.Stands.{lives, world_of, world_after}
 use Rattle.zs_core.specs.Effects.{effects, turn_of}
 use Rattle.zs_core.proofs.Changes.{made}
 use Rattle.zs_core.proofs.Decisions.{cases}
-use Rattle.zs_core.proofs.Gets.{AreAsked, asking_by, IsAskedUnder}
+use Rattle.zs_core.proofs.Gets.{AreAsked, asking_by}
 use Rattle.zs_core.proofs.Saying.{IsMade}
 use Rattle.zs_core.proofs.Stands.{standing, same_turn, steps}
-use Rattle.zs_laws.specs.Ended.{get_ended, with_number, picked, begun, EndsOfGets, IsOver, EndedGetsStayEnded}
+use Rattle.zs_laws.specs.Ended.{get_ended, with_number, picked, begun, EndsOfGets, EndedGetsStayEnded}
 use Rattle.zs_laws.proofs.EndsLost.{numbers, lost, nothing_lost, same_there, keeps_row, after, IsFit, ends_lost}
 use Rattle.zs_laws.proofs.Fresh.{number_answered, query_drawn}
 use Rattle.zs_laws.proofs.Picking.{picked_append, picked_behind}

@@ -1,9 +1,9 @@
 -- What spelled events send is spelled.
 use Rattle.std.proofs.Common.{◌≡◌, ◌≤◌, ℕ, ◌++◌, List, [], ◌∷◌, Bool, true, false, Option, Some, None, refl, sym, ◌∙◌, ap, subst, arith, length, take, drop}
-use Rattle.std.specs.Prelude.{◌==◌, ◌&&◌, not, chars, option_map, unwrap_or, if◌then◌else◌, encode_utf8_all}
+use Rattle.std.specs.Prelude.{◌==◌, ◌&&◌, not, option_map, unwrap_or, if◌then◌else◌}
 use Rattle.std.specs.List.{AllByRecursion, starts_with}
 use Rattle.std.specs.Option.{IfSome}
-use Rattle.std.specs.Str.{IsUtf8, all_scalars}
+use Rattle.std.specs.Str.{IsUtf8}
 use Rattle.std.proofs.lemmas.Bool.{eqb-true}
 use Rattle.std.proofs.lemmas.List.{length-append}
 use Rattle.std.proofs.lemmas.Str.{scalars-chars, IsUtf8-drop, IsCharBoundary-from_take}
@@ -11,7 +11,6 @@ use Rattle.std.proofs.Math.Seq.{take-append_seam}
 use Rattle.zs_keys.specs.Key.{Key as a_key}
 use Rattle.zs_keys.specs.Matching.{includes}
 use Rattle.zs_keys.specs.declared.declaration.Declared.{Declared}
-use Rattle.zs_wire.specs.declared.message.Message.{Message}
 use Rattle.zs_wire.specs.declared.wire_expr.WireExpr.{WireExpr}
 use Rattle.zs_tables.specs.declared.group_kind.GroupKind.{GroupKind}
 use Rattle.zs_tables.specs.declared.group_kind.GroupKind.TheVariants.{Subscribers, Publishers, Queriers}
@@ -19,7 +18,7 @@ use Rattle.zs_events.specs.declared.event.Event.{Event}
 use Rattle.zs_events.specs.Kinds.{row_of}
 use Rattle.zs_core.specs.declared.settings.Settings.{Settings}
 use Rattle.zs_core.specs.Entry.{Entry}
-use Rattle.zs_core.specs.Held.{held_text, named_text}
+use Rattle.zs_core.specs.Held.{named_text}
 use Rattle.zs_core.specs.Past.{past_of, entry_of}
 use Rattle.zs_core.specs.Values.{values_now}
 use Rattle.zs_core.specs.Groups.{aggregate_of, aggregates_of, declaration_by}
@@ -28,7 +27,7 @@ use Rattle.zs_core.specs.Effects.{known_of}
 use Rattle.zs_core.specs.Received.{wire_in, AreSpelled, AreUtf8}
 use Rattle.zs_core.proofs.Reading.{front_and_rest, found_one}
 use Rattle.zs_laws.specs.Spelled.{AllSpelled, IsSent, SentKeysAreSpelled}
-use Rattle.zs_laws.proofs.Sent.{Sending, told_all, by_accepting, ends_token}
+use Rattle.zs_laws.proofs.Sent.{Sending, told_all, by_accepting}
 use Rattle.zs_laws.proofs.Tested.{AreKeyed, found_of, values_of}
 use Rattle.zs_laws.proofs.Texts.{past_utf8, event_utf8, held_utf8}
 

@@ -1,9 +1,8 @@
 -- Open gets are handed what they hear, and others nothing.
-use Rattle.std.proofs.Common.{◌≡◌, ◌<◌, ℕ, List, [], ◌∷◌, ◌++◌, Bool, true, false, Option, Some, None, refl, sym, ◌∙◌, ap, subst, arith, map}
-use Rattle.std.specs.Prelude.{◌==◌, ◌&&◌, ◌||◌, not, nat_le, filter, is_some, is_none, if◌then◌else◌}
-use Rattle.std.specs.List.{AllByRecursion, find}
+use Rattle.std.proofs.Common.{◌≡◌, ◌<◌, ℕ, List, [], ◌∷◌, ◌++◌, Bool, true, false, Option, Some, None, refl, sym, ◌∙◌, ap, map}
+use Rattle.std.specs.Prelude.{◌==◌, ◌&&◌, not, filter, if◌then◌else◌}
+use Rattle.std.specs.List.{AllByRecursion}
 use Rattle.std.proofs.lemmas.Bool.{eqb-true}
-use Rattle.std.proofs.lemmas.Bool.Decides.{nat_tests}
 use Rattle.zs_sample.specs.Reply.{Replied}
 use Rattle.zs_wire.specs.declared.request.ConsolidationMode.{ConsolidationMode}
 use Rattle.zs_wire.specs.declared.request.ConsolidationMode.TheVariants as by
@@ -14,22 +13,19 @@ use Rattle.zs_query.specs.declared.outcome.Outcome.TheVariants as outcome
 use Rattle.zs_query.specs.declared.outcome.Peek.TheVariants as peek
 use Rattle.zs_query.specs.declared.side.Side.{Side}
 use Rattle.zs_query.specs.Ascending.{Ascend}
-use Rattle.zs_query.specs.Asked.{News, Quiet, ReplyTo, FinalOf, AtMoment, QuerierEnds, CancelledBy, AllEnd, Asked, waiting, is_open, is_for, state, replies_in}
-use Rattle.zs_query.specs.Gets.{get_at, takes_key, peek_by, peek_get, peek_at, final_outcome, other_side, wants, timeout_error}
+use Rattle.zs_query.specs.Asked.{News, Quiet, ReplyTo, FinalOf, AtMoment, QuerierEnds, CancelledBy, AllEnd, Asked, waiting, is_open, state, replies_in}
+use Rattle.zs_query.specs.Gets.{get_at, takes_key, peek_by, peek_get, peek_at, final_outcome, other_side, wants}
 use Rattle.zs_query.specs.Kept.{passes_all}
 use Rattle.zs_query.specs.Laws.{peek_in}
 use Rattle.zs_query.specs.Marks.{key_of}
 use Rattle.zs_query.proofs.Ascending.{all_weaker, all_both, ascend_filter}
 use Rattle.zs_query.proofs.Hearing.{open_ascend}
 use Rattle.zs_query.proofs.Standing.{stands}
-use Rattle.zs_events.specs.declared.event.Event.{Event}
 use Rattle.zs_events.specs.declared.turn.Effect.{Effect}
 use Rattle.zs_events.specs.declared.turn.Effect.TheVariants.{Matching}
 use Rattle.zs_events.specs.declared.turn.Refusal.{Refusal}
-use Rattle.zs_events.specs.declared.turn.Turn.{Turn}
 use Rattle.zs_events.specs.Turn.{answered}
 use Rattle.zs_events.specs.Kinds.{row_of}
-use Rattle.zs_core.specs.declared.settings.Settings.{Settings}
 use Rattle.zs_core.specs.Causes.{refusal_of}
 use Rattle.zs_core.specs.Entry.{Entry, is_closed}
 use Rattle.zs_core.specs.Gets.{asked, open_now}
@@ -41,7 +37,7 @@ use Rattle.zs_core.specs.Past.{past_of, entry_of}
 use Rattle.zs_core.specs.Values.{values_now}
 use Rattle.zs_core.specs.Effects.{known_of, effects_on, effects_behind, effects}
 use Rattle.zs_core.proofs.Stands.{standing}
-use Rattle.zs_laws.specs.Handed.{handed_at, handed_to, handed_now, kept_by, is_last, handed_by, errors_by, heard_at, accepted_alone, GetsAreHanded}
+use Rattle.zs_laws.specs.Handed.{handed_to, handed_now, kept_by, is_last, handed_by, errors_by, heard_at, accepted_alone, GetsAreHanded}
 use Rattle.zs_laws.proofs.Leaving.{same_number, not_same}
 use Rattle.zs_laws.proofs.Handed.{handed_append, peeked, ended_with, at_end, given_by, given_to}
 use mathlib.Core.List.{append-nil}

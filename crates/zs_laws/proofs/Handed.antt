@@ -1,15 +1,13 @@
 -- What an event hands to the get of a number.
-use Rattle.std.proofs.Common.{◌≡◌, ◌≢◌, ◌<◌, ℕ, List, [], ◌∷◌, ◌++◌, Bool, true, false, Option, Some, None, refl, sym, ◌∙◌, ap, subst, arith, map}
-use Rattle.std.specs.Prelude.{◌==◌, ◌&&◌, ◌||◌, not, nat_le, filter, is_some, is_none, if◌then◌else◌}
-use Rattle.std.specs.List.{AllByRecursion, find, flat_map}
+use Rattle.std.proofs.Common.{◌≡◌, ◌<◌, ℕ, List, [], ◌∷◌, ◌++◌, Bool, true, false, Option, Some, None, refl, sym, ◌∙◌, ap, arith, map}
+use Rattle.std.specs.Prelude.{◌==◌, ◌&&◌, filter, is_some, if◌then◌else◌}
+use Rattle.std.specs.List.{AllByRecursion, flat_map}
 use Rattle.std.proofs.lemmas.Bool.{eqb-true}
-use Rattle.std.proofs.lemmas.Bool.Decides.{nat_tests}
 use mathlib.Core.List.{append-nil}
 use Rattle.zs_sample.specs.Reply.{Replied}
 use Rattle.zs_wire.specs.declared.body.Body.{Body}
 use Rattle.zs_wire.specs.declared.body.Value.{Value}
 use Rattle.zs_wire.specs.declared.message.Message.TheVariants.{Request as request_message, Response as response_message, ResponseFinal}
-use Rattle.zs_wire.specs.declared.request.ConsolidationMode.{ConsolidationMode}
 use Rattle.zs_wire.specs.declared.request.ConsolidationMode.TheVariants as by
 use Rattle.zs_wire.specs.declared.response.Answered.{Answered}
 use Rattle.zs_wire.specs.declared.response.Answered.TheVariants.{Reply, Err as Error}
@@ -17,10 +15,8 @@ use Rattle.zs_wire.specs.declared.response.Response.{Response}
 use Rattle.zs_wire.specs.declared.wire_expr.WireExpr.{WireExpr}
 use Rattle.zs_tables.specs.Recipients.{has_network}
 use Rattle.zs_tables.specs.LivelinessGets.{numbers_with, over_at}
-use Rattle.zs_tables.specs.declared.listener.ListenerRow.{ListenerRow}
 use Rattle.zs_tables.specs.declared.liveliness_get.LivelinessGet.{LivelinessGet as TokensGet}
 use Rattle.zs_tables.specs.MatchingLaws.{differ}
-use Rattle.zs_query.specs.declared.get_row.GetRow.{GetRow}
 use Rattle.zs_query.specs.declared.open_get.OpenGet.{OpenGet}
 use Rattle.zs_query.specs.declared.outcome.Outcome.{Outcome}
 use Rattle.zs_query.specs.declared.outcome.Outcome.TheVariants as outcome
@@ -32,48 +28,31 @@ use Rattle.zs_query.specs.declared.requests.Finished.TheVariants.{Unknown, MoreL
 use Rattle.zs_query.specs.declared.side.Side.{Side}
 use Rattle.zs_query.specs.declared.side.Side.TheVariants.{Local, Network}
 use Rattle.zs_query.specs.Ascending.{Ascend}
-use Rattle.zs_query.specs.Asked.{News, Quiet, ReplyTo, FinalOf, AtMoment, QuerierEnds, CancelledBy, AllEnd, Asked, waiting, is_open, is_for, state, replies_in}
-use Rattle.zs_query.specs.Gets.{get_at, takes_key, peek_get, peek_at, other_side, wants, final_outcome, is_due, end_of, ends_at, timeout_error}
-use Rattle.zs_query.specs.Kept.{passes_all}
-use Rattle.zs_query.specs.Laws.{peek_in}
-use Rattle.zs_query.specs.Marks.{key_of}
+use Rattle.zs_query.specs.Asked.{News, Quiet, ReplyTo, FinalOf, AtMoment, QuerierEnds, CancelledBy, AllEnd}
+use Rattle.zs_query.specs.Gets.{get_at, peek_at, final_outcome, is_due, end_of, ends_at, timeout_error}
 use Rattle.zs_query.specs.Unfinished.{value_at, finished}
-use Rattle.zs_query.proofs.Ascending.{all_weaker, all_both, ascend_filter}
-use Rattle.zs_query.proofs.Standing.{stands}
+use Rattle.zs_query.proofs.Ascending.{all_weaker}
 use Rattle.zs_events.specs.declared.event.Event.{Event}
 use Rattle.zs_events.specs.declared.event.Event.TheVariants.{Undeclare, Close, Net, Get, QuerierGet, Cancel, Tick, Reply as reply_event, ReplyErr, Finish, Share}
 use Rattle.zs_events.specs.declared.entity_kind.EntityKind.TheVariants.{Sub as sub_kind, Pub as pub_kind, Queryable as queryable_sort, Querier as querier_sort, Listener as listener_sort, Token as token_sort, Lsub as lsub_sort}
-use Rattle.zs_events.specs.declared.inquiry.Inquiry.{Inquiry}
 use Rattle.zs_events.specs.declared.publication.ReplyQuality.{ReplyQuality}
 use Rattle.zs_events.specs.declared.turn.Effect.{Effect}
-use Rattle.zs_events.specs.declared.turn.Effect.TheVariants.{Send, Matching}
-use Rattle.zs_events.specs.declared.turn.Refusal.{Refusal}
-use Rattle.zs_events.specs.declared.turn.Turn.{Turn}
+use Rattle.zs_events.specs.declared.turn.Effect.TheVariants.{Send}
 use Rattle.zs_events.specs.Turn.{answered}
-use Rattle.zs_events.specs.Kinds.{NamedKey, OwnKey, QuerierKey, Question, NoValue, ToGets, ToValues, row_of}
-use Rattle.zs_core.specs.declared.settings.Settings.{Settings}
+use Rattle.zs_events.specs.Kinds.{NamedKey, OwnKey, QuerierKey, Question, NoValue, row_of}
 use Rattle.zs_core.specs.declared.querier.QuerierRow.{QuerierRow}
 use Rattle.zs_core.specs.Answers.{quality_of, local_reply, local_error, response_by, news_of_reply, news_of_finished}
-use Rattle.zs_core.specs.Causes.{refusal_of}
-use Rattle.zs_core.specs.Entry.{Entry, is_closed}
 use Rattle.zs_core.specs.GetEffects.{hand_reply, hand_query, end_get, last_hands, reply_effects, response_effects, final_effects, ends_effects, ended_numbers, cut_effects, ask_effects, asked_effects, request_effects, told_effects, with_gets}
-use Rattle.zs_core.specs.Gets.{asked, open_now, news_of, sample_reply, error_reply, response_news}
-use Rattle.zs_core.specs.Held.{named_text}
-use Rattle.zs_core.specs.Listeners.{is_listener, listener_ends}
-use Rattle.zs_core.specs.Live.{live_listeners, to_gets_of}
+use Rattle.zs_core.specs.Gets.{news_of, sample_reply, error_reply, response_news}
 use Rattle.zs_core.specs.LivelinessEffects.{hand_answer, end_asking, cancelled_ends, asking_ends}
-use Rattle.zs_core.specs.Matching.{is_matched, turned, listener_effects}
-use Rattle.zs_core.specs.Past.{past_of, entry_of}
 use Rattle.zs_core.specs.Queriers.{querier_at, question_of, asks_of}
 use Rattle.zs_core.specs.Questions.{request_of}
 use Rattle.zs_core.specs.Sends.{full_wire, wire_form, declaration_of}
-use Rattle.zs_core.specs.Values.{drawn_by, values_now}
-use Rattle.zs_core.specs.ValueEffects.{Answering, requested_effects, replied_effects, error_effects, answer_effects, answer_error_effects, finish_effects}
-use Rattle.zs_core.specs.Effects.{Known, known_of, to_gets_for, answering, draws_of, effects_on, effects_behind, effects}
-use Rattle.zs_core.proofs.Stands.{standing}
-use Rattle.zs_laws.specs.Handed.{handed_at, handed_to, handed_now, kept_by, is_last, handed_by, error_of, error_by, errors_by, heard_at, accepted_alone, GetsAreHanded}
+use Rattle.zs_core.specs.Values.{drawn_by}
+use Rattle.zs_core.specs.ValueEffects.{Answering, requested_effects, replied_effects, answer_effects, answer_error_effects, finish_effects}
+use Rattle.zs_core.specs.Effects.{Known, to_gets_for, answering, draws_of, effects_on}
+use Rattle.zs_laws.specs.Handed.{handed_at, handed_to, error_of, error_by, errors_by}
 use Rattle.zs_laws.proofs.Around.{Around, others_of, others_around}
-use Rattle.zs_laws.proofs.Leaving.{same_number, not_same}
 use Rattle.zs_laws.proofs.Picking.{any_all}
 
 pub handed_append : (n : ℕ) (xs ys : List Effect) → handed_to n (xs ++ ys) ≡ handed_to n xs ++ handed_to n ys
@@ -105,7 +84,7 @@ no_reply_around n known e number = record {
   lsub_end = any_all _ (λ row. refl) known.watch.subs;
   own = λ history same id is sample. refl;
   asking = any_all _ (λ g m same reply. refl) known.watch.gets;
-  asking_end = any_all _ (λ g m same. refl) known.watch.gets;
+  asking_end = λ k is. any_all _ (λ g m same. refl) known.watch.gets;
   ended_sub = λ id is. refl;
   ended_queryable = λ id is. refl;
   ended_lsub = λ id is. refl;

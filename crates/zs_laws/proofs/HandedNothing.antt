@@ -1,7 +1,6 @@
 -- A get that is not open is handed nothing.
 use Rattle.std.proofs.Common.{◌≡◌, ℕ, List, [], ◌∷◌, ◌++◌, Bool, true, false, Option, Some, None, refl, sym, ◌∙◌, ap}
 use Rattle.std.specs.Prelude.{◌==◌, ◌&&◌, ◌||◌, is_some, is_none, if◌then◌else◌}
-use Rattle.std.specs.List.{AllByRecursion}
 use Rattle.std.proofs.lemmas.Bool.{eqb-true}
 use Rattle.zs_sample.specs.Reply.{Replied}
 use Rattle.zs_wire.specs.declared.body.Value.{Value}
@@ -17,7 +16,6 @@ use Rattle.zs_query.specs.Unfinished.{value_at}
 use Rattle.zs_query.proofs.Hearing.{open_ascend}
 use Rattle.zs_events.specs.declared.event.Event.{Event}
 use Rattle.zs_events.specs.declared.turn.Refusal.{Refusal}
-use Rattle.zs_events.specs.declared.turn.Turn.{Turn}
 use Rattle.zs_events.specs.Turn.{answered}
 use Rattle.zs_events.specs.Kinds.{ToGets, NoGet, Asks, AsksBy, Answers, EndsSide, Reaches, EndsQuerier, Cancels, EndsAll, ToValues, AnswersError, row_of}
 use Rattle.zs_core.specs.declared.settings.Settings.{Settings}
@@ -25,7 +23,7 @@ use Rattle.zs_core.specs.declared.querier.QuerierRow.{QuerierRow}
 use Rattle.zs_core.specs.Answers.{local_error}
 use Rattle.zs_core.specs.Causes.{has_cause, in_order, past_sight, refusal_of, is_net}
 use Rattle.zs_core.specs.Entry.{Entry, is_closed}
-use Rattle.zs_core.specs.Gets.{asked, open_now, news_of, error_reply, is_idle, is_idle_response}
+use Rattle.zs_core.specs.Gets.{asked, open_now, error_reply, is_idle, is_idle_response}
 use Rattle.zs_core.specs.Held.{named_text}
 use Rattle.zs_core.specs.Live.{live_queriers, to_gets_of}
 use Rattle.zs_core.specs.Matching.{told_subs, told_queryables, is_untold}

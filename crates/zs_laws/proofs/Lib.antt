@@ -16,3 +16,7 @@ mod GetsHanded
 mod HandedNothing
 mod Naming
 mod NamingLaws
+mod TokensEnded
+mod EndsOfTokens
+mod Unended
+mod Ordered

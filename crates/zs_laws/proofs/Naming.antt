@@ -1,7 +1,7 @@
 -- The entities that effects name have numbers below the next one.
-use Rattle.std.proofs.Common.{◌≡◌, ◌<◌, ◌≤◌, ◌+◌, ℕ, List, [], ◌∷◌, ◌++◌, Bool, true, false, Option, Some, None, refl, sym, ◌∙◌, ap, subst, arith, map}
-use Rattle.std.specs.Prelude.{◌==◌, ◌&&◌, ◌||◌, not, filter, is_some, if◌then◌else◌}
-use Rattle.std.specs.List.{AllByRecursion, list_any, find, flat_map}
+use Rattle.std.proofs.Common.{◌<◌, ◌+◌, ℕ, List, [], ◌∷◌, ◌++◌, Bool, true, false, Option, Some, None, map}
+use Rattle.std.specs.Prelude.{filter, is_some, if◌then◌else◌}
+use Rattle.std.specs.List.{AllByRecursion, flat_map}
 use Rattle.std.specs.Option.{IfSome}
 use Rattle.zs_sample.specs.Reply.{Replied}
 use Rattle.zs_wire.specs.declared.body.Body.{Body}
@@ -17,7 +17,7 @@ use Rattle.zs_tables.specs.Queryables.{met, is_met}
 use Rattle.zs_tables.specs.Recipients.{has_network, has_session}
 use Rattle.zs_tables.specs.declared.liveliness_get.LivelinessGet.{LivelinessGet as TokensGet}
 use Rattle.zs_tables.specs.declared.queryable.QueryableRow.{QueryableRow}
-use Rattle.zs_tables.proofs.Ascending.{all_weaker, all_map, all_filter}
+use Rattle.zs_tables.proofs.Ascending.{all_map, all_filter}
 use Rattle.zs_query.specs.declared.open_get.OpenGet.{OpenGet}
 use Rattle.zs_query.specs.declared.outcome.Outcome.{Outcome}
 use Rattle.zs_query.specs.declared.outcome.Outcome.TheVariants as outcome
@@ -33,22 +33,22 @@ use Rattle.zs_query.specs.Gets.{get_at, peek_at, final_outcome, ends_at, timeout
 use Rattle.zs_query.specs.Unfinished.{value_at, values_from, finished}
 use Rattle.zs_query.proofs.Ascending.{all_append}
 use Rattle.zs_events.specs.declared.event.Event.{Event}
-use Rattle.zs_events.specs.declared.event.Event.TheVariants.{Undeclare, Close, Net, Get, QuerierGet, Cancel, Tick, Reply as reply_event, ReplyErr, Finish, Share, Lsub}
+use Rattle.zs_events.specs.declared.event.Event.TheVariants.{Undeclare, Close, Net, Get, QuerierGet, Cancel, Tick, Reply as reply_event, ReplyErr, Finish, Share}
 use Rattle.zs_events.specs.declared.entity_kind.EntityKind.TheVariants.{Sub as sub_kind, Pub as pub_kind, Queryable as queryable_sort, Querier as querier_sort, Listener as listener_sort, Token as token_sort, Lsub as lsub_sort}
 use Rattle.zs_events.specs.declared.publication.ReplyQuality.{ReplyQuality}
 use Rattle.zs_events.specs.declared.turn.Effect.{Effect}
-use Rattle.zs_events.specs.declared.turn.Effect.TheVariants.{Send, Matching}
-use Rattle.zs_events.specs.Kinds.{NamedKey, OwnKey, QuerierKey, Question, NoGet, Asks, NoValue, Requested, row_of}
+use Rattle.zs_events.specs.declared.turn.Effect.TheVariants.{Send}
+use Rattle.zs_events.specs.Kinds.{NamedKey, OwnKey, QuerierKey, Question, NoGet, Asks, NoValue, Requested}
 use Rattle.zs_core.specs.declared.querier.QuerierRow.{QuerierRow}
 use Rattle.zs_core.specs.Answers.{quality_of, local_reply, local_error, response_by}
-use Rattle.zs_core.specs.GetEffects.{hand_reply, hand_query, end_get, last_hands, reply_effects, response_effects, final_effects, ends_effects, ended_numbers, cut_effects, ask_effects, asked_effects, request_effects, told_effects, with_gets}
+use Rattle.zs_core.specs.GetEffects.{hand_reply, hand_query, end_get, last_hands, reply_effects, response_effects, final_effects, ended_numbers, cut_effects, ask_effects, asked_effects, request_effects, told_effects, with_gets}
 use Rattle.zs_core.specs.Gets.{sample_reply}
 use Rattle.zs_core.specs.LivelinessEffects.{hand_answer, end_asking, cancelled_ends, asking_ends}
 use Rattle.zs_core.specs.Queriers.{querier_at, question_of, asks_of}
 use Rattle.zs_core.specs.Questions.{request_of}
 use Rattle.zs_core.specs.Sends.{full_wire, wire_form, declaration_of}
 use Rattle.zs_core.specs.Values.{drawn_by, get_request, network_request, met_by_get, met_by_request, wants_complete}
-use Rattle.zs_core.specs.ValueEffects.{Answering, requested_effects, replied_effects, error_effects, answer_effects, answer_error_effects, finish_effects}
+use Rattle.zs_core.specs.ValueEffects.{Answering, requested_effects, replied_effects, answer_effects, answer_error_effects, finish_effects}
 use Rattle.zs_core.specs.Effects.{Known, answering, effects_on}
 use Rattle.zs_laws.specs.Naming.{entity_named}
 use Rattle.zs_laws.proofs.Around.{Around, others_of, others_around}

@@ -1,7 +1,7 @@
 -- So no event's effects name an entity that is declared later.
 use Rattle.std.proofs.Common.{◌≡◌, ◌<◌, ◌≤◌, ◌+◌, ℕ, List, [], ◌∷◌, ◌++◌, Bool, true, false, Option, Some, None, refl, sym, ◌∙◌, ap, subst, arith, map}
 use Rattle.std.specs.Prelude.{◌==◌, ◌&&◌, ◌||◌, not, filter, if◌then◌else◌}
-use Rattle.std.specs.List.{AllByRecursion, list_any}
+use Rattle.std.specs.List.{AllByRecursion}
 use Rattle.std.specs.Option.{IfSome}
 use Rattle.std.proofs.lemmas.Bool.{eqb-true, and_parts}
 use Rattle.zs_sample.specs.Reply.{Replied}
@@ -17,14 +17,10 @@ use Rattle.zs_query.proofs.Ascending.{all_append}
 use Rattle.zs_events.specs.declared.event.Event.{Event}
 use Rattle.zs_events.specs.declared.event.Event.TheVariants.{Undeclare, Lsub, Net}
 use Rattle.zs_events.specs.declared.entity_kind.EntityKind.TheVariants.{Sub as sub_kind, Queryable as queryable_sort, Lsub as lsub_sort}
-use Rattle.zs_events.specs.declared.turn.Answer.TheVariants.{Ok as accepted}
-use Rattle.zs_events.specs.declared.turn.Effect.{Effect}
-use Rattle.zs_events.specs.declared.turn.Effect.TheVariants.{Hand, Matching}
-use Rattle.zs_events.specs.declared.turn.HandOver.TheVariants.{Sample as sample_for}
+use Rattle.zs_events.specs.declared.turn.Effect.TheVariants.{Matching}
 use Rattle.zs_events.specs.declared.turn.Kind.{Kind}
 use Rattle.zs_events.specs.declared.turn.Kind.TheVariants.{Subscriber, Queryable as queryable_kind, LivelinessSubscriber}
 use Rattle.zs_events.specs.declared.turn.Refusal.{Refusal}
-use Rattle.zs_events.specs.declared.turn.Turn.{Turn}
 use Rattle.zs_events.specs.Turn.{answered}
 use Rattle.zs_events.specs.Kinds.{Subscribes, message_row, row_of}
 use Rattle.zs_wire.specs.declared.message.Message.{Message}
@@ -32,7 +28,7 @@ use Rattle.zs_wire.specs.declared.message.Message.TheVariants.{Request as reques
 use Rattle.zs_core.specs.declared.settings.Settings.{Settings}
 use Rattle.zs_core.specs.World.{World}
 use Rattle.zs_core.specs.Causes.{has_cause, in_order, past_sight, refusal_of}
-use Rattle.zs_core.specs.Seen.{Sight, is_unheld, is_not_found}
+use Rattle.zs_core.specs.Seen.{is_unheld, is_not_found}
 use Rattle.zs_core.specs.Counters.{draws_entity, next_entity}
 use Rattle.zs_core.specs.Entry.{Entry, is_closed}
 use Rattle.zs_core.specs.Held.{named_text}
@@ -50,7 +46,7 @@ use Rattle.zs_core.proofs.Entities.{AreRows}
 use Rattle.zs_core.proofs.Knowing.{numbered}
 use Rattle.zs_core.proofs.Stands.{standing}
 use Rattle.zs_laws.specs.Naming.{entity_named, EffectsNameDeclared, EarlierEffectsNameNoNewEntity}
-use Rattle.zs_laws.proofs.Around.{Around, any_holds}
+use Rattle.zs_laws.proofs.Around.{any_holds}
 use Rattle.zs_laws.proofs.Fresh.{entity_drawn, number_answered}
 use Rattle.zs_laws.proofs.Naming.{IsBelow, AreNear, all_near}
 use Rattle.zs_laws.proofs.Tested.{none_holds}
@@ -110,7 +106,7 @@ near_by s h e shut accepts = record {
         all_weaker (λ (g : TokensGet). g.number < bound) (λ (g : TokensGet). (n : ℕ) → (g.number == n) ≡ true → (reply : Replied) → n < bound)
         (λ g less n same reply. omega (arith, eqb-true g.number n same, less)) (asking_now s (past_of s h)) asking;
     asking_end =
-        all_weaker (λ (g : TokensGet). g.number < bound) (λ (g : TokensGet). (n : ℕ) → (g.number == n) ≡ true → n < bound)
+        λ m is. all_weaker (λ (g : TokensGet). g.number < bound) (λ (g : TokensGet). (n : ℕ) → (g.number == n) ≡ true → n < bound)
         (λ g less n same. omega (arith, eqb-true g.number n same, less)) (asking_now s (past_of s h)) asking;
     ended_sub = λ id is. omega (arith, up, id_below (λ (row : SubRow). row.id) Subscriber sub_row w.entities.subs w.counters.entity (past_of s h) (standing s h).live.subs id (lives Subscriber id (named (Undeclare sub_kind id) is)));
     ended_queryable =

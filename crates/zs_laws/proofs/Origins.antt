@@ -1,10 +1,9 @@
 -- Each message that an event sends has its origin in the event.
-use Rattle.std.proofs.Common.{◌≡◌, ℕ, List, [], Bool, true, false, Option, Some, None, refl, sym, ◌∙◌, ap, subst}
-use Rattle.std.specs.Prelude.{◌&&◌, not, option_map}
+use Rattle.std.proofs.Common.{◌≡◌, ℕ, List, Bool, true, false, Option, Some, None, refl, sym, ◌∙◌, ap, subst}
+use Rattle.std.specs.Prelude.{not, option_map}
 use Rattle.std.specs.List.{AllByRecursion}
 use Rattle.std.specs.Option.{IfSome}
 use Rattle.std.proofs.lemmas.Bool.{and_parts}
-use Rattle.zs_keys.specs.declared.declaration.Declared.{Declared}
 use Rattle.zs_wire.specs.declared.message.Message.{Message}
 use Rattle.zs_wire.specs.declared.wire_expr.WireExpr.{WireExpr}
 use Rattle.zs_wire.specs.declared.push.Push.{Push}
@@ -25,10 +24,10 @@ use Rattle.zs_core.specs.Past.{past_of, entry_of}
 use Rattle.zs_core.specs.Publications.{sample_on}
 use Rattle.zs_core.specs.Publishers.{resolved}
 use Rattle.zs_core.specs.Values.{values_now}
-use Rattle.zs_core.specs.Sends.{wire_form, group_wire, declaration_of, is_sent, push_with}
+use Rattle.zs_core.specs.Sends.{wire_form, declaration_of, is_sent}
 use Rattle.zs_core.specs.Groups.{declaration_by}
 use Rattle.zs_core.specs.Effects.{known_of, publication_on}
-use Rattle.zs_core.specs.Received.{messages_of, wire_in, spoken_by, spoken_text}
+use Rattle.zs_core.specs.Received.{spoken_by, spoken_text}
 use Rattle.zs_core.proofs.Reading.{is_error, spoken_plain}
 use Rattle.zs_laws.specs.Origins.{push_in, IsPublished, IsTested, HasOrigin, MessagesHaveOrigins}
 use Rattle.zs_laws.proofs.Sent.{ends_token, names_own, Sending, told_all, by_accepting}

@@ -1,6 +1,5 @@
 -- What is picked of effects, and that what an event brings about beside gets is no end of one.
-use Rattle.std.proofs.Common.{◌≡◌, ℕ, List, [], ◌∷◌, ◌++◌, Bool, true, false, Option, Some, None, refl, sym, ◌∙◌, ap, map}
-use Rattle.std.specs.Prelude.{filter, not, ◌&&◌, if◌then◌else◌}
+use Rattle.std.proofs.Common.{◌≡◌, ℕ, List, [], ◌∷◌, ◌++◌, Option, Some, None, refl, ◌∙◌, ap, map}
 use Rattle.std.specs.List.{AllByRecursion, flat_map}
 use Rattle.zs_query.specs.declared.query_value.QueryValue.{QueryValue}
 use Rattle.zs_sample.specs.Reply.{Replied}
@@ -9,7 +8,7 @@ use Rattle.zs_events.specs.declared.turn.Effect.{Effect}
 use Rattle.zs_core.specs.GetEffects.{hand_reply, hand_query, last_hands, end_get}
 use Rattle.zs_core.specs.LivelinessEffects.{hand_answer, end_asking}
 use Rattle.zs_core.specs.Effects.{Known}
-use Rattle.zs_laws.specs.Ended.{get_ended, tokens_ended, with_number, picked}
+use Rattle.zs_laws.specs.Ended.{get_ended, with_number, picked}
 use Rattle.zs_laws.proofs.Around.{Around, others_of, others_around}
 
 pub picked_append : (word : Effect → Option ℕ) (xs ys : List Effect) → picked word (xs ++ ys) ≡ picked word xs ++ picked word ys
@@ -43,7 +42,7 @@ no_get_around known e number = record {
   lsub_end = any_all _ (λ row. refl) known.watch.subs;
   own = λ history same id is sample. refl;
   asking = any_all _ (λ g n same reply. refl) known.watch.gets;
-  asking_end = any_all _ (λ g n same. refl) known.watch.gets;
+  asking_end = λ m is. any_all _ (λ g n same. refl) known.watch.gets;
   ended_sub = λ id is. refl;
   ended_queryable = λ id is. refl;
   ended_lsub = λ id is. refl;

@@ -19,7 +19,7 @@ use Rattle.zs_events.specs.declared.turn.Refusal.{Refusal}
 use Rattle.zs_events.specs.declared.turn.Refusal.TheVariants.{BadKeyExpr}
 use Rattle.zs_events.specs.Kinds.{told_on}
 use Rattle.zs_core.specs.declared.settings.Settings.{Settings}
-use Rattle.zs_core.specs.Entry.{Entry, is_closed, is_close}
+use Rattle.zs_core.specs.Entry.{Entry, is_closed}
 use Rattle.zs_core.specs.Groups.{share_text}
 use Rattle.zs_core.specs.Held.{tells_number, told_text, mapped_text, wire_text}
 use Rattle.zs_core.specs.Causes.{holds, in_order, first_that, refusal_of}

@@ -7,14 +7,13 @@ use Rattle.zs_keys.specs.declared.declaration.Declared.{Declared}
 use Rattle.zs_wire.specs.declared.body.Body.{Body}
 use Rattle.zs_wire.specs.declared.body.Value.{Value}
 use Rattle.zs_wire.specs.declared.message.Message.{Message}
-use Rattle.zs_wire.specs.declared.message.Message.TheVariants.{DeclareKeyExpr, UndeclareKeyExpr, DeclareSubscriber, DeclareQueryable, UndeclareQueryable, DeclareToken, UndeclareToken, Interest, Request as request_message, Response as response_message, ResponseFinal, Close as close_message}
+use Rattle.zs_wire.specs.declared.message.Message.TheVariants.{DeclareKeyExpr, UndeclareKeyExpr, DeclareQueryable, UndeclareQueryable, DeclareToken, UndeclareToken, Interest, Request as request_message, Response as response_message, ResponseFinal, Close as close_message}
 use Rattle.zs_wire.specs.declared.response.Answered.TheVariants.{Reply, Err as Error}
 use Rattle.zs_wire.specs.declared.response.Response.{Response}
 use Rattle.zs_wire.specs.declared.wire_expr.WireExpr.{WireExpr}
 use Rattle.zs_wire.specs.declared.interest.InterestMode.TheVariants.{CurrentFuture, Current, Final}
 use Rattle.zs_wire.specs.declared.interest.InterestWhat.TheVariants.{Queryables as of_queryables, Tokens as of_tokens}
 use Rattle.zs_query.specs.declared.query_value.QueryValue.{QueryValue}
-use Rattle.zs_query.specs.declared.request_row.RequestRow.{RequestRow}
 use Rattle.zs_query.specs.declared.open_get.OpenGet.{OpenGet}
 use Rattle.zs_query.specs.declared.requests.Finished.{Finished}
 use Rattle.zs_query.specs.declared.requests.Finished.TheVariants.{Unknown, MoreLeft, Last}
@@ -37,9 +36,8 @@ use Rattle.zs_events.specs.declared.publication.ReplyQuality.{ReplyQuality}
 use Rattle.zs_events.specs.declared.turn.Effect.{Effect}
 use Rattle.zs_events.specs.declared.turn.Effect.TheVariants.{Send, Matching}
 use Rattle.zs_events.specs.declared.turn.Refusal.{Refusal}
-use Rattle.zs_events.specs.declared.turn.Turn.{Turn}
 use Rattle.zs_events.specs.Turn.{answered}
-use Rattle.zs_events.specs.Kinds.{NamedKey, OwnKey, QuerierKey, Publishes, NoContent, OwnContent, ByPublisher, Question, ToGets, NoGet, Asks, AsksBy, Answers, EndsSide, Reaches, EndsQuerier, Cancels, EndsAll, ToValues, AnswersError, ToLiveliness, EndsToken, row_of}
+use Rattle.zs_events.specs.Kinds.{NamedKey, OwnKey, QuerierKey, Publishes, NoContent, OwnContent, ByPublisher, Question, ToGets, NoGet, Asks, AsksBy, Answers, EndsSide, Reaches, EndsQuerier, Cancels, EndsAll, AnswersError, ToLiveliness, EndsToken, row_of}
 use Rattle.zs_core.specs.declared.settings.Settings.{Settings}
 use Rattle.zs_core.specs.Entry.{Entry, is_closed}
 use Rattle.zs_core.specs.Held.{named_text}
@@ -53,14 +51,14 @@ use Rattle.zs_core.specs.Publishers.{pub_at, resolved}
 use Rattle.zs_core.specs.Queriers.{querier_at}
 use Rattle.zs_core.specs.Queryables.{queryable_at}
 use Rattle.zs_core.specs.Questions.{request_of}
-use Rattle.zs_core.specs.GetEffects.{hand_query, asked_effects, request_effects, final_effects}
+use Rattle.zs_core.specs.GetEffects.{request_effects, final_effects}
 use Rattle.zs_core.specs.Answers.{quality_of, local_reply, local_error, response_by}
 use Rattle.zs_core.specs.ValueEffects.{Answering, requested_effects, replied_effects, error_effects, answer_effects, answer_error_effects, finish_effects}
 use Rattle.zs_core.specs.Groups.{Shared, sub_shared, pub_shared, querier_shared, Company, joins_first, last_number, sends_if, last_sends, leaving, subscriber_end, interest_end, querier_end, declaration_by}
 use Rattle.zs_core.specs.Sends.{OwnKeys, full_wire, wire_form, group_wire, declared_by, declaration_of, key_sends, return_sends, is_sent, push_with, publication_sends, sends_of}
 use Rattle.zs_core.specs.Effects.{Known, known_of, to_gets_for, draws_of, answering, key_wire, queryable_leaves, entity_sends, token_declaration, lsub_mode, token_interest, declared_sends, effects_on, effects_behind, effects}
 use Rattle.zs_core.specs.Received.{messages_of, wire_in}
-use Rattle.zs_core.proofs.Messages.{messages_append, silent, no_messages_in_reply, no_messages_in_final, no_messages_in_queries, no_messages_in_error, asked_by, answered_by, told_beside, told_by_event, all_sends}
+use Rattle.zs_core.proofs.Messages.{messages_append, silent, no_messages_in_reply, no_messages_in_final, no_messages_in_queries, no_messages_in_error, told_beside, told_by_event, all_sends}
 use Rattle.zs_core.proofs.Reading.{request_cases, is_error}
 use Rattle.zs_query.proofs.Ascending.{all_append}
 use Rattle.zs_laws.specs.Origins.{push_in}

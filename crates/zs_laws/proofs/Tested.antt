@@ -1,5 +1,5 @@
 -- What is said of the texts of a past's keys is said of those of query values; and an accepted event's key was tested.
-use Rattle.std.proofs.Common.{◌≡◌, ℕ, ◌+◌, List, [], ◌∷◌, Bool, true, false, Option, Some, None, refl, sym, ap, subst}
+use Rattle.std.proofs.Common.{◌≡◌, ℕ, ◌+◌, List, [], ◌∷◌, Bool, true, false, Option, Some, None, refl, sym, subst}
 use Rattle.std.specs.Prelude.{◌==◌, ◌&&◌, not, if◌then◌else◌}
 use Rattle.std.specs.List.{AllByRecursion}
 use Rattle.std.specs.Option.{IfSome}
@@ -28,7 +28,6 @@ use Rattle.zs_core.specs.Seen.{is_bad}
 use Rattle.zs_core.specs.Tokens.{told_tokens, is_spared}
 use Rattle.zs_core.specs.Queriers.{querier_at, question_of, asks_of, to_gets_by}
 use Rattle.zs_core.specs.Values.{met_by_get, met_by_request, get_request, network_request, values_now}
-use Rattle.zs_core.specs.Stands.{world_after}
 use Rattle.zs_core.proofs.Values.{handing_next}
 use Rattle.zs_core.proofs.Steps.{along}
 use Rattle.zs_core.proofs.Stands.{standing}

@@ -1,6 +1,6 @@
 -- The texts that keys stand for are UTF-8, where events are spelled with characters.
 use Rattle.std.proofs.Common.{◌≡◌, ◌++◌, ℕ, List, [], ◌∷◌, Bool, true, false, Option, Some, None, refl}
-use Rattle.std.specs.Prelude.{◌==◌, filter, option_map, if◌then◌else◌, encode_utf8_all}
+use Rattle.std.specs.Prelude.{◌==◌, option_map, if◌then◌else◌, encode_utf8_all}
 use Rattle.std.specs.List.{AllByRecursion, find}
 use Rattle.std.specs.Option.{IfSome, option_or}
 use Rattle.std.specs.Str.{IsUtf8, all_scalars}
@@ -27,7 +27,7 @@ use Rattle.zs_core.specs.Queriers.{querier_row, querier_at}
 use Rattle.zs_core.specs.Causes.{refusal_of}
 use Rattle.zs_core.specs.Past.{entry_of, with_entry, past_of}
 use Rattle.zs_core.specs.Received.{AreUtf8}
-use Rattle.zs_laws.specs.Spelled.{IsSpelledArgument, IsSpelledName, IsSpelled, AllSpelled, SpelledTextsAreUtf8}
+use Rattle.zs_laws.specs.Spelled.{IsSpelledArgument, IsSpelledName, AllSpelled, SpelledTextsAreUtf8}
 
 -- the bytes of characters
 spelled : (text : List ℕ) → all_scalars text ≡ true → IsUtf8 (encode_utf8_all text)

@@ -5,3 +5,5 @@ pub mod Fresh
 pub mod Ended
 pub mod Handed
 pub mod Naming
+pub mod Plain
+pub mod Order

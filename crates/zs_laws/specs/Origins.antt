@@ -1,5 +1,5 @@
 -- Where the messages of a session come from: each push is that of an accepted publication, and each key that is sent was tested.
-use Rattle.std.specs.Prelude.{◌≡◌, ℕ, Bool, true, false, ◌&&◌, List, Option, Some, None}
+use Rattle.std.specs.Prelude.{◌≡◌, ℕ, true, false, ◌&&◌, List, Option, Some, None}
 use Rattle.std.specs.List.{AllByRecursion}
 use Rattle.std.specs.Option.{IfSome, MatchOption}
 use Rattle.zs_keys.specs.Text.{is_canonical}

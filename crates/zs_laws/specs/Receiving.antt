@@ -1,5 +1,5 @@
 -- What a session reads the keys of another one as, whose messages it is given.
-use Rattle.std.specs.Prelude.{◌≡◌, ℕ, false, List, [], ◌∷◌}
+use Rattle.std.specs.Prelude.{◌≡◌, false, List, [], ◌∷◌}
 use Rattle.std.specs.List.{AllByRecursion}
 use Rattle.std.specs.Option.{IfSome}
 use Rattle.zs_wire.specs.declared.message.Message.{Message}

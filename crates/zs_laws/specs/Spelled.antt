@@ -1,10 +1,9 @@
 -- Events whose keys are spelled with Unicode's characters, as all texts of a program are, and what follows for all that is sent.
-use Rattle.std.specs.Prelude.{◌≡◌, ℕ, true, List, ◌∷◌, IsUtf8}
+use Rattle.std.specs.Prelude.{◌≡◌, true, List, ◌∷◌, IsUtf8}
 use Rattle.std.specs.List.{AllByRecursion}
 use Rattle.std.specs.Option.{IfSome}
 use Rattle.std.specs.Str.{all_scalars}
 use Rattle.zs_tables.specs.Recipients.{has_network}
-use Rattle.zs_wire.specs.declared.message.Message.{Message}
 use Rattle.zs_wire.specs.declared.wire_expr.Mapping.TheVariants.{Sender}
 use Rattle.zs_wire.specs.declared.wire_expr.WireExpr.{WireExpr}
 use Rattle.zs_events.specs.declared.event.Event.{Event}

@@ -1,12 +1,18 @@
 //! What gets are handed, and how they end.
 
-ghost use Rattle.zs_laws.specs.Ended.{EndsOfGets, EndedGetsStayEnded};
+ghost use Rattle.zs_laws.specs.Ended.{EndsOfGets, EndsOfTokensGets, EndedGetsStayEnded};
 ghost use Rattle.zs_laws.specs.Handed.{GetsAreHanded, OthersAreHandedNothing};
 
 /// An event tells the ends of just those gets that were open before it, or that it asks, and that are not open behind it: each
 /// once, and in ascending order.
 pub fn ends_of_gets()
     ensures { EndsOfGets }
+{}
+
+/// An event tells the ends of just those gets of tokens that were open before it and are not open behind it: each once, and in
+/// ascending order.
+pub fn ends_of_tokens_gets()
+    ensures { EndsOfTokensGets }
 {}
 
 /// A get that was asked and is not open is never open again, and no event tells its end.

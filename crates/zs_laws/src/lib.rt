@@ -2,7 +2,8 @@
 #![tactic(auto)]
 
 pub use ends::{
-    ended_gets_stay_ended, ends_of_gets, gets_are_handed, others_are_handed_nothing,
+    ended_gets_stay_ended, ends_of_gets, ends_of_tokens_gets, gets_are_handed,
+    others_are_handed_nothing,
 };
 pub use messages::{
     messages_have_origins, receivers_read_keys, sent_keys_are_spelled, spelled_forms_are_read,
@@ -10,10 +11,13 @@ pub use messages::{
 };
 pub use numbers::{
     cancellation_tokens_are_fresh, earlier_effects_name_no_new_entity, effects_name_declared,
-    entity_numbers_are_fresh, query_numbers_are_fresh,
-    query_values_are_fresh,
+    entity_numbers_are_fresh, query_numbers_are_fresh, query_values_are_fresh,
 };
+pub use order::effects_are_in_order;
+pub use plain::{listeners_are_unended, marks_are_told, matches_ascend, told_are_last_declared};
 
 mod ends;
 mod messages;
 mod numbers;
+mod order;
+mod plain;

@@ -1,0 +1,59 @@
+-- Plain words for what is told by the last events: what was declared, and no later event ended.
+use Rattle.std.specs.Prelude.{◌≡◌, ℕ, Bool, not, List, [], ◌∷◌, ◌++◌, filter}
+use Rattle.std.specs.List.{list_any}
+use Rattle.zs_tables.specs.Ascending.{Ascend}
+use Rattle.zs_tables.specs.Recipients.{matches}
+use Rattle.zs_tables.specs.declared.listener.ListenerRow.{ListenerRow}
+use Rattle.zs_tables.specs.declared.told_row.ToldSub.{ToldSub}
+use Rattle.zs_tables.specs.declared.told_row.ToldQueryable.{ToldQueryable}
+use Rattle.zs_events.specs.declared.event.Event.{Event}
+use Rattle.zs_events.specs.declared.turn.Kind.{Kind}
+use Rattle.zs_events.specs.Kinds.{row_of}
+use Rattle.zs_core.specs.declared.settings.Settings.{Settings}
+use Rattle.zs_core.specs.Entry.{Entry}
+use Rattle.zs_core.specs.Listeners.{listener_row, ends_listener}
+use Rattle.zs_core.specs.Live.{was_left, live_pubs, live_queriers, live_subs, live_listeners}
+use Rattle.zs_core.specs.Matching.{told_sub_row, told_queryable_row, renews_sub, renews_queryable, told_subs, told_queryables}
+use Rattle.zs_core.specs.Past.{past_of}
+use Rattle.zs_core.specs.Stands.{world_after}
+use Rattle.zs_core.specs.Turns.{is_left}
+
+-- what each accepted event declares, where no accepted event after it ends it, nor any of the later ones; the first one first
+abbrev pub unended : {R : Type 0} → (Event → R → Bool) → (Entry → List Entry → List R) → List Event → List Entry → List R
+unended ends declares later [] = []
+unended ends declares later (x ∷ past) =
+    unended ends declares (x.event ∷ later) past ++ filter (λ row. not (list_any (λ e. ends e row) later)) (declares x past)
+
+-- the listener that an event declares to a publisher or querier that is live before it
+abbrev pub declared_listener : Entry → List Entry → List ListenerRow
+declared_listener x past = listener_row (live_pubs past) (live_queriers past) x.event x.number
+
+-- the live listeners are those that were declared, and that no later event ended, nor their publisher or querier
+abbrev pub ListenersAreUnended : Type 0
+ListenersAreUnended = (past : List Entry) → live_listeners past ≡ unended ends_listener declared_listener [] past
+
+-- the subscriber of the network that an event declares, and whether one declares its number anew or ends it; and a queryable
+abbrev pub told_sub : Entry → List Entry → List ToldSub
+told_sub x past = told_sub_row (row_of x.event).to_matching x.text
+
+abbrev pub replaces_sub : Event → ToldSub → Bool
+replaces_sub e row = renews_sub (row_of e).to_matching row
+
+abbrev pub told_queryable : Entry → List Entry → List ToldQueryable
+told_queryable x past = told_queryable_row (row_of x.event).to_matching x.text
+
+abbrev pub replaces_queryable : Event → ToldQueryable → Bool
+replaces_queryable e row = renews_queryable (row_of e).to_matching row
+
+-- those of the network are the last declarations of their numbers, without a later end
+abbrev pub ToldAreLastDeclared : Type 0
+ToldAreLastDeclared =
+    (past : List Entry) → (told_subs past ≡ unended replaces_sub told_sub [] past) × (told_queryables past ≡ unended replaces_queryable told_queryable [] past)
+
+-- the entities that are marked as left to themselves are those that an accepted event left so
+abbrev pub MarksAreTold : Type 0
+MarksAreTold = (s : Settings) (h : List Event) (kind : Kind) (id : ℕ) → is_left kind id (world_after s h) ≡ was_left kind id (past_of s h)
+
+-- the subscribers that a text matches stand in ascending number, each once
+abbrev pub MatchesAscend : Type 0
+MatchesAscend = (s : Settings) (h : List Event) (text : List ℕ) → Ascend (λ id. id) (matches text (live_subs (past_of s h)))
