@@ -31,7 +31,7 @@ use Rattle.zs_core.specs.Live.{live_listeners}
 use Rattle.zs_core.specs.Matching.{is_matched, turned, listener_effects}
 use Rattle.zs_core.specs.Past.{past_of, entry_of, with_entry}
 use Rattle.zs_core.specs.Tokens.{tokens_asked, ends_asking, asking_now}
-use Rattle.zs_core.specs.Effects.{known_of, effects_on, effects_behind, effects}
+use Rattle.zs_core.specs.Effects.{known_of, effects_on, effects_behind}
 use Rattle.zs_core.specs.Stands.{world_after}
 use Rattle.zs_core.proofs.Stands.{standing}
 use Rattle.zs_core.proofs.Watching.{asking_more}

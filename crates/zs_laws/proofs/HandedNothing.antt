@@ -31,7 +31,7 @@ use Rattle.zs_core.specs.Past.{past_of, entry_of}
 use Rattle.zs_core.specs.Queriers.{querier_at, asks_of, to_gets_by}
 use Rattle.zs_core.specs.Tokens.{is_pointless}
 use Rattle.zs_core.specs.Values.{values_now}
-use Rattle.zs_core.specs.Effects.{known_of, effects_on, effects_behind, effects}
+use Rattle.zs_core.specs.Effects.{known_of, effects_on, effects_behind}
 use Rattle.zs_core.proofs.Stands.{standing}
 use Rattle.zs_laws.specs.Handed.{handed_to, error_of, error_by, errors_by, heard_at, OthersAreHandedNothing}
 use Rattle.zs_laws.proofs.Handed.{peeked, ended_with, at_end, given_by, given_to}

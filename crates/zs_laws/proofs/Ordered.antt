@@ -69,7 +69,7 @@ use Rattle.zs_core.specs.Subscribers.{sub_ends}
 use Rattle.zs_core.specs.Tokens.{answers, is_told}
 use Rattle.zs_core.specs.Values.{drawn_by}
 use Rattle.zs_core.specs.ValueEffects.{Answering, requested_effects, replied_effects, answer_effects, answer_error_effects, finish_effects}
-use Rattle.zs_core.specs.Effects.{Known, known_of, answering, draws_of, entity_sends, hands_of, hands_for, publication_on, ends_of, effects_on, effects_behind, effects}
+use Rattle.zs_core.specs.Effects.{Known, known_of, answering, draws_of, entity_sends, hands_of, hands_for, publication_on, ends_of, effects_on, effects_behind}
 use Rattle.zs_laws.specs.Order.{place, AreInOrder, EffectsAreInOrder}
 use Rattle.zs_laws.proofs.Around.{others_of, sends_around, entity_around}
 
