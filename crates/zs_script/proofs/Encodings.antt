@@ -5,11 +5,6 @@ use Rattle.std.proofs.lemmas.Str.{chars-nil}
 use Rattle.zs_sample.specs.Encoding.{encoding_of}
 use Rattle.zs_events.specs.Updates.{default_encoding}
 
--- the default encoding's own characters
-pub default_chars : chars (codes "zenoh/bytes") ≡ codes "zenoh/bytes"
-unfolding chars
-default_chars = refl
-
 -- no characters
 pub no_chars : chars (codes "") ≡ []
 no_chars = chars-nil

@@ -39,26 +39,26 @@ use Rattle.zs_script.specs.Plain.{is_plain, is_plain_text, text_if, is_plain_que
 use Rattle.zs_script.proofs.PlainTexts.{plain_byte, plain-append, decimal-plain, hex-plain, bytes-plain}
 
 -- words
-congestion-plain : (congestion : CongestionControl) → is_plain (congestion_word congestion) ≡ true
+pub congestion-plain : (congestion : CongestionControl) → is_plain (congestion_word congestion) ≡ true
 congestion-plain Drop = refl
 congestion-plain Block = refl
 
-flag-plain : (flag : Bool) → is_plain (flag_digit flag) ≡ true
+pub flag-plain : (flag : Bool) → is_plain (flag_digit flag) ≡ true
 flag-plain true = refl
 flag-plain false = refl
 
-target-plain : (t : QueryTarget) → is_plain (target_word t) ≡ true
+pub target-plain : (t : QueryTarget) → is_plain (target_word t) ≡ true
 target-plain BestMatching = refl
 target-plain All = refl
 target-plain AllComplete = refl
 
-consolidation-plain : (mode : ConsolidationMode) → is_plain (consolidation_word mode) ≡ true
+pub consolidation-plain : (mode : ConsolidationMode) → is_plain (consolidation_word mode) ≡ true
 consolidation-plain Auto = refl
 consolidation-plain keep_all = refl
 consolidation-plain Monotonic = refl
 consolidation-plain Latest = refl
 
-complete-plain : (complete : Bool) → is_plain (complete_word complete) ≡ true
+pub complete-plain : (complete : Bool) → is_plain (complete_word complete) ≡ true
 complete-plain true = refl
 complete-plain false = refl
 
@@ -83,18 +83,18 @@ letter-plain : (mapping : Mapping) → plain_byte (mapping_letter mapping) ≡ t
 letter-plain Sender = refl
 letter-plain Receiver = refl
 
-wire-plain : (w : WireExpr) → is_plain_text w.suffix ≡ true → is_plain (wire_text w) ≡ true
+pub wire-plain : (w : WireExpr) → is_plain_text w.suffix ≡ true → is_plain (wire_text w) ≡ true
 wire-plain w h =
     and_from _ _ (letter-plain w.mapping)
     (plain-append (decimal w.scope) (58 ∷ encode_utf8_all w.suffix) (decimal-plain w.scope) h)
 
-timestamp-plain : (t : Timestamp) → is_plain (timestamp_text t) ≡ true
+pub timestamp-plain : (t : Timestamp) → is_plain (timestamp_text t) ≡ true
 timestamp-plain t = plain-append (decimal t.time) (58 ∷ hex_text t.id) (decimal-plain t.time) (hex-plain t.id)
 
-entity-plain : (e : EntityGlobalId) → is_plain (entity_text e) ≡ true
+pub entity-plain : (e : EntityGlobalId) → is_plain (entity_text e) ≡ true
 entity-plain e = plain-append (hex_text e.zid) (58 ∷ decimal e.eid) (hex-plain e.zid) (decimal-plain e.eid)
 
-source-plain : (s : SourceInfo) → is_plain (source_text s) ≡ true
+pub source-plain : (s : SourceInfo) → is_plain (source_text s) ≡ true
 source-plain s = plain-append (entity_text s.source_id) (58 ∷ decimal s.source_sn) (entity-plain s.source_id) (decimal-plain s.source_sn)
 
 -- what makes the fields of a piece plain: its text, where it has one
@@ -114,10 +114,10 @@ IsPlainPiece (encoding text) = PlainChars text
 IsPlainPiece (encoding_if text) = AllPlain (text_if text)
 IsPlainPiece piece = Unit {0}
 
-one : (text : List ℕ) → is_plain text ≡ true → list_all is_plain (text ∷ []) ≡ true
+pub one : (text : List ℕ) → is_plain text ≡ true → list_all is_plain (text ∷ []) ≡ true
 one text h = and_from _ _ h refl
 
-one-if : {A : Type 0} (text : A → List ℕ) → ((a : A) → is_plain (text a) ≡ true) → (found : Option A)
+pub one-if : {A : Type 0} (text : A → List ℕ) → ((a : A) → is_plain (text a) ≡ true) → (found : Option A)
     → list_all is_plain (field_if text found) ≡ true
 one-if text each None = refl
 one-if text each (Some a) = one (text a) (each a)
@@ -126,7 +126,7 @@ wire-if-plain : (w : Option WireExpr) → AllPlain (suffix_if w) → list_all is
 wire-if-plain None h = refl
 wire-if-plain (Some w) h = one (wire_text w) (wire-plain w (and_parts (is_plain_text w.suffix) true h).0)
 
-parameters-plain : (text : List ℕ) → is_plain text ≡ true → list_all is_plain (written (parameters text)) ≡ true
+pub parameters-plain : (text : List ℕ) → is_plain text ≡ true → list_all is_plain (written (parameters text)) ≡ true
 unfolding written
 parameters-plain [] h = refl
 parameters-plain (b ∷ bs) h = one (b ∷ bs) h

@@ -122,7 +122,7 @@ tabbed-row (part ∷ parts) rest =
     ap (λ (xs : List ℕ). 9 ∷ xs) (append_assoc part (tabbed parts) rest ∙ ap (λ (xs : List ℕ). part ++ xs) (tabbed-row parts rest)
     ∙ sym (append_assoc part (row parts) (10 ∷ rest)))
 
-before-feed : (xs rest : List ℕ) → has_no_line_feed xs ≡ true → lines (xs ++ (10 ∷ rest)) ≡ xs ∷ lines rest
+pub before-feed : (xs rest : List ℕ) → has_no_line_feed xs ≡ true → lines (xs ++ (10 ∷ rest)) ≡ xs ∷ lines rest
 before-feed [] rest h = refl
 before-feed (b ∷ bs) rest h =
     let both = and_parts (not (b == 10)) (has_no_line_feed bs) h in
@@ -136,7 +136,7 @@ lines-found number parts rest h =
     ∙ before-feed (decimal number ++ row parts) rest
     (no-feed-append (decimal number) (row parts) (no-feed (decimal number) (decimal-plain number)) (no-feed-row parts h))
 
-before-tab : (xs rest : List ℕ) → is_plain xs ≡ true → fields (xs ++ (9 ∷ rest)) ≡ xs ∷ fields rest
+pub before-tab : (xs rest : List ℕ) → is_plain xs ≡ true → fields (xs ++ (9 ∷ rest)) ≡ xs ∷ fields rest
 before-tab [] rest h = refl
 before-tab (b ∷ bs) rest h =
     let both = and_parts (plain_byte b) (is_plain bs) h in
@@ -150,7 +150,7 @@ one-field (b ∷ bs) h =
     let no : (b == 9) ≡ false = not-true _ (and_parts (not (b == 9)) (not (b == 10)) both.0).0 in
     rw no (ap (onto_first b) (one-field bs both.1))
 
-row-fields : (field : List ℕ) (parts : List (List ℕ)) → is_plain field ≡ true → list_all is_plain parts ≡ true
+pub row-fields : (field : List ℕ) (parts : List (List ℕ)) → is_plain field ≡ true → list_all is_plain parts ≡ true
     → fields (field ++ row parts) ≡ field ∷ parts
 row-fields field [] h k = one-field field h
 row-fields field (part ∷ parts) h k =

@@ -28,7 +28,7 @@ use Rattle.zs_events.specs.declared.update.Update.{Update}
 use Rattle.zs_events.specs.Updates.{body_of}
 use Rattle.zs_lines.specs.Lines.{fields}
 use Rattle.zs_script.specs.Symbols.{u16_max, u32_max, u64_max, entity_kind_of}
-use Rattle.zs_script.specs.Parts.{number, locality, background_kind, parent, complete, history, key, selector, wire, wire_if, payload, push_body, parameters, target, consolidation, timeout, value, encoding, timestamp, qos, reliable, quality, reply_quality, source, attachment, responder, any_key, cancellation_token, interest, channel, handed_to, channel_kind, read, form}
+use Rattle.zs_script.specs.Parts.{number, locality, background_kind, parent, complete, history, key, selector, wire, wire_if, payload, push_body, parameters, target, consolidation, timeout, value, encoding, timestamp, qos, reliable, quality, reply_quality, source, attachment, responder, any_key, cancellation_token, interest, channel, handed_to, channel_kind, Part, Maker, read, form}
 
 -- what a choice by the first field makes of the fields behind it
 abbrev pub by_word : {A : Type 0} → (List ℕ → List (List ℕ) → Option A) → List (List ℕ) → Option A
@@ -47,73 +47,112 @@ abbrev pub inquiry_of : List ℕ → Option Value → Option SourceInfo → Opti
 inquiry_of text given origin beside cancel =
     record { parameters = text; value = given; source = origin; attachment = beside; cancellation_token = cancel }
 
+-- a key alone, or a number alone
+abbrev pub key_parts : List Part
+key_parts = key ∷ []
+
+abbrev pub number_parts : ℕ → List Part
+number_parts most = number most ∷ []
+
 -- `key KEY`
 abbrev pub declare_of : List (List ℕ) → Option Event
-declare_of rest = form (key ∷ []) Key rest
+declare_of rest = form key_parts Key rest
 
 -- `sub LOC KEY`, `sub LOC KEY CHAN`
+abbrev pub sub_parts : List Part
+sub_parts = locality ∷ key ∷ channel ∷ []
+
 abbrev pub sub_of : List (List ℕ) → Option Event
-sub_of rest = form (locality ∷ key ∷ channel ∷ []) Sub rest
+sub_of rest = form sub_parts Sub rest
 
 -- `pub LOC KEY` and its options
+abbrev pub pub_parts : List Part
+pub_parts = locality ∷ key ∷ encoding ∷ quality ∷ []
+
+abbrev pub pub_made : Maker pub_parts Event
+pub_made where_to k text how = Pub k (record { destination = where_to; encoding = text; quality = how })
+
 abbrev pub pub_of : List (List ℕ) → Option Event
-pub_of rest =
-    form (locality ∷ key ∷ encoding ∷ quality ∷ [])
-    (λ where_to k text how. Pub k (record { destination = where_to; encoding = text; quality = how })) rest
+pub_of rest = form pub_parts pub_made rest
 
 -- `queryable LOC complete KEY`, `queryable LOC partial KEY`
+abbrev pub queryable_parts : List Part
+queryable_parts = locality ∷ complete ∷ key ∷ []
+
 abbrev pub queryable_of : List (List ℕ) → Option Event
-queryable_of rest = form (locality ∷ complete ∷ key ∷ []) Queryable rest
+queryable_of rest = form queryable_parts Queryable rest
 
 -- `querier LOC KEY` and its options
+abbrev pub querier_parts : List Part
+querier_parts = locality ∷ key ∷ target ∷ consolidation ∷ timeout ∷ qos 1 Block ∷ any_key ∷ []
+
+abbrev pub querier_made : Maker querier_parts Event
+querier_made where_to k whom mode time service any = Querier k (settings_of where_to whom mode time service any)
+
 abbrev pub querier_of : List (List ℕ) → Option Event
-querier_of rest =
-    form (locality ∷ key ∷ target ∷ consolidation ∷ timeout ∷ qos 1 Block ∷ any_key ∷ [])
-    (λ where_to k whom mode time service any. Querier k (settings_of where_to whom mode time service any)) rest
+querier_of rest = form querier_parts querier_made rest
 
 -- `token KEY`
 abbrev pub token_of : List (List ℕ) → Option Event
-token_of rest = form (key ∷ []) Token rest
+token_of rest = form key_parts Token rest
 
 -- `lsub history KEY`, `lsub live KEY`
+abbrev pub lsub_parts : List Part
+lsub_parts = history ∷ key ∷ []
+
 abbrev pub lsub_of : List (List ℕ) → Option Event
-lsub_of rest = form (history ∷ key ∷ []) Lsub rest
+lsub_of rest = form lsub_parts Lsub rest
+
+-- whose matching is asked for
+abbrev pub parent_parts : List Part
+parent_parts = parent ∷ number u32_max ∷ []
 
 -- `listen pub N`, `listen querier N`
 abbrev pub listen_of : List (List ℕ) → Option Event
-listen_of rest = form (parent ∷ number u32_max ∷ []) Listen rest
+listen_of rest = form parent_parts Listen rest
 
 -- `status pub N`, `status querier N`
 abbrev pub status_of : List (List ℕ) → Option Event
-status_of rest = form (parent ∷ number u32_max ∷ []) Status rest
+status_of rest = form parent_parts Status rest
 
 -- `N`, behind `undeclare` and a kind
 abbrev pub undeclare_entity_of : List ℕ → List (List ℕ) → Option Event
-undeclare_entity_of word rest = option_and_then (λ kind. form (number u32_max ∷ []) (Undeclare kind) rest) (entity_kind_of word)
+undeclare_entity_of word rest = option_and_then (λ kind. form (number_parts u32_max) (Undeclare kind) rest) (entity_kind_of word)
 
 -- `undeclare key KEY`, and `undeclare`, a kind and `N`
 abbrev pub undeclared_by : List ℕ → List (List ℕ) → Option Event
 undeclared_by word rest =
-    if bytes_eq word (codes "key") then form (key ∷ []) UndeclareKey rest else undeclare_entity_of word rest
+    if bytes_eq word (codes "key") then form key_parts UndeclareKey rest else undeclare_entity_of word rest
 
 unfoldable pub undeclare_of : List (List ℕ) → Option Event
 undeclare_of rest = by_word undeclared_by rest
 
 -- `background`, a kind and `N`
+abbrev pub background_parts : List Part
+background_parts = background_kind ∷ number u32_max ∷ []
+
 abbrev pub background_of : List (List ℕ) → Option Event
-background_of rest = form (background_kind ∷ number u32_max ∷ []) Background rest
+background_of rest = form background_parts Background rest
 
 -- `put LOC KEY BYTES` or `delete LOC KEY`, and the options
+abbrev pub publish_parts : SampleKind → List Part
+publish_parts kind = locality ∷ key ∷ push_body kind ∷ timestamp ∷ quality ∷ source ∷ attachment ∷ []
+
+abbrev pub publish_made : (kind : SampleKind) → Maker (publish_parts kind) Event
+publish_made kind where_to k what time how origin beside = Publish where_to k (update_of what time origin beside) how
+
 abbrev pub publish_of : SampleKind → List (List ℕ) → Option Event
-publish_of kind rest =
-    form (locality ∷ key ∷ push_body kind ∷ timestamp ∷ quality ∷ source ∷ attachment ∷ [])
-    (λ where_to k what time how origin beside. Publish where_to k (update_of what time origin beside) how) rest
+publish_of kind rest = form (publish_parts kind) (publish_made kind) rest
 
 -- `pput N BYTES` or `pdel N`, and the options: without an encoding a put has the publisher's
+abbrev pub publish_by_parts : SampleKind → List Part
+publish_by_parts kind = number u32_max ∷ push_body kind ∷ timestamp ∷ source ∷ attachment ∷ []
+
+abbrev pub publish_by_made : (kind : SampleKind) → Maker (publish_by_parts kind) Event
+publish_by_made kind n what time origin beside = PublishBy n (update_of what time origin beside)
+
 abbrev pub publish_by_of : SampleKind → List (List ℕ) → Option Event
-publish_by_of kind rest =
-    form (number u32_max ∷ push_body kind ∷ timestamp ∷ source ∷ attachment ∷ [])
-    (λ n what time origin beside. PublishBy n (update_of what time origin beside)) rest
+publish_by_of kind rest = form (publish_by_parts kind) (publish_by_made kind) rest
 
 -- `ctoken`
 abbrev pub cancel_token_of : List (List ℕ) → Option Event
@@ -121,98 +160,140 @@ cancel_token_of rest = form [] CancelToken rest
 
 -- `cancel N`
 abbrev pub cancel_of : List (List ℕ) → Option Event
-cancel_of rest = form (number u32_max ∷ []) Cancel rest
+cancel_of rest = form (number_parts u32_max) Cancel rest
 
 -- `get LOC SELECTOR` and its options: the selector is a key and the parameters
+abbrev pub get_parts : List Part
+get_parts =
+    locality ∷ selector ∷ target ∷ consolidation ∷ timeout ∷ value ∷ qos 1 Block ∷ source ∷ attachment ∷ any_key
+    ∷ cancellation_token ∷ handed_to ∷ []
+
+abbrev pub get_made : Maker get_parts Event
+get_made where_to chosen whom mode time given service origin beside any cancel out =
+    Get chosen.0 (settings_of where_to whom mode time service any) (inquiry_of chosen.1 given origin beside cancel) out
+
 abbrev pub get_of : List (List ℕ) → Option Event
-get_of rest =
-    form (locality ∷ selector ∷ target ∷ consolidation ∷ timeout ∷ value ∷ qos 1 Block ∷ source ∷ attachment ∷ any_key ∷ cancellation_token ∷ handed_to ∷ [])
-    (λ where_to chosen whom mode time given service origin beside any cancel out.
-    Get chosen.0 (settings_of where_to whom mode time service any) (inquiry_of chosen.1 given origin beside cancel) out) rest
+get_of rest = form get_parts get_made rest
 
 -- `qget N` and its options: the others are the querier's
+abbrev pub querier_get_parts : List Part
+querier_get_parts = number u32_max ∷ parameters ∷ value ∷ source ∷ attachment ∷ cancellation_token ∷ handed_to ∷ []
+
+abbrev pub querier_get_made : Maker querier_get_parts Event
+querier_get_made n text given origin beside cancel out = QuerierGet n (inquiry_of text given origin beside cancel) out
+
 abbrev pub querier_get_of : List (List ℕ) → Option Event
-querier_get_of rest =
-    form (number u32_max ∷ parameters ∷ value ∷ source ∷ attachment ∷ cancellation_token ∷ handed_to ∷ [])
-    (λ n text given origin beside cancel out. QuerierGet n (inquiry_of text given origin beside cancel) out) rest
+querier_get_of rest = form querier_get_parts querier_get_made rest
 
 -- `lget KEY` and its options
+abbrev pub liveliness_get_parts : List Part
+liveliness_get_parts = key ∷ timeout ∷ cancellation_token ∷ handed_to ∷ []
+
 abbrev pub liveliness_get_of : List (List ℕ) → Option Event
-liveliness_get_of rest = form (key ∷ timeout ∷ cancellation_token ∷ handed_to ∷ []) LivelinessGet rest
+liveliness_get_of rest = form liveliness_get_parts LivelinessGet rest
 
 -- `recv sub N`, `recv get N`, `recv lget N`
 abbrev pub recv_of : List (List ℕ) → Option ScriptEvent
 recv_of rest = form (channel_kind ∷ number u32_max ∷ []) Recv rest
 
 -- `reply N KEY BYTES` or `replydel N KEY`, and the options: what is not given is as in the query
+abbrev pub reply_parts : SampleKind → List Part
+reply_parts kind = number u32_max ∷ key ∷ push_body kind ∷ timestamp ∷ reply_quality ∷ source ∷ attachment ∷ []
+
+abbrev pub reply_made : (kind : SampleKind) → Maker (reply_parts kind) Event
+reply_made kind n k what time how origin beside = reply_event n k (update_of what time origin beside) how
+
 abbrev pub reply_of : SampleKind → List (List ℕ) → Option Event
-reply_of kind rest =
-    form (number u32_max ∷ key ∷ push_body kind ∷ timestamp ∷ reply_quality ∷ source ∷ attachment ∷ [])
-    (λ n k what time how origin beside. reply_event n k (update_of what time origin beside) how) rest
+reply_of kind rest = form (reply_parts kind) (reply_made kind) rest
 
 -- `replyerr N BYTES` and its option
+abbrev pub reply_error_parts : List Part
+reply_error_parts = number u32_max ∷ payload ∷ encoding ∷ []
+
+abbrev pub reply_error_made : Maker reply_error_parts Event
+reply_error_made n bytes text = ReplyErr n (record { payload = bytes; encoding = text })
+
 abbrev pub reply_error_of : List (List ℕ) → Option Event
-reply_error_of rest =
-    form (number u32_max ∷ payload ∷ encoding ∷ []) (λ n bytes text. ReplyErr n (record { payload = bytes; encoding = text })) rest
+reply_error_of rest = form reply_error_parts reply_error_made rest
 
 -- `share N`
 abbrev pub share_of : List (List ℕ) → Option Event
-share_of rest = form (number u32_max ∷ []) Share rest
+share_of rest = form (number_parts u32_max) Share rest
 
 -- `finish N`
 abbrev pub finish_of : List (List ℕ) → Option Event
-finish_of rest = form (number u32_max ∷ []) Finish rest
+finish_of rest = form (number_parts u32_max) Finish rest
 
 -- `tick N`
 abbrev pub tick_of : List (List ℕ) → Option Event
-tick_of rest = form (number u64_max ∷ []) Tick rest
+tick_of rest = form (number_parts u64_max) Tick rest
 
 -- `close`
 abbrev pub close_of : List (List ℕ) → Option Event
 close_of rest = form [] Close rest
 
+-- a number, and what it is declared for
+abbrev pub numbered_wire_parts : ℕ → List Part
+numbered_wire_parts most = number most ∷ wire ∷ []
+
 -- `keyexpr N WIRE`, behind `net`
 abbrev pub key_expr_of : List (List ℕ) → Option Message
-key_expr_of rest = form (number u16_max ∷ wire ∷ []) DeclareKeyExpr rest
+key_expr_of rest = form (numbered_wire_parts u16_max) DeclareKeyExpr rest
 
 -- `unkeyexpr N`, behind `net`
 abbrev pub unkey_expr_of : List (List ℕ) → Option Message
-unkey_expr_of rest = form (number u16_max ∷ []) UndeclareKeyExpr rest
+unkey_expr_of rest = form (number_parts u16_max) UndeclareKeyExpr rest
 
 -- `sub N WIRE`, behind `net`
 abbrev pub net_sub_of : List (List ℕ) → Option Message
-net_sub_of rest = form (number u32_max ∷ wire ∷ []) DeclareSubscriber rest
+net_sub_of rest = form (numbered_wire_parts u32_max) DeclareSubscriber rest
 
 -- `unsub N`, behind `net`
 abbrev pub net_unsub_of : List (List ℕ) → Option Message
-net_unsub_of rest = form (number u32_max ∷ []) UndeclareSubscriber rest
+net_unsub_of rest = form (number_parts u32_max) UndeclareSubscriber rest
 
 -- `queryable N complete WIRE`, `queryable N partial WIRE`, behind `net`
+abbrev pub net_queryable_parts : List Part
+net_queryable_parts = number u32_max ∷ complete ∷ wire ∷ []
+
 abbrev pub net_queryable_of : List (List ℕ) → Option Message
-net_queryable_of rest = form (number u32_max ∷ complete ∷ wire ∷ []) DeclareQueryable rest
+net_queryable_of rest = form net_queryable_parts DeclareQueryable rest
 
 -- `unqueryable N`, behind `net`
 abbrev pub net_unqueryable_of : List (List ℕ) → Option Message
-net_unqueryable_of rest = form (number u32_max ∷ []) UndeclareQueryable rest
+net_unqueryable_of rest = form (number_parts u32_max) UndeclareQueryable rest
 
 -- `token N WIRE` and its option, behind `net`
+abbrev pub net_token_parts : List Part
+net_token_parts = number u32_max ∷ wire ∷ interest ∷ []
+
 abbrev pub net_token_of : List (List ℕ) → Option Message
-net_token_of rest = form (number u32_max ∷ wire ∷ interest ∷ []) DeclareToken rest
+net_token_of rest = form net_token_parts DeclareToken rest
 
 -- `untoken N` or `untoken N WIRE`, and its option, behind `net`
+abbrev pub net_untoken_parts : List Part
+net_untoken_parts = number u32_max ∷ wire_if ∷ interest ∷ []
+
 abbrev pub net_untoken_of : List (List ℕ) → Option Message
-net_untoken_of rest = form (number u32_max ∷ wire_if ∷ interest ∷ []) UndeclareToken rest
+net_untoken_of rest = form net_untoken_parts UndeclareToken rest
 
 -- `declarefinal` and its option, behind `net`
+abbrev pub declare_final_parts : List Part
+declare_final_parts = interest ∷ []
+
 abbrev pub declare_final_of : List (List ℕ) → Option Message
-declare_final_of rest = form (interest ∷ []) DeclareFinal rest
+declare_final_of rest = form declare_final_parts DeclareFinal rest
 
 -- `put BYTES` or `del`, and the options, behind `push WIRE`
+abbrev pub push_parts : SampleKind → List Part
+push_parts kind = push_body kind ∷ timestamp ∷ qos 0 Drop ∷ reliable ∷ source ∷ attachment ∷ []
+
+abbrev pub push_made : WireExpr → (kind : SampleKind) → Maker (push_parts kind) Message
+push_made w kind what time service flag origin beside =
+    Push (record { wire = w; body = body_of [] (update_of what time origin beside); qos = service; reliable = flag })
+
 abbrev pub push_value_of : WireExpr → SampleKind → List (List ℕ) → Option Message
-push_value_of w kind rest =
-    form (push_body kind ∷ timestamp ∷ qos 0 Drop ∷ reliable ∷ source ∷ attachment ∷ [])
-    (λ what time service flag origin beside.
-    Push (record { wire = w; body = body_of [] (update_of what time origin beside); qos = service; reliable = flag })) rest
+push_value_of w kind rest = form (push_parts kind) (push_made w kind) rest
 
 -- `put` or `del` and what follows, behind `push WIRE`
 abbrev pub push_by : WireExpr → List ℕ → List (List ℕ) → Option Message
@@ -229,21 +310,26 @@ abbrev pub request_timeout : ℕ
 request_timeout = 10000
 
 -- `request N WIRE` and its options, behind `net`
+abbrev pub request_parts : List Part
+request_parts =
+    number u32_max ∷ wire ∷ parameters ∷ target ∷ consolidation ∷ timeout ∷ value ∷ qos 0 Block ∷ source ∷ attachment ∷ []
+
+abbrev pub request_made : Maker request_parts Message
+request_made n w text whom mode time given service origin beside = request_message (record {
+  rid = n;
+  wire = w;
+  parameters = text;
+  target = whom;
+  consolidation = mode;
+  timeout = unwrap_or time request_timeout;
+  value = given;
+  qos = service;
+  source = origin;
+  attachment = beside;
+})
+
 abbrev pub request_of : List (List ℕ) → Option Message
-request_of rest =
-    form (number u32_max ∷ wire ∷ parameters ∷ target ∷ consolidation ∷ timeout ∷ value ∷ qos 0 Block ∷ source ∷ attachment ∷ [])
-    (λ n w text whom mode time given service origin beside. request_message (record {
-      rid = n;
-      wire = w;
-      parameters = text;
-      target = whom;
-      consolidation = mode;
-      timeout = unwrap_or time request_timeout;
-      value = given;
-      qos = service;
-      source = origin;
-      attachment = beside;
-    })) rest
+request_of rest = form request_parts request_made rest
 
 -- what a get is told
 abbrev pub responded : ℕ → WireExpr → Answered → QoSType → Option EntityGlobalId → Message
@@ -251,16 +337,26 @@ responded n w answered service who =
     response_message (record { rid = n; wire = w; answered = answered; qos = service; responder = who })
 
 -- `put BYTES` or `del`, and the options, behind `response N WIRE`
+abbrev pub response_parts : SampleKind → List Part
+response_parts kind = push_body kind ∷ timestamp ∷ qos 0 Block ∷ source ∷ attachment ∷ responder ∷ []
+
+abbrev pub response_made : ℕ → WireExpr → (kind : SampleKind) → Maker (response_parts kind) Message
+response_made n w kind what time service origin beside who =
+    responded n w (Reply (body_of [] (update_of what time origin beside))) service who
+
 abbrev pub response_value_of : ℕ → WireExpr → SampleKind → List (List ℕ) → Option Message
-response_value_of n w kind rest =
-    form (push_body kind ∷ timestamp ∷ qos 0 Block ∷ source ∷ attachment ∷ responder ∷ [])
-    (λ what time service origin beside who. responded n w (Reply (body_of [] (update_of what time origin beside))) service who) rest
+response_value_of n w kind rest = form (response_parts kind) (response_made n w kind) rest
 
 -- `BYTES` and its options, behind `response N WIRE err`
+abbrev pub response_error_parts : List Part
+response_error_parts = payload ∷ encoding ∷ qos 0 Block ∷ responder ∷ []
+
+abbrev pub response_error_made : ℕ → WireExpr → Maker response_error_parts Message
+response_error_made n w bytes text service who =
+    responded n w (error_reply (record { payload = bytes; encoding = text })) service who
+
 abbrev pub response_error_of : ℕ → WireExpr → List (List ℕ) → Option Message
-response_error_of n w rest =
-    form (payload ∷ encoding ∷ qos 0 Block ∷ responder ∷ [])
-    (λ bytes text service who. responded n w (error_reply (record { payload = bytes; encoding = text })) service who) rest
+response_error_of n w rest = form response_error_parts (response_error_made n w) rest
 
 -- `put`, `del` or `err` and what follows, behind `response N WIRE`
 abbrev pub response_by : ℕ → WireExpr → List ℕ → List (List ℕ) → Option Message
@@ -279,7 +375,7 @@ response_of rest = option_and_then (λ found. response_on found.0 found.1) (read
 
 -- `responsefinal N`, behind `net`
 abbrev pub response_final_of : List (List ℕ) → Option Message
-response_final_of rest = form (number u32_max ∷ []) ResponseFinal rest
+response_final_of rest = form (number_parts u32_max) ResponseFinal rest
 
 -- `close`, behind `net`
 abbrev pub net_close_of : List (List ℕ) → Option Message

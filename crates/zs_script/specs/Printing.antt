@@ -42,6 +42,10 @@ tabbed (field ∷ fields) = 9 ∷ (field ++ tabbed fields)
 abbrev pub line : ℕ → List (List ℕ) → List ℕ
 line count fields = decimal count ++ tabbed fields
 
+-- the same line with these bytes before the number, and those behind it: both are empty in `line`
+abbrev pub marked_line : List ℕ → ℕ → List ℕ → List (List ℕ) → List ℕ
+marked_line before count behind fields = before ++ (decimal count ++ (behind ++ tabbed fields))
+
 -- the answer, behind the event's number
 abbrev pub answer_fields : Answer → List (List ℕ)
 answer_fields (accepted None) = codes "ok" ∷ []
@@ -178,6 +182,12 @@ effect_fields effect = pieces_fields (effect_pieces effect)
 abbrev pub turn_text : ℕ → Turn → List ℕ
 turn_text count turn =
     line count (answer_fields turn.answer) ++ flat_map (λ effect. line count (effect_fields effect)) turn.effects
+
+-- the same lines with these bytes before each number, and those behind it
+abbrev pub marked_text : List ℕ → ℕ → List ℕ → Turn → List ℕ
+marked_text before count behind turn =
+    marked_line before count behind (answer_fields turn.answer)
+    ++ flat_map (λ effect. marked_line before count behind (effect_fields effect)) turn.effects
 
 -- an item of a channel: what was handed, without the kind and the number of whom
 abbrev pub item_pieces : HandOver → List Piece

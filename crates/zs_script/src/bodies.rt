@@ -4,8 +4,7 @@ ghost use Rattle.std.specs.Prelude.{◌≡◌, [], unwrap_or};
 ghost use Rattle.zs_sample.specs.Encoding.{encoding_of};
 ghost use Rattle.zs_events.specs.Updates.{body_of};
 
-use crate::options::default_encoding;
-use zs_events::{PushBody, Update};
+use zs_events::{PushBody, Update, default_encoding};
 use zs_sample::{SampleKind, Text, ZBytes};
 use zs_wire::Body;
 

@@ -8,8 +8,8 @@ ghost use Rattle.zs_script.specs.Words.{hex_digit, hex_digits, hex_text, byte_di
 use std::alloc::AllocError;
 use zs_sample::ZBytes;
 
-/// A number in hexadecimal digits.
-pub(crate) fn append_hex(out: &mut String, number: u128) -> Result<(), AllocError>
+/// Puts a number behind a text, in hexadecimal digits of lower case.
+pub fn append_hex(out: &mut String, number: u128) -> Result<(), AllocError>
     ensures { OnOk result (string_bytes out.new ≡ string_bytes out.old ++ hex_text number) }
 {
     append_hex_digits(out, 32, number)
@@ -30,8 +30,8 @@ fn append_hex_digits(out: &mut String, places: u32, number: u128) -> Result<(), 
     out.push(last)
 }
 
-/// Bytes: `x` and two digits for each.
-pub(crate) fn append_bytes(out: &mut String, bytes: &ZBytes) -> Result<(), AllocError>
+/// Puts bytes behind a text: `x`, and two hexadecimal digits of lower case for each.
+pub fn append_bytes(out: &mut String, bytes: &ZBytes) -> Result<(), AllocError>
     ensures { OnOk result (string_bytes out.new ≡ string_bytes out.old ++ bytes_text bytes.now) }
 {
     out.push('x')?;

@@ -1,9 +1,10 @@
 //! The script language: lines in, events out, and the printed text of a turn.
 #![tactic(auto)]
 
+pub use digits::{append_bytes, append_hex};
 pub use grammar::parse_event;
 pub use numbers::{parse_hex, parse_number};
-pub use printing::{append_received, append_turn, print_turn};
+pub use printing::{Margin, append_marked_turn, append_received, append_turn, print_turn};
 pub use symbols::after_prefix;
 pub use zs_lines::{Line, LineError, LineReader, WriteFault, write_whole};
 
@@ -20,7 +21,7 @@ mod messages;
 mod numbers;
 mod options;
 mod parts;
-mod piece_printing;
+pub mod piece_printing;
 mod printing;
 mod publications;
 mod query_parts;
@@ -29,4 +30,4 @@ mod replies;
 mod requests;
 mod responses;
 mod symbols;
-mod words;
+pub mod words;

@@ -1,12 +1,12 @@
 //! The values of options, each read from the text behind its name.
 
 ghost use Rattle.std.specs.Prelude.{◌≡◌, [], IfOk, Some};
-ghost use Rattle.zs_events.specs.Updates.{default_encoding};
 ghost use Rattle.zs_script.specs.Options.{timestamp_of, entity_of, two_numbers_of, source_of, encoding_text_of, priority_of, congestion_of, flag_of, target_of, consolidation_of, any_key_of, value_of};
 
 use crate::numbers::{parse_hex, parse_number};
 use crate::symbols::parse_id;
 use std::alloc::{AllocError, Global};
+use zs_events::default_encoding;
 use zs_sample::{ConsolidationMode, QueryTarget, Text, ZBytes};
 use zs_wire::{CongestionControl, EntityGlobalId, SourceInfo, Timestamp, Value};
 
@@ -51,13 +51,6 @@ pub(crate) fn parse_source(text: &str) -> Option<SourceInfo>
         source_id: EntityGlobalId { zid, eid },
         source_sn,
     })
-}
-
-/// The encoding where none is named.
-pub(crate) fn default_encoding() -> Text
-    ensures { result ≡ default_encoding }
-{
-    Text::fixed("zenoh/bytes")
 }
 
 /// A text without a character.

@@ -8,8 +8,7 @@ ghost use Rattle.zs_script.specs.Parts.{first_of, behind, named_in, option_in, m
 use crate::channels::parse_channel_kind;
 use crate::numbers::parse_number;
 use crate::options::{
-    default_encoding, parse_congestion, parse_encoding, parse_flag, parse_priority, parse_source,
-    parse_timestamp,
+    parse_congestion, parse_encoding, parse_flag, parse_priority, parse_source, parse_timestamp,
 };
 use crate::symbols::{
     after_prefix, parse_background_kind, parse_complete, parse_history, parse_id, parse_key,
@@ -17,7 +16,9 @@ use crate::symbols::{
 };
 use std::alloc::{AllocError, Global};
 use std::marker::Model;
-use zs_events::{BackgroundKind, KeyArg, Kind, ParentKind, PublicationQuality, PushBody};
+use zs_events::{
+    BackgroundKind, KeyArg, Kind, ParentKind, PublicationQuality, PushBody, default_encoding,
+};
 use zs_sample::{Locality, SampleKind, Text, ZBytes};
 use zs_wire::{CongestionControl, QoSType, SourceInfo, Timestamp, WireExpr};
 

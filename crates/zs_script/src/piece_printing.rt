@@ -15,16 +15,18 @@ use zs_sample::{
 };
 use zs_wire::{Mapping, Value, WireExpr};
 
+/// Puts a word behind a text, behind a tab.
 #[tactic(auto, using(crate::proofs::Joining::joining), unfolding(crate::specs::Pieces::written, crate::specs::Pieces::piece_text))]
-pub(crate) fn append_word(out: &mut String, text: &str) -> Result<(), AllocError>
+pub fn append_word(out: &mut String, text: &str) -> Result<(), AllocError>
     ensures { OnOk result (string_bytes out.new ≡ string_bytes out.old ++ piece_text (word text.now)) }
 {
     out.push('\t')?;
     out.push_str(text)
 }
 
+/// Puts a number behind a text, as `append_word` does with a word.
 #[tactic(auto, unfolding(crate::specs::Pieces::written, crate::specs::Pieces::piece_text))]
-pub(crate) fn append_number(out: &mut String, count: u32) -> Result<(), AllocError>
+pub fn append_number(out: &mut String, count: u32) -> Result<(), AllocError>
     ensures { OnOk result (string_bytes out.new ≡ string_bytes out.old ++ piece_text (number count)) }
 {
     write!(out, "\t{count}")
@@ -42,16 +44,18 @@ fn append_wire_text(out: &mut String, key: &WireExpr) -> Result<(), AllocError>
     }
 }
 
+/// Puts a wire expression behind a text.
 #[tactic(auto, using(crate::proofs::Joining::joining), unfolding(crate::specs::Pieces::written, crate::specs::Pieces::piece_text))]
-pub(crate) fn append_wire(out: &mut String, key: &WireExpr) -> Result<(), AllocError>
+pub fn append_wire(out: &mut String, key: &WireExpr) -> Result<(), AllocError>
     ensures { OnOk result (string_bytes out.new ≡ string_bytes out.old ++ piece_text (wire key.now)) }
 {
     out.push('\t')?;
     append_wire_text(out, key)
 }
 
+/// The same of one that may be missing: then nothing is put there.
 #[tactic(auto, using(crate::proofs::Joining::joining), unfolding(crate::specs::Pieces::written, crate::specs::Pieces::piece_text))]
-pub(crate) fn append_wire_if(out: &mut String, key: Option<&WireExpr>) -> Result<(), AllocError>
+pub fn append_wire_if(out: &mut String, key: Option<&WireExpr>) -> Result<(), AllocError>
     ensures { OnOk result (string_bytes out.new ≡ string_bytes out.old ++ piece_text (wire_if (option_copied key.entry))) }
 {
     let Some(key) = key else {
@@ -61,16 +65,18 @@ pub(crate) fn append_wire_if(out: &mut String, key: Option<&WireExpr>) -> Result
     append_wire_text(out, key)
 }
 
+/// Puts bytes behind a text.
 #[tactic(auto, using(crate::proofs::Joining::joining), unfolding(crate::specs::Pieces::written, crate::specs::Pieces::piece_text))]
-pub(crate) fn append_payload(out: &mut String, bytes: &ZBytes) -> Result<(), AllocError>
+pub fn append_payload(out: &mut String, bytes: &ZBytes) -> Result<(), AllocError>
     ensures { OnOk result (string_bytes out.new ≡ string_bytes out.old ++ piece_text (payload bytes.now)) }
 {
     out.push('\t')?;
     append_bytes(out, bytes)
 }
 
+/// Puts the option `params` behind a text, if it is not empty.
 #[tactic(auto, unfolding(crate::specs::Pieces::written, crate::specs::Pieces::piece_text))]
-pub(crate) fn append_parameters(out: &mut String, text: &str) -> Result<(), AllocError>
+pub fn append_parameters(out: &mut String, text: &str) -> Result<(), AllocError>
     ensures { OnOk result (string_bytes out.new ≡ string_bytes out.old ++ piece_text (parameters text.now)) }
 {
     if text.is_empty() {
@@ -162,8 +168,9 @@ pub(crate) fn append_sample_encoding(out: &mut String, name: &Encoding) -> Resul
     out.push_str(name.as_str())
 }
 
+/// Puts the option `ts` behind a text, if there is a timestamp.
 #[tactic(auto, using(crate::proofs::Joining::joining), unfolding(crate::specs::Pieces::written, crate::specs::Pieces::piece_text))]
-pub(crate) fn append_timestamp(out: &mut String, time: Option<Timestamp>) -> Result<(), AllocError>
+pub fn append_timestamp(out: &mut String, time: Option<Timestamp>) -> Result<(), AllocError>
     ensures { OnOk result (string_bytes out.new ≡ string_bytes out.old ++ piece_text (timestamp time)) }
 {
     let Some(Timestamp { time, id }) = time else {
@@ -202,8 +209,9 @@ fn append_entity(out: &mut String, id: EntityGlobalId) -> Result<(), AllocError>
     write!(out, ":{eid}")
 }
 
+/// Puts the option `src` behind a text, if it is known where data comes from.
 #[tactic(auto, using(crate::proofs::Joining::joining), unfolding(crate::specs::Pieces::written, crate::specs::Pieces::piece_text))]
-pub(crate) fn append_source(out: &mut String, origin: Option<SourceInfo>) -> Result<(), AllocError>
+pub fn append_source(out: &mut String, origin: Option<SourceInfo>) -> Result<(), AllocError>
     ensures { OnOk result (string_bytes out.new ≡ string_bytes out.old ++ piece_text (source origin)) }
 {
     let Some(
@@ -220,8 +228,9 @@ pub(crate) fn append_source(out: &mut String, origin: Option<SourceInfo>) -> Res
     write!(out, ":{source_sn}")
 }
 
+/// Puts the option `att` behind a text, if there are bytes.
 #[tactic(auto, using(crate::proofs::Joining::joining), unfolding(crate::specs::Pieces::written, crate::specs::Pieces::piece_text))]
-pub(crate) fn append_attachment(out: &mut String, bytes: Option<&ZBytes>) -> Result<(), AllocError>
+pub fn append_attachment(out: &mut String, bytes: Option<&ZBytes>) -> Result<(), AllocError>
     ensures { OnOk result (string_bytes out.new ≡ string_bytes out.old ++ piece_text (attachment (option_copied bytes.entry))) }
 {
     let Some(bytes) = bytes else {
@@ -231,11 +240,9 @@ pub(crate) fn append_attachment(out: &mut String, bytes: Option<&ZBytes>) -> Res
     append_bytes(out, bytes)
 }
 
+/// Puts the option `by` behind a text, if it is known who answers.
 #[tactic(auto, using(crate::proofs::Joining::joining), unfolding(crate::specs::Pieces::written, crate::specs::Pieces::piece_text))]
-pub(crate) fn append_responder(
-    out: &mut String,
-    id: Option<EntityGlobalId>,
-) -> Result<(), AllocError>
+pub fn append_responder(out: &mut String, id: Option<EntityGlobalId>) -> Result<(), AllocError>
     ensures { OnOk result (string_bytes out.new ≡ string_bytes out.old ++ piece_text (responder id)) }
 {
     let Some(id) = id else {
@@ -245,8 +252,9 @@ pub(crate) fn append_responder(
     append_entity(out, id)
 }
 
+/// Puts the option `interest` behind a text, if there is a number.
 #[tactic(auto, unfolding(crate::specs::Pieces::written, crate::specs::Pieces::piece_text))]
-pub(crate) fn append_interest(out: &mut String, id: Option<u32>) -> Result<(), AllocError>
+pub fn append_interest(out: &mut String, id: Option<u32>) -> Result<(), AllocError>
     ensures { OnOk result (string_bytes out.new ≡ string_bytes out.old ++ piece_text (interest id)) }
 {
     let Some(id) = id else {

@@ -1,11 +1,11 @@
 //! The printed text of a turn.
 
-ghost use Rattle.std.specs.Prelude.{◌≡◌, [], ◌∷◌, ◌++◌, IfOk, OnOk, flat_map, encode_utf8_all};
+ghost use Rattle.std.specs.Prelude.{◌≡◌, [], ◌∷◌, ◌++◌, IfOk, OnOk, decimal, flat_map, encode_utf8_all};
 ghost use Rattle.std.specs.String.{string_bytes};
 ghost use Rattle.zs_script.specs.Pieces.{word, number, responder, pieces_text};
 ghost use Rattle.zs_events.specs.declared.received.Received.TheVariants.{Item};
 ghost use Rattle.zs_events.specs.declared.turn.Effect.TheVariants.{Send, Hand, Matching};
-ghost use Rattle.zs_script.specs.Printing.{line, turn_text, answer_fields, effect_fields, effect_pieces, sample_qos, sample_head, sample_options, sample_pieces, hand_pieces, error_pieces, reply_item_pieces, replied_pieces, asked_qos, asked_head, asked_options, asked_pieces, queried_pieces, received_pieces, received_fields};
+ghost use Rattle.zs_script.specs.Printing.{line, marked_line, turn_text, marked_text, answer_fields, effect_fields, effect_pieces, sample_qos, sample_head, sample_options, sample_pieces, hand_pieces, error_pieces, reply_item_pieces, replied_pieces, asked_qos, asked_head, asked_options, asked_pieces, queried_pieces, received_pieces, received_fields};
 ghost use Rattle.zs_script.specs.Words.{kind_word};
 
 use crate::message_printing::append_message;
@@ -31,13 +31,52 @@ pub fn print_turn(alloc: Global, number: u64, turn: &Turn) -> Result<Text, Alloc
     Text::of(alloc, text.as_str())
 }
 
+/// What each output line of a turn begins with.
+#[derive(Clone, Copy, Debug)]
+pub struct Margin<'a> {
+    /// What stands before the event's number, such as a mark and a tab.
+    pub before: &'a str,
+    /// The event's, from 1.
+    pub number: u64,
+    /// What stands behind the number and before the tab of the first field, such as a tab and one more field.
+    pub behind: &'a str,
+}
+
 /// Puts the output lines of a turn behind a text, so that one text's memory serves many turns. After an error some
 /// of them may stand there.
 pub fn append_turn(out: &mut String, number: u64, turn: &Turn) -> Result<(), AllocError>
     ensures { OnOk result (string_bytes out.new ≡ string_bytes out.old ++ turn_text number turn.now) }
 {
-    append_answer(out, number, &turn.answer)?;
-    append_effects(out, number, turn.effects.as_slice())
+    let margin = Margin {
+        before: "",
+        number,
+        behind: "",
+    };
+    append_marked_turn(out, margin, turn)
+}
+
+/// Puts the output lines of a turn, each with this margin, behind a text. After an error some of them may stand there.
+pub fn append_marked_turn(
+    out: &mut String,
+    margin: Margin<'_>,
+    turn: &Turn,
+) -> Result<(), AllocError>
+    ensures { OnOk result (string_bytes out.new
+        ≡ string_bytes out.old ++ marked_text margin.entry.before.now margin.entry.number margin.entry.behind.now turn.now) }
+{
+    append_answer(out, margin, &turn.answer)?;
+    append_effects(out, margin, turn.effects.as_slice())
+}
+
+/// What a line begins with.
+fn append_margin(out: &mut String, margin: Margin<'_>) -> Result<(), AllocError>
+    ensures { OnOk result (string_bytes out.new
+        ≡ string_bytes out.old ++ (margin.entry.before.now ++ (decimal margin.entry.number ++ margin.entry.behind.now))) }
+{
+    out.push_str(margin.before)?;
+    let number = margin.number;
+    write!(out, "{number}")?;
+    out.push_str(margin.behind)
 }
 
 /// Puts the line of what a read of a channel is answered behind a text, as `append_turn` does with a turn.
@@ -79,26 +118,34 @@ fn append_item(out: &mut String, item: &HandOver) -> Result<(), AllocError>
     }
 }
 
-fn append_answer(out: &mut String, number: u64, answer: &Answer) -> Result<(), AllocError>
-    ensures { OnOk result (string_bytes out.new ≡ string_bytes out.old ++ line number (answer_fields answer.now)) }
+#[tactic(auto, using(crate::proofs::Joining::joining))]
+fn append_answer(out: &mut String, margin: Margin<'_>, answer: &Answer) -> Result<(), AllocError>
+    ensures { OnOk result (string_bytes out.new
+        ≡ string_bytes out.old ++ marked_line margin.entry.before.now margin.entry.number margin.entry.behind.now (answer_fields answer.now)) }
 {
+    append_margin(out, margin)?;
     match answer {
-        Answer::Ok(None) => writeln!(out, "{number}\tok"),
-        Answer::Ok(Some(drawn)) => writeln!(out, "{number}\tok\t{drawn}"),
+        Answer::Ok(None) => out.push_str("\tok\n"),
+        Answer::Ok(Some(drawn)) => writeln!(out, "\tok\t{drawn}"),
         Answer::Refused(refusal) => {
             let name = refusal_name(*refusal);
-            writeln!(out, "{number}\trefused\t{name}")
+            writeln!(out, "\trefused\t{name}")
         }
     }
 }
 
-fn append_effects(out: &mut String, number: u64, effects: &[Effect]) -> Result<(), AllocError>
+fn append_effects(
+    out: &mut String,
+    margin: Margin<'_>,
+    effects: &[Effect],
+) -> Result<(), AllocError>
     ensures { OnOk result (string_bytes out.new
-        ≡ string_bytes out.old ++ flat_map (λ effect. line number (effect_fields effect)) effects.now) }
+        ≡ string_bytes out.old
+        ++ flat_map (λ effect. marked_line margin.entry.before.now margin.entry.number margin.entry.behind.now (effect_fields effect)) effects.now) }
 {
     let mut last = Last::Nothing;
     for effect in effects {
-        append_effect(out, number, effect, &mut last)?;
+        append_effect(out, margin, effect, &mut last)?;
     }
     drop(last);
     Ok(())
@@ -108,13 +155,14 @@ fn append_effects(out: &mut String, number: u64, effects: &[Effect]) -> Result<(
 #[tactic(auto, using(crate::proofs::Joining::line_joining))]
 fn append_effect<'a>(
     out: &mut String,
-    number: u64,
+    margin: Margin<'_>,
     effect: &'a Effect,
     last: &mut Last<'a>,
 ) -> Result<(), AllocError>
-    ensures { OnOk result (string_bytes out.new ≡ string_bytes out.old ++ line number (effect_fields effect.now)) }
+    ensures { OnOk result (string_bytes out.new
+        ≡ string_bytes out.old ++ marked_line margin.entry.before.now margin.entry.number margin.entry.behind.now (effect_fields effect.now)) }
 {
-    write!(out, "{number}")?;
+    append_margin(out, margin)?;
     append_effect_pieces(out, effect, last)?;
     out.push('\n')
 }

@@ -8,7 +8,7 @@ use zs_sample::{CongestionControl, ConsolidationMode, QueryTarget, Reliability, 
 use zs_wire::{InterestMode, InterestWhat};
 
 /// A refusal's name.
-pub(crate) fn refusal_name(refusal: Refusal) -> &'static str
+pub fn refusal_name(refusal: Refusal) -> &'static str
     ensures { result.now ≡ refusal_name refusal }
 {
     match refusal {
@@ -25,7 +25,7 @@ pub(crate) fn refusal_name(refusal: Refusal) -> &'static str
 }
 
 /// The word for what a number is of.
-pub(crate) fn kind_word(kind: Kind) -> &'static str
+pub fn kind_word(kind: Kind) -> &'static str
     ensures { result.now ≡ kind_word kind }
 {
     match kind {
@@ -42,7 +42,7 @@ pub(crate) fn kind_word(kind: Kind) -> &'static str
 }
 
 /// The word for what a sample does.
-pub(crate) fn sample_word(kind: SampleKind) -> &'static str
+pub fn sample_word(kind: SampleKind) -> &'static str
     ensures { result.now ≡ sample_word kind }
 {
     match kind {
@@ -52,7 +52,7 @@ pub(crate) fn sample_word(kind: SampleKind) -> &'static str
 }
 
 /// The word for what happens where a queue is full.
-pub(crate) fn congestion_word(congestion: CongestionControl) -> &'static str
+pub fn congestion_word(congestion: CongestionControl) -> &'static str
     ensures { result.now ≡ congestion_word congestion }
 {
     match congestion {
@@ -62,14 +62,14 @@ pub(crate) fn congestion_word(congestion: CongestionControl) -> &'static str
 }
 
 /// A flag's digit.
-pub(crate) fn flag_digit(flag: bool) -> &'static str
+pub fn flag_digit(flag: bool) -> &'static str
     ensures { result.now ≡ flag_digit flag }
 {
     if flag { "1" } else { "0" }
 }
 
 /// Whether a message may not be lost.
-pub(crate) fn is_reliable(reliability: Reliability) -> bool
+pub fn is_reliable(reliability: Reliability) -> bool
     ensures { result ≡ is_reliable reliability }
 {
     match reliability {
@@ -79,21 +79,21 @@ pub(crate) fn is_reliable(reliability: Reliability) -> bool
 }
 
 /// The word for whether a queryable has all that is there.
-pub(crate) fn complete_word(complete: bool) -> &'static str
+pub fn complete_word(complete: bool) -> &'static str
     ensures { result.now ≡ complete_word complete }
 {
     if complete { "complete" } else { "partial" }
 }
 
 /// The word for whether anyone matches.
-pub(crate) fn truth_word(matching: bool) -> &'static str
+pub fn truth_word(matching: bool) -> &'static str
     ensures { result.now ≡ truth_word matching }
 {
     if matching { "true" } else { "false" }
 }
 
 /// The word for whom a query reaches.
-pub(crate) fn target_word(target: QueryTarget) -> &'static str
+pub fn target_word(target: QueryTarget) -> &'static str
     ensures { result.now ≡ target_word target }
 {
     match target {
@@ -104,7 +104,7 @@ pub(crate) fn target_word(target: QueryTarget) -> &'static str
 }
 
 /// The word for which replies of a query are kept.
-pub(crate) fn consolidation_word(mode: ConsolidationMode) -> &'static str
+pub fn consolidation_word(mode: ConsolidationMode) -> &'static str
     ensures { result.now ≡ consolidation_word mode }
 {
     match mode {
@@ -116,7 +116,7 @@ pub(crate) fn consolidation_word(mode: ConsolidationMode) -> &'static str
 }
 
 /// The word for when an interest is in declarations.
-pub(crate) fn mode_word(mode: InterestMode) -> &'static str
+pub fn mode_word(mode: InterestMode) -> &'static str
     ensures { result.now ≡ mode_word mode }
 {
     match mode {
@@ -128,7 +128,7 @@ pub(crate) fn mode_word(mode: InterestMode) -> &'static str
 }
 
 /// The word for what an interest is in.
-pub(crate) fn what_word(what: InterestWhat) -> &'static str
+pub fn what_word(what: InterestWhat) -> &'static str
     ensures { result.now ≡ what_word what }
 {
     match what {
