@@ -38,18 +38,18 @@ impl Handler<Item> for Count {
 }
 
 // A subscriber on these keys, for publications of any origin.
+#[tactic(auto, using(crate::proofs::Takes::sub_takes))]
 fn subscriber(alloc: Global, keys: &str) -> Result<Shared<Event>, AllocError>
     ensures { IfOk result (λ event. takes_handler event ≡ true) }
 {
     let key = KeyArg::Text(Text::of(alloc, keys)?);
-    Shared::new(
-        alloc,
-        Event::Sub {
-            origin: Locality::Any,
-            key,
-            to: Chan::Print,
-        },
-    )
+    let event = Event::Sub {
+        origin: Locality::Any,
+        key,
+        to: Chan::Print,
+    };
+    let event = Shared::new(alloc, event)?;
+    Ok(event)
 }
 
 // A put on this key, for this session and the network.
