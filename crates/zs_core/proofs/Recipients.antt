@@ -1,10 +1,6 @@
 -- The list of a number is the test of every live subscriber.
-use Rattle.std.proofs.Common.{◌≡◌, ℕ, List, Option, Some, None, refl, sym, ◌∙◌, ap, subst}
-use Rattle.std.specs.Prelude.{option_map, filter}
-use Rattle.std.specs.Option.{IfSome}
-use Rattle.zs_keys.specs.Matching.{intersects}
-use Rattle.zs_tables.specs.Ascending.{Ascend}
-use Rattle.zs_tables.proofs.Ascending.{ascend_map, ascend_filter}
+use Rattle.std.proofs.Common.{◌≡◌, ℕ, List, Option, Some, None, refl, ◌∙◌, ap}
+use Rattle.std.specs.Prelude.{option_map}
 use Rattle.zs_keys.specs.Key.{Key as a_key}
 use Rattle.zs_tables.specs.declared.subscriber.SubRow.{SubRow}
 use Rattle.zs_tables.specs.Numbers.{key_at}
@@ -16,15 +12,6 @@ use Rattle.zs_core.specs.Stands.{world_after}
 use Rattle.zs_core.specs.Laws.{ListsAreTests}
 use Rattle.zs_core.proofs.Keys.{mapped_is}
 use Rattle.zs_core.proofs.Stands.{standing}
-
--- the list of a number ascends
-pub list_ascends : (rows : List SubRow) (key : Option a_key) (list : Option (List ℕ)) → Ascend (λ row. row.id) rows
-    → list ≡ option_map (λ (k : a_key). matches k.text rows) key → IfSome list (λ ids. Ascend (λ id. id) ids)
-list_ascends rows None list up is = subst (λ (o : Option (List ℕ)). IfSome o (λ ids. Ascend (λ id. id) ids)) (sym is) tt
-list_ascends rows (Some key) list up is =
-    let its = ascend_map (λ (id : ℕ). id) (λ (row : SubRow). row.id) (filter (λ row. intersects key.text row.key.text) rows)
-    (ascend_filter (λ (row : SubRow). row.id) (λ row. intersects key.text row.key.text) rows up) in
-    subst (λ (o : Option (List ℕ)). IfSome o (λ ids. Ascend (λ id. id) ids)) (sym is) its
 
 by_text : (rows : List SubRow) (key : Option a_key)
     → option_map (λ (k : a_key). matches k.text rows) key ≡ option_map (λ (text : List ℕ). matches text rows) (option_map (λ (k : a_key). k.text) key)

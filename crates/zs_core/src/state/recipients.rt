@@ -1,6 +1,5 @@
 ghost use Rattle.std.specs.Prelude.{◌≡◌, IsSome};
-ghost use Rattle.std.specs.Option.{IfSome, option_map, option_copied, ForSome};
-ghost use Rattle.zs_tables.specs.Ascending.{Ascend};
+ghost use Rattle.std.specs.Option.{option_map, option_copied, ForSome};
 ghost use Rattle.zs_tables.specs.Numbers.{key_at};
 ghost use Rattle.zs_tables.specs.Contents.{text_meant, IsByNumber};
 ghost use Rattle.zs_tables.specs.Recipients.{has_session, has_network, matches, next_recipient};
@@ -18,12 +17,9 @@ impl SessionState {
     /// The ascending numbers of the live subscribers whose key has a key in common with that of a declared number, if
     /// it stands for one. `Mapping::Receiver` names this session's numbers, `Mapping::Sender` the network's. It reads
     /// the list that the number keeps.
-    #[tactic(auto, using(crate::proofs::Recipients::list_ascends))]
     pub fn matches_of(&self, mapping: Mapping, number: u16) -> Option<&[u32]>
-        ensures listed { option_copied result ≡ option_map (λ key. matches key.text self.now.entities.subs) (key_at number (numbers_for mapping self.now)) }
-        ensures ascending { IfSome (option_copied result) (λ ids. Ascend (λ id. id) ids) }
+        ensures { option_copied result ≡ option_map (λ key. matches key.text self.now.entities.subs) (key_at number (numbers_for mapping self.now)) }
     {
-        let _ascending = self.tables.rows();
         self.tables.matches_of(mapping, number)
     }
 

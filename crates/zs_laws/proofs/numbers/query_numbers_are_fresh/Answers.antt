@@ -1,0 +1,5 @@
+use Rattle.zs_laws.proofs.Fresh.{query_numbers_are_fresh}
+use Rattle.zs_laws.proofs.numbers.query_numbers_are_fresh.Goals as goal
+
+pub returns : goal.returns
+returns c = query_numbers_are_fresh
