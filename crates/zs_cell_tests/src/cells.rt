@@ -1,4 +1,9 @@
-//! A subscriber that is called, skipped, told its end, and refused.
+//! Subscribers that are called, refused, and told their ends.
+ghost use Rattle.std.specs.Prelude.{◌≡◌, true, map, IfOk};
+ghost use Rattle.zs_posts.specs.Calls.{call_seen, all_lents};
+ghost use Rattle.zs_hands.specs.Answers.{AreOfRoom};
+ghost use Rattle.zs_turns.specs.Gates.{takes_handler};
+
 use std::alloc::{AllocError, Global};
 use std::process::Abort;
 use std::sync::atomic::{AtomicU64, Ordering};
@@ -12,7 +17,7 @@ use zs_handlers::{Handled, Handler};
 use zs_hands::Handed;
 use zs_posts::Key;
 use zs_sample::{CongestionControl, Locality, QoSType, Text, ZBytes};
-use zs_session_cell::SessionCell;
+use zs_session_cell::{Handing, SessionCell};
 use zs_turns::Item;
 
 // Counts its calls.
@@ -33,12 +38,18 @@ impl Handler<Item> for Count {
 }
 
 // A subscriber on these keys, for publications of any origin.
-fn subscriber(alloc: Global, keys: &str) -> Result<Event, AllocError> {
-    Ok(Event::Sub {
+#[tactic(auto, using(crate::proofs::Takes::sub_takes))]
+fn subscriber(alloc: Global, keys: &str) -> Result<Shared<Event>, AllocError>
+    ensures { IfOk result (λ event. takes_handler event ≡ true) }
+{
+    let key = KeyArg::Text(Text::of(alloc, keys)?);
+    let event = Event::Sub {
         origin: Locality::Any,
-        key: KeyArg::Text(Text::of(alloc, keys)?),
+        key,
         to: Chan::Print,
-    })
+    };
+    let event = Shared::new(alloc, event)?;
+    Ok(event)
 }
 
 // A put on this key, for this session and the network.
@@ -83,25 +94,52 @@ fn letters(rt: &impl Abort, reports: Vec<Handed<Item, u64>>, log: &mut String) {
     log.push(' ').expect(rt, "memory");
 }
 
-// Takes an event, runs its calls and gives their passes back. Each event that comes with a handler declares a subscriber.
+// Runs the calls of an event, and gives their passes back.
+fn finish<R: Abort + Wait>(
+    rt: &R,
+    cell: &mut SessionCell<Count>,
+    handing: Handing<Count, u64>,
+    log: &mut String,
+)
+    requires { AreOfRoom cell.old.exchange.posts.room (all_lents (map call_seen handing.calls)) }
+{
+    let ran = handing.run(rt);
+    let reports = cell.give_back(ran);
+    letters(rt, reports, log);
+}
+
+// Takes an event that comes without a handler.
 fn step<R: Abort + Wait>(
     rt: &R,
     alloc: Global,
     cell: &mut SessionCell<Count>,
     event: Result<Event, AllocError>,
-    handler: Option<Arc<Count>>,
     log: &mut String,
 ) {
     let event = Shared::new(alloc, event.expect(rt, "memory")).expect(rt, "memory");
-    match cell.take::<u64>(event, handler) {
+    match cell.take::<u64>(event, None) {
+        Ok(handing) => finish(rt, cell, handing, log),
+        Err(_) => log.push('n').expect(rt, "memory"),
+    }
+}
+
+// Declares a subscriber with a handler of its own.
+fn declare<R: Abort + Wait>(
+    rt: &R,
+    alloc: Global,
+    cell: &mut SessionCell<Count>,
+    keys: &str,
+    log: &mut String,
+) {
+    let handler = Arc::new(alloc, Count(AtomicU64::new(0))).expect(rt, "memory");
+    let event = subscriber(alloc, keys).expect(rt, "memory");
+    match cell.take::<u64>(event, Some(handler)) {
         Ok(mut handing) => {
             match handing.refused() {
                 Some(_) => log.push('r').expect(rt, "memory"),
                 None => {}
             }
-            let ran = handing.run(rt);
-            let reports = cell.give_back(ran);
-            letters(rt, reports, log);
+            finish(rt, cell, handing, log);
         }
         Err(_) => log.push('n').expect(rt, "memory"),
     }
@@ -125,52 +163,24 @@ fn tell<R: Abort + Wait>(rt: &R, alloc: Global, cell: &mut SessionCell<Count>, l
     }
 }
 
-fn count<R: Abort>(rt: &R, alloc: Global) -> Option<Arc<Count>> {
-    Some(Arc::new(alloc, Count(AtomicU64::new(0))).expect(rt, "memory"))
-}
-
 #[test]
 fn calls_and_tells_the_end(rt: HostRuntime) {
     let alloc = rt.alloc();
     let mut log = String::new(alloc);
     let mut cell = SessionCell::new(alloc, &Settings::default(), true).expect(&rt, "memory");
-    let first = count(&rt, alloc);
-    step(
-        &rt,
-        alloc,
-        &mut cell,
-        subscriber(alloc, "a/**"),
-        first,
-        &mut log,
-    );
-    let second = count(&rt, alloc);
-    step(
-        &rt,
-        alloc,
-        &mut cell,
-        subscriber(alloc, "**"),
-        second,
-        &mut log,
-    );
-    step(&rt, alloc, &mut cell, put(alloc, "a/b"), None, &mut log);
-    step(&rt, alloc, &mut cell, put(alloc, "c"), None, &mut log);
-    let refused = count(&rt, alloc);
-    step(
-        &rt,
-        alloc,
-        &mut cell,
-        subscriber(alloc, "a//b"),
-        refused,
-        &mut log,
-    );
+    declare(&rt, alloc, &mut cell, "a/**", &mut log);
+    declare(&rt, alloc, &mut cell, "**", &mut log);
+    step(&rt, alloc, &mut cell, put(alloc, "a/b"), &mut log);
+    step(&rt, alloc, &mut cell, put(alloc, "c"), &mut log);
+    declare(&rt, alloc, &mut cell, "a//b", &mut log);
     let over = Event::Undeclare {
         kind: EntityKind::Sub,
         id: 3,
     };
-    step(&rt, alloc, &mut cell, Ok(over), None, &mut log);
+    step(&rt, alloc, &mut cell, Ok(over), &mut log);
     tell(&rt, alloc, &mut cell, &mut log);
-    step(&rt, alloc, &mut cell, put(alloc, "a/b"), None, &mut log);
-    step(&rt, alloc, &mut cell, Ok(Event::Close), None, &mut log);
+    step(&rt, alloc, &mut cell, put(alloc, "a/b"), &mut log);
+    step(&rt, alloc, &mut cell, Ok(Event::Close), &mut log);
     tell(&rt, alloc, &mut cell, &mut log);
     assert_eq!(rt; log.as_str(), "  cc c r  told 2 c  told 2 ");
     assert!(rt; cell.holds(Key::Session));
