@@ -1,5 +1,5 @@
 -- Numbers and bytes that are printed in digits are read as they were.
-use Rattle.std.proofs.Common.{ℕ, zero, suc, ◌≡◌, ◌+◌, ◌-◌, ◌*◌, ◌/◌, ◌%◌, ◌^◌, ◌<◌, ◌≤◌, ◌==◌, Bool, true, false, not, ◌&&◌, nat_lt, List, [], ◌∷◌, ◌++◌, length, flat_map, Option, Some, None, option_map, refl, sym, ap, ◌∙◌, arith, cond, decimal, inl, inr, append_assoc}
+use Rattle.std.proofs.Common.{ℕ, zero, suc, ◌≡◌, ◌+◌, ◌-◌, ◌*◌, ◌/◌, ◌%◌, ◌^◌, ◌<◌, ◌≤◌, ◌==◌, Bool, true, false, not, ◌&&◌, nat_lt, List, [], ◌∷◌, ◌++◌, length, flat_map, Some, option_map, refl, sym, ap, ◌∙◌, arith, cond, decimal, inl, inr, append_assoc}
 use Rattle.std.specs.Prelude.{nat_le, slice_index}
 use Rattle.std.specs.List.{list_all}
 use Rattle.std.specs.Result.{result_ok}

@@ -1,5 +1,5 @@
 -- Each event is read as what was printed of it.
-use Rattle.std.proofs.Common.{ℕ, ◌≡◌, Bool, true, false, List, [], ◌∷◌, Option, Some, None, option_map, refl, sym, ap, ◌∙◌, cond, codes}
+use Rattle.std.proofs.Common.{ℕ, ◌≡◌, true, false, List, [], ◌∷◌, Option, Some, None, option_map, refl, sym, ap, ◌∙◌, cond}
 use Rattle.std.specs.Str.{is_utf8}
 use Rattle.std.proofs.lemmas.Option.{same_Some}
 use Rattle.zs_wire.specs.declared.message.Message.{Message}
@@ -20,7 +20,7 @@ use Rattle.zs_script.specs.Symbols.{u32_max, u64_max}
 use Rattle.zs_script.specs.Plain.{is_plain}
 use Rattle.zs_script.specs.Grammar.{update_of, key_parts, number_parts, sub_parts, pub_parts, pub_made, queryable_parts, querier_parts, querier_made, lsub_parts, parent_parts, undeclare_of, background_parts, publish_parts, publish_made, publish_by_parts, publish_by_made, get_parts, get_made, querier_get_parts, querier_get_made, liveliness_get_parts, reply_parts, reply_made, reply_error_parts, reply_error_made, event_of_fields, event_of}
 use Rattle.zs_event_lines.specs.Sayable.{kept, gathered, gathered_push}
-use Rattle.zs_event_lines.specs.Slots.{Slot, slots_fields, slots_say, slots_are_typed, slots_of, Line, line_text, printed}
+use Rattle.zs_event_lines.specs.Slots.{Slot, slots_fields, slots_say, slots_are_typed, Line, line_text, printed}
 use Rattle.zs_event_lines.specs.Lines.{form_line, body_kind, publish_word, publish_by_word, reply_word, message_line, net_line, line_of, gathered_message, gathered_event}
 use Rattle.zs_event_lines.specs.Laws.{are_typed, PrintedEventsAreRead}
 use Rattle.zs_event_lines.proofs.FormsBack.{form-back}

@@ -1,12 +1,11 @@
 -- A form is read as the values that were printed.
-use Rattle.std.proofs.Common.{ℕ, ◌≡◌, Bool, true, ◌&&◌, List, [], ◌∷◌, ◌++◌, Option, Some, None, option_and_then, refl, ap, ◌∙◌}
+use Rattle.std.proofs.Common.{ℕ, ◌≡◌, Bool, true, ◌&&◌, List, [], ◌∷◌, Some, None, refl}
 use Rattle.std.specs.List.{list_all}
 use Rattle.std.proofs.lemmas.Bool.{and_parts}
-use Rattle.zs_script.specs.Parts.{Part, Value, Maker, named_in, read, form}
-use Rattle.zs_event_lines.specs.Shown.{shown}
+use Rattle.zs_script.specs.Parts.{Part, Maker, named_in, form}
 use Rattle.zs_event_lines.specs.Sayable.{says, is_typed, kept}
 use Rattle.zs_event_lines.specs.Slots.{slots_fields, slots_say, slots_are_typed, Values, slots_of, remade}
-use Rattle.zs_event_lines.proofs.Options.{is_apart_from, AllDeclined, Over}
+use Rattle.zs_event_lines.proofs.Options.{is_apart_from, AllDeclined}
 use Rattle.zs_event_lines.proofs.PartsBack.{asks, heads, is_sound, back, over}
 
 -- whether no name of a part begins one of the later ones

@@ -1,5 +1,5 @@
 -- The text of a line is cut into the line's fields.
-use Rattle.std.proofs.Common.{ℕ, ◌≡◌, Bool, true, List, [], ◌∷◌, ◌++◌, Option, Some, None, refl, sym, ap, ◌∙◌, cond, append_assoc}
+use Rattle.std.proofs.Common.{ℕ, ◌≡◌, Bool, true, List, [], ◌∷◌, ◌++◌, Some, refl, sym, ap, ◌∙◌, append_assoc}
 use Rattle.std.specs.List.{list_all}
 use Rattle.std.specs.Str.{is_utf8}
 use Rattle.std.proofs.lemmas.Bool.{and_parts, and_from}
@@ -12,9 +12,8 @@ use Rattle.zs_script.specs.Laws.{row}
 use Rattle.zs_script.specs.Pieces.{tabs}
 use Rattle.zs_script.specs.Plain.{is_plain}
 use Rattle.zs_script.proofs.PlainTexts.{row-fields}
-use Rattle.zs_event_lines.specs.Shown.{shown}
 use Rattle.zs_event_lines.specs.Sayable.{says}
-use Rattle.zs_event_lines.specs.Slots.{Slot, at, said, slot_fields, slot_text, slots_fields, slots_text, slots_say, slots_are_typed, Line, line_text}
+use Rattle.zs_event_lines.specs.Slots.{Slot, at, said, slot_fields, slot_text, slots_fields, slots_text, slots_say, Line, line_text}
 use Rattle.zs_event_lines.proofs.Joining.{tabs-front}
 use Rattle.zs_event_lines.proofs.PlainFields.{plain}
 

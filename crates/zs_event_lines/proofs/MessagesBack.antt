@@ -1,10 +1,9 @@
 -- Each message is read as what was printed of it.
-use Rattle.std.proofs.Common.{ℕ, ◌≡◌, ◌==◌, Bool, true, false, not, ◌&&◌, List, [], ◌∷◌, ◌++◌, length, Option, Some, None, option_map, option_and_then, unwrap_or, refl, sym, ap, ◌∙◌, cond, codes}
+use Rattle.std.proofs.Common.{ℕ, ◌≡◌, ◌==◌, Bool, true, false, not, List, [], ◌∷◌, ◌++◌, length, Option, Some, None, option_map, unwrap_or, refl, sym, ap, ◌∙◌, cond, codes}
 use Rattle.std.proofs.lemmas.Bool.{and_parts, eqb-true}
 use Rattle.zs_bytes.specs.Payload.{bytes_of}
 use Rattle.zs_sample.specs.Encoding.{encoding_of}
 use Rattle.zs_wire.specs.declared.body.Body.{Body}
-use Rattle.zs_wire.specs.declared.body.Value.{Value}
 use Rattle.zs_wire.specs.declared.message.Message.{Message}
 use Rattle.zs_wire.specs.declared.message.Message.TheVariants.{DeclareKeyExpr, UndeclareKeyExpr, DeclareSubscriber, UndeclareSubscriber, DeclareQueryable, UndeclareQueryable, DeclareToken, UndeclareToken, DeclareFinal, Interest, Push as push_message, Request as request_message, Response as response_message, ResponseFinal, Close as close_message}
 use Rattle.zs_wire.specs.declared.push.Push.{Push}
@@ -17,13 +16,11 @@ use Rattle.zs_wire.specs.declared.sample_kind.SampleKind.TheVariants.{Put as put
 use Rattle.zs_events.specs.Updates.{default_encoding, body_of}
 use Rattle.zs_events.specs.Kinds.{is_nothing}
 use Rattle.zs_script.specs.Symbols.{u16_max, u32_max}
-use Rattle.zs_script.specs.Words.{sample_word}
-use Rattle.zs_script.specs.Plain.{is_plain}
-use Rattle.zs_script.specs.Parts.{wire, number, read}
-use Rattle.zs_script.specs.Grammar.{update_of, number_parts, numbered_wire_parts, net_queryable_parts, net_token_parts, net_untoken_parts, declare_final_parts, push_parts, push_made, push_of, request_timeout, request_parts, request_made, response_parts, response_made, response_error_parts, response_error_made, response_by, response_on, response_of, by_word, message_of}
+use Rattle.zs_script.specs.Parts.{wire, number}
+use Rattle.zs_script.specs.Grammar.{update_of, number_parts, numbered_wire_parts, net_queryable_parts, net_token_parts, net_untoken_parts, declare_final_parts, push_parts, push_made, push_of, request_timeout, request_parts, request_made, response_parts, response_made, response_error_parts, response_error_made, response_by, response_on, response_of, message_of}
 use Rattle.zs_event_lines.specs.Shown.{shown, is_default, named_encoding}
 use Rattle.zs_event_lines.specs.Sayable.{kept, says, is_typed, gathered, gathered_push}
-use Rattle.zs_event_lines.specs.Slots.{Slot, at, said, slots_fields, slots_say, slots_are_typed, slots_of}
+use Rattle.zs_event_lines.specs.Slots.{Slot, slots_fields, slots_say, slots_are_typed, slots_of}
 use Rattle.zs_event_lines.specs.Lines.{told_as, is_said_body, push_slots, push_line, named_timeout, request_slots, response_front, reply_slots, answered_line, message_line, gathered_body, gathered_answer, gathered_request, gathered_message}
 use Rattle.zs_event_lines.proofs.PartsBack.{back, default-same, encoding-kept}
 use Rattle.zs_event_lines.proofs.FormsBack.{form-back}

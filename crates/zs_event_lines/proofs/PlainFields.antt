@@ -1,8 +1,7 @@
 -- The fields of what can be said have no tab and no line feed.
-use Rattle.std.proofs.Common.{ℕ, ◌≡◌, ◌==◌, Bool, true, false, not, ◌&&◌, List, [], ◌∷◌, ◌++◌, Option, Some, None, refl, sym, ap, ◌∙◌, cond, codes, decimal, encode_utf8_all, append_assoc}
+use Rattle.std.proofs.Common.{ℕ, ◌≡◌, ◌==◌, Bool, true, false, not, List, [], ◌∷◌, ◌++◌, Option, Some, None, refl, ◌∙◌, cond, codes, decimal, encode_utf8_all}
 use Rattle.std.specs.List.{list_all}
 use Rattle.std.proofs.lemmas.Bool.{and_parts, and_from}
-use Rattle.std.proofs.lemmas.List.{append-nil}
 use Rattle.std.proofs.lemmas.List.Folds.{list_all-append}
 use Rattle.zs_sample.specs.declared.locality.Locality.{Locality}
 use Rattle.zs_sample.specs.declared.locality.Locality.TheVariants.{SessionLocal, Remote, Any}
@@ -25,15 +24,15 @@ use Rattle.zs_events.specs.declared.publication.ReplyQuality.{ReplyQuality}
 use Rattle.zs_events.specs.declared.update.PushBody.{PushBody}
 use Rattle.zs_events.specs.declared.update.PushBody.TheVariants.{Put, Delete}
 use Rattle.zs_events.specs.Kinds.{is_nothing}
-use Rattle.zs_script.specs.Symbols.{names_nothing, numbered_of}
-use Rattle.zs_script.specs.Words.{congestion_word, flag_digit, complete_word, target_word, consolidation_word, bytes_text, wire_text, timestamp_text, entity_text, source_text}
+use Rattle.zs_script.specs.Symbols.{names_nothing}
+use Rattle.zs_script.specs.Words.{flag_digit, complete_word, target_word, consolidation_word, bytes_text, wire_text, timestamp_text, entity_text, source_text}
 use Rattle.zs_script.specs.Pieces.{field_if, encoding_field, written}
 use Rattle.zs_script.specs.Plain.{is_plain, is_plain_text}
 use Rattle.zs_script.specs.Parts.{Part, number, locality, background_kind, parent, complete, history, key, selector, wire, wire_if, payload, push_body, parameters, target, consolidation, timeout, value, encoding, timestamp, qos, reliable, quality, reply_quality, source, attachment, responder, any_key, cancellation_token, interest, channel, handed_to, channel_kind, Value}
 use Rattle.zs_script.proofs.PlainTexts.{plain-append, decimal-plain, bytes-plain}
 use Rattle.zs_script.proofs.PlainPieces.{congestion-plain, flag-plain, target-plain, consolidation-plain, complete-plain, wire-plain, timestamp-plain, entity-plain, source-plain, one, one-if, parameters-plain}
-use Rattle.zs_event_lines.specs.Shown.{unless, locality_word, background_word, parent_word, history_word, suffix_text, key_text, question_text, selector_text, is_best, is_auto, is_congestion, is_default, named_encoding, encoding_fields, priority_field, congestion_field, express_field, reliable_fields, qos_fields, reply_quality_fields, body_fields, query_value_fields, channel_text, is_print, shown}
-use Rattle.zs_event_lines.specs.Sayable.{if_there, is_missing, says_key, says_encoding, says_wire, says_body, says, has_no_question}
+use Rattle.zs_event_lines.specs.Shown.{unless, locality_word, background_word, parent_word, history_word, suffix_text, key_text, question_text, selector_text, is_best, is_auto, is_congestion, is_default, encoding_fields, priority_field, congestion_field, express_field, reliable_fields, qos_fields, reply_quality_fields, body_fields, query_value_fields, channel_text, is_print, shown}
+use Rattle.zs_event_lines.specs.Sayable.{if_there, says_key, says_encoding, says_wire, says_body, says, has_no_question}
 
 locality-plain : (l : Locality) → is_plain (locality_word l) ≡ true
 locality-plain Any = refl

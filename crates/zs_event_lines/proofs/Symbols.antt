@@ -1,8 +1,8 @@
 -- The symbols of lines are read as what was printed.
-use Rattle.std.proofs.Common.{ℕ, zero, suc, ◌≡◌, ◌+◌, ◌<◌, ◌≤◌, ◌==◌, Bool, true, false, not, ◌&&◌, nat_lt, List, [], ◌∷◌, ◌++◌, length, take, drop, Option, Some, None, option_map, option_and_then, unwrap_or, refl, sym, ap, ◌∙◌, arith, cond, codes, decimal, encode_utf8_all, lit<, append_assoc}
+use Rattle.std.proofs.Common.{ℕ, suc, ◌≡◌, ◌+◌, ◌≤◌, ◌==◌, Bool, true, false, not, ◌&&◌, nat_lt, List, [], ◌∷◌, ◌++◌, length, take, drop, Option, Some, None, option_map, refl, ap, ◌∙◌, arith, decimal, encode_utf8_all, lit<, append_assoc}
 use Rattle.std.specs.Prelude.{nat_le}
-use Rattle.std.specs.List.{list_all, position, position_or_len, before_first, after_first}
-use Rattle.std.specs.Str.{all_scalars, chars, bytes_eq}
+use Rattle.std.specs.List.{position, position_or_len, before_first, after_first}
+use Rattle.std.specs.Str.{all_scalars}
 use Rattle.std.proofs.lemmas.Bool.{and_parts, leb-true, le-leb, lt-ltb, not-true}
 use Rattle.std.proofs.lemmas.List.{append-nil, length-append}
 use Rattle.std.proofs.lemmas.Str.{chars-encodes}
@@ -31,7 +31,7 @@ use Rattle.zs_events.specs.declared.entity_kind.ParentKind.TheVariants.{Pub as p
 use Rattle.zs_events.specs.declared.key_arg.KeyArg.{KeyArg}
 use Rattle.zs_events.specs.declared.key_arg.KeyArg.TheVariants.{Text, Number, Declared}
 use Rattle.zs_script.specs.Hexadecimal.{hex_of}
-use Rattle.zs_script.specs.Symbols.{number_of, u16_max, u32_max, u64_max, is_colon, locality_of, entity_kind_of, background_kind_of, parent_of, complete_of, history_of, numbered_of, key_of, after_prefix, scoped_of, wire_of}
+use Rattle.zs_script.specs.Symbols.{number_of, u16_max, u32_max, u64_max, is_colon, locality_of, entity_kind_of, background_kind_of, parent_of, complete_of, history_of, numbered_of, key_of, scoped_of, wire_of}
 use Rattle.zs_script.specs.Options.{cut_of, timestamp_of, entity_of, two_numbers_of, source_of, congestion_of, flag_of, target_of, consolidation_of, priority_of}
 use Rattle.zs_script.specs.Channels.{size_of, channel_of}
 use Rattle.zs_script.specs.Parts.{selector_of}

@@ -1,11 +1,10 @@
 -- The line of each event, and what comes back of an event that was printed.
-use Rattle.std.specs.Prelude.{ℕ, ◌==◌, Bool, true, false, not, ◌&&◌, List, [], ◌∷◌, length, Option, Some, None, option_map, codes, if◌then◌else◌}
+use Rattle.std.specs.Prelude.{ℕ, ◌==◌, Bool, not, ◌&&◌, List, [], ◌∷◌, length, Option, Some, None, option_map, codes, if◌then◌else◌}
 use Rattle.zs_bytes.specs.Payload.{bytes_of}
 use Rattle.zs_wire.specs.declared.body.Body.{Body}
 use Rattle.zs_wire.specs.declared.message.Message.{Message}
 use Rattle.zs_wire.specs.declared.message.Message.TheVariants.{DeclareKeyExpr, UndeclareKeyExpr, DeclareSubscriber, UndeclareSubscriber, DeclareQueryable, UndeclareQueryable, DeclareToken, UndeclareToken, DeclareFinal, Interest, Push as push_message, Request as request_message, Response as response_message, ResponseFinal, Close as close_message}
 use Rattle.zs_wire.specs.declared.push.Push.{Push}
-use Rattle.zs_wire.specs.declared.quality.CongestionControl.TheVariants.{Drop, Block}
 use Rattle.zs_wire.specs.declared.request.Request.{Request}
 use Rattle.zs_wire.specs.declared.response.Answered.{Answered}
 use Rattle.zs_wire.specs.declared.response.Answered.TheVariants.{Reply, Err as error_reply}
@@ -21,11 +20,10 @@ use Rattle.zs_events.specs.declared.chan.Chan.{Chan}
 use Rattle.zs_events.specs.declared.update.PushBody.{PushBody}
 use Rattle.zs_events.specs.declared.update.PushBody.TheVariants.{Put, Delete}
 use Rattle.zs_events.specs.declared.update.Update.{Update}
-use Rattle.zs_events.specs.Updates.{default_encoding}
 use Rattle.zs_events.specs.Kinds.{is_nothing}
 use Rattle.zs_script.specs.Symbols.{u16_max, u32_max, u64_max}
 use Rattle.zs_script.specs.Words.{sample_word}
-use Rattle.zs_script.specs.Parts.{Part, Value, wire, number}
+use Rattle.zs_script.specs.Parts.{Part, wire, number}
 use Rattle.zs_script.specs.Grammar.{key_parts, number_parts, sub_parts, pub_parts, queryable_parts, querier_parts, lsub_parts, parent_parts, background_parts, publish_parts, publish_by_parts, get_parts, querier_get_parts, liveliness_get_parts, reply_parts, reply_error_parts, numbered_wire_parts, net_queryable_parts, net_token_parts, net_untoken_parts, declare_final_parts, push_parts, request_timeout, request_parts, response_parts, response_error_parts}
 use Rattle.zs_event_lines.specs.Shown.{is_default, named_encoding, entity_word}
 use Rattle.zs_event_lines.specs.Sayable.{gathered, gathered_push, gathered_value}

@@ -1,5 +1,5 @@
 -- Which values of parts can be said in a line, what their types say of them, and what comes back of them.
-use Rattle.std.specs.Prelude.{ℕ, ◌==◌, nat_le, nat_lt, Bool, true, false, not, ◌&&◌, List, [], ◌∷◌, length, Option, Some, None, option_map, encode_utf8_all}
+use Rattle.std.specs.Prelude.{ℕ, ◌==◌, nat_le, nat_lt, Bool, true, false, not, ◌&&◌, List, length, Option, Some, None, option_map, encode_utf8_all}
 use Rattle.std.specs.List.{list_all}
 use Rattle.std.specs.Str.{all_scalars}
 use Rattle.zs_bytes.specs.Payload.{bytes_of, one_slice}
@@ -7,7 +7,6 @@ use Rattle.zs_wire.specs.declared.body.Value.{Value as QueryValue}
 use Rattle.zs_wire.specs.declared.origin.EntityGlobalId.{EntityGlobalId}
 use Rattle.zs_wire.specs.declared.origin.SourceInfo.{SourceInfo}
 use Rattle.zs_wire.specs.declared.origin.Timestamp.{Timestamp}
-use Rattle.zs_wire.specs.declared.quality.QoSType.{QoSType}
 use Rattle.zs_wire.specs.declared.sample_kind.SampleKind.{SampleKind}
 use Rattle.zs_wire.specs.declared.sample_kind.SampleKind.TheVariants.{Put as put_kind, Delete as delete_kind}
 use Rattle.zs_wire.specs.declared.wire_expr.WireExpr.{WireExpr}
@@ -20,7 +19,7 @@ use Rattle.zs_events.specs.declared.update.PushBody.TheVariants.{Put, Delete}
 use Rattle.zs_events.specs.Kinds.{is_nothing}
 use Rattle.zs_script.specs.Symbols.{u16_max, u32_max, u64_max, numbered_of, names_nothing}
 use Rattle.zs_script.specs.Plain.{is_plain_text}
-use Rattle.zs_script.specs.Parts.{Part, number, locality, background_kind, parent, complete, history, key, selector, wire, wire_if, payload, push_body, parameters, target, consolidation, timeout, value, encoding, timestamp, qos, reliable, quality, reply_quality, source, attachment, responder, any_key, cancellation_token, interest, channel, handed_to, channel_kind, Value}
+use Rattle.zs_script.specs.Parts.{Part, number, key, selector, wire, wire_if, payload, push_body, parameters, timeout, value, encoding, timestamp, qos, quality, reply_quality, source, attachment, responder, cancellation_token, interest, channel, handed_to, channel_kind, Value}
 
 -- whether there is none
 abbrev pub is_missing : {A : Type 0} → Option A → Bool

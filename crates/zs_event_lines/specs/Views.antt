@@ -1,5 +1,4 @@
 -- What the code's parts are to the definitions.
-use Rattle.zs_wire.specs.declared.body.Body.{Body}
 use Rattle.zs_script.specs.Symbols.{u16_max, u32_max, u64_max}
 use Rattle.zs_script.specs.Parts.{number, locality, background_kind, parent, complete, history, key, selector, wire, wire_if, payload, push_body, parameters, target, consolidation, timeout, value, encoding, timestamp, qos, reliable, quality, reply_quality, source, attachment, responder, any_key, cancellation_token, interest, channel, handed_to}
 use Rattle.zs_event_lines.specs.Slots.{Slot, at, said}

@@ -1,4 +1,4 @@
-use Rattle.std.proofs.Common.{◌≡◌, false, map, get_or, ap, sym, ◌∙◌}
+use Rattle.std.proofs.Common.{◌≡◌, false, get_or, ap, sym, ◌∙◌}
 use Rattle.std.proofs.lemmas.List.Folds.{list_all-map, list_all_at}
 use Rattle.zs_event_lines.specs.Slots.{slot_says}
 use Rattle.zs_event_lines.specs.Views.{slot_of}
