@@ -1,0 +1,11 @@
+pub mod Joining
+pub mod Digits
+pub mod Symbols
+pub mod Options
+pub mod PartsBack
+pub mod FormsBack
+pub mod PlainFields
+pub mod LineTexts
+pub mod MessagesBack
+pub mod EventsBack
+pub mod PrintedTexts

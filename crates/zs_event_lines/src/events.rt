@@ -1,0 +1,144 @@
+//! Events, each printed as its line.
+
+ghost use Rattle.std.specs.Prelude.{◌≡◌, true, Some, IfOk, IfSome, option_map};
+ghost use Rattle.std.specs.String.{string_bytes};
+ghost use Rattle.zs_events.specs.declared.script_event.ScriptEvent.TheVariants.{Core};
+ghost use Rattle.zs_script.specs.Grammar.{event_of};
+ghost use Rattle.zs_event_lines.specs.Slots.{printed, IsPrinted};
+ghost use Rattle.zs_event_lines.specs.Lines.{line_of, gathered_event};
+ghost use Rattle.zs_event_lines.specs.Laws.{are_typed};
+
+use crate::lines::append_line;
+use crate::messages::append_net;
+use crate::publications::{append_publish, append_publish_by, append_publisher, append_reply};
+use crate::queries::{append_get, append_liveliness_get, append_querier, append_querier_get};
+use crate::shown::Shown;
+use crate::words::entity_word;
+use std::alloc::{AllocError, Global};
+use zs_events::Event;
+
+/// The line of an event, without its line feed. An option stands in it only where its value is not what its absence says.
+/// There is none where no line says the event: where a text has a tab or a line feed, or a key's text the form of a
+/// declared number; where a key is given with its declaration; where a get's key has a question mark; where the
+/// encoding of something that was sent is empty, or a priority is outside its range, or a channel's size; where a
+/// message deletes with a payload, or ends a token with a key that names nothing; and of interests.
+///
+/// The line is read as the event, with the bytes of each payload in one slice.
+pub fn print_event(alloc: Global, event: &Event) -> Result<Option<String>, AllocError>
+    ensures line { IfOk result (λ found. option_map string_bytes found ≡ printed (line_of event.now)) }
+    ensures read { are_typed (line_of event.now) ≡ true
+        → IfOk result (λ found. IfSome found (λ text. event_of (string_bytes text) ≡ Some (Core (gathered_event event.now)))) }
+{
+    let mut text = String::new(alloc);
+    if append_event(&mut text, event)? {
+        return Ok(Some(text));
+    }
+    Ok(None)
+}
+
+/// Puts the line of an event behind a text, as `print_event` gives it, so that one text's memory serves many events, and
+/// tells whether there is one. After an error some of it may stand there.
+pub fn append_event(out: &mut String, event: &Event) -> Result<bool, AllocError>
+    ensures { IfOk result (λ told. IsPrinted (printed (line_of event.now)) told (string_bytes out.old) (string_bytes out.new)) }
+{
+    match event {
+        Event::Key { key } => append_line(out, "key", &[Shown::Key(key)]),
+        Event::UndeclareKey { key } => append_line(
+            out,
+            "undeclare",
+            &[Shown::Said("key"), Shown::Key(key)],
+        ),
+        Event::Sub { origin, key, to } => append_line(
+            out,
+            "sub",
+            &[
+                Shown::Locality(*origin),
+                Shown::Key(key),
+                Shown::Channel(*to),
+            ],
+        ),
+        Event::Pub { key, settings } => append_publisher(out, key, settings),
+        Event::Queryable {
+            origin,
+            complete,
+            key,
+        } => append_line(
+            out,
+            "queryable",
+            &[
+                Shown::Locality(*origin),
+                Shown::Complete(*complete),
+                Shown::Key(key),
+            ],
+        ),
+        Event::Querier { key, settings } => append_querier(out, key, settings),
+        Event::Listen { parent, id } => append_line(
+            out,
+            "listen",
+            &[Shown::Parent(*parent), Shown::Number(*id)],
+        ),
+        Event::Status { parent, id } => append_line(
+            out,
+            "status",
+            &[Shown::Parent(*parent), Shown::Number(*id)],
+        ),
+        Event::Token { key } => append_line(out, "token", &[Shown::Key(key)]),
+        Event::Lsub { history, key } => append_line(
+            out,
+            "lsub",
+            &[Shown::History(*history), Shown::Key(key)],
+        ),
+        Event::Undeclare { kind, id } => append_line(
+            out,
+            "undeclare",
+            &[Shown::Said(entity_word(*kind)), Shown::Number(*id)],
+        ),
+        Event::Background { kind, id } => append_line(
+            out,
+            "background",
+            &[Shown::Background(*kind), Shown::Number(*id)],
+        ),
+        Event::Publish {
+            destination,
+            key,
+            update,
+            quality,
+        } => append_publish(out, *destination, key, update, *quality),
+        Event::PublishBy { id, update } => append_publish_by(out, *id, update),
+        Event::CancelToken => append_line(out, "ctoken", &[]),
+        Event::Cancel { token } => append_line(out, "cancel", &[Shown::Number(*token)]),
+        Event::Get {
+            key,
+            settings,
+            inquiry,
+            to,
+        } => append_get(out, key, settings, inquiry, *to),
+        Event::QuerierGet { id, inquiry, to } => append_querier_get(out, *id, inquiry, *to),
+        Event::LivelinessGet {
+            key,
+            timeout,
+            cancellation_token,
+            to,
+        } => append_liveliness_get(out, key, *timeout, *cancellation_token, *to),
+        Event::Reply {
+            value,
+            key,
+            update,
+            quality,
+        } => append_reply(out, *value, key, update, *quality),
+        Event::ReplyErr { value, error } => append_line(
+            out,
+            "replyerr",
+            &[
+                Shown::Number(*value),
+                Shown::Payload(&error.get().payload),
+                Shown::Encoding(&error.get().encoding),
+            ],
+        ),
+        Event::Share { value } => append_line(out, "share", &[Shown::Number(*value)]),
+        Event::Finish { value } => append_line(out, "finish", &[Shown::Number(*value)]),
+        Event::Tick { now } => append_line(out, "tick", &[Shown::Moment(*now)]),
+        Event::Close => append_line(out, "close", &[]),
+        Event::Net(message) => append_net(out, message.get()),
+    }
+}
