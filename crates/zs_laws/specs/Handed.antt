@@ -43,7 +43,7 @@ handed_at n effect = []
 abbrev pub handed_to : ℕ → List Effect → List Replied
 handed_to n fx = flat_map (handed_at n) fx
 
--- whether a get takes a reply at once, by its mode: in `None` always, in `Monotonic` where no reply before it on its key is above it, and
+-- what a get is handed at once of a reply that it takes, by its mode: in `None` always, in `Monotonic` where no reply before it on its key is above it, and
 -- in `Latest` never
 abbrev pub handed_now : ConsolidationMode → Bool → Replied → List Replied
 handed_now by.Auto pass reply = reply ∷ []
