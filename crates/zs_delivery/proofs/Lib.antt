@@ -1,0 +1,7 @@
+mod Order
+mod Accepting
+mod Known
+mod Handing
+mod Made
+mod Spelling
+mod Deliveries

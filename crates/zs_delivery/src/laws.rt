@@ -1,0 +1,26 @@
+//! Laws over linked histories: each is the contract of a function that does nothing but call the laws that it rests on.
+
+ghost use Rattle.zs_delivery.specs.Links.{LinksAreInOrder};
+ghost use Rattle.zs_delivery.specs.Delivery.{DeliveredAreHanded};
+
+use zs_core::wire_forms_are_read;
+use zs_laws::{messages_have_origins, sent_keys_are_spelled, spelled_texts_are_utf8};
+
+/// Behind every schedule, what a side sent is what was delivered of it and what still waits, in order and each once; and what
+/// came in at the other side is just what was delivered, but for interests, which are dropped.
+pub fn links_are_in_order()
+    ensures { LinksAreInOrder }
+{}
+
+/// Behind every schedule, where the oldest message that waits is a push, it is that of an accepted publication, whose
+/// destination has the network in it; and an open receiver hands the publication's sample to exactly those of its subscribers
+/// that are live then, take what is incoming and meet its key, and sends nothing. So a publication for its own session alone is
+/// never delivered.
+pub fn delivered_are_handed()
+    ensures { DeliveredAreHanded }
+{
+    wire_forms_are_read();
+    messages_have_origins();
+    spelled_texts_are_utf8();
+    sent_keys_are_spelled();
+}

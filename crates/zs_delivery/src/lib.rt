@@ -1,0 +1,8 @@
+//! Two linked sessions, as their histories tell of them: what each sends the other, and who is handed what comes in.
+#![tactic(auto)]
+
+pub use laws::{delivered_are_handed, links_are_in_order};
+pub use side::LinkSide;
+
+mod laws;
+mod side;
