@@ -1,5 +1,0 @@
-//! Tests of a session's cell with handlers, by its public calls.
-#![tactic(auto)]
-
-#[cfg(test)]
-mod cells;
