@@ -1,0 +1,4 @@
+pub mod Messages
+pub mod Receipts
+pub mod Held
+pub mod Numbers
