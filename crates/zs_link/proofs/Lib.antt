@@ -1,0 +1,5 @@
+mod Side
+mod Rows
+mod Machine
+mod Spoken
+mod Passing

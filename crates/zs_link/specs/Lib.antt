@@ -1,0 +1,4 @@
+pub mod World
+pub mod Mode
+pub mod Machine
+pub mod Laws
