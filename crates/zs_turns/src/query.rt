@@ -41,6 +41,32 @@ impl Query {
         })
     }
 
+    /// The same query. It shares the memory of the payload and the attachment.
+    ///
+    /// # Errors
+    ///
+    /// Want of memory alone.
+    pub fn try_clone(&self, alloc: Global) -> Result<Query, AllocError>
+        ensures { IfOk result (λ copy. copy ≡ self.now) }
+    {
+        Ok(Query {
+            fields: self.fields.try_clone(alloc)?,
+            value: self.value,
+            tag: self.tag,
+        })
+    }
+
+    /// The same query under another number.
+    pub fn with_value(self, value: u32) -> Query
+        ensures { result ≡ record self { value = value } }
+    {
+        Query {
+            fields: self.fields,
+            value,
+            tag: self.tag,
+        }
+    }
+
     /// The number under which it is answered and given back.
     pub fn value(&self) -> u32
         ensures { result ≡ self.now.value }
