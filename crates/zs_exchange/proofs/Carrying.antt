@@ -14,8 +14,8 @@ use Rattle.zs_turns.specs.Calls.{wanted_of}
 use Rattle.zs_turns.specs.Gates.{opened_at, ends_at}
 use Rattle.zs_exchange.specs.Begun.{Begun, Begins, ended_all}
 use Rattle.zs_exchange.specs.Exchange.{ExchangeSeen, Prepares, Carries, Overdrawn}
-use Rattle.zs_exchange.specs.Handlers.{AreGates, NoneHeld}
-use Rattle.zs_exchange.proofs.Handlers.{ended_gates, begun_calls, begun_gates, none_overdrawn}
+use Rattle.zs_exchange.specs.Handlers.{AreBare, AreGates, NoneHeld}
+use Rattle.zs_exchange.proofs.Handlers.{ended_gates, ended_bare, begun_calls, begun_gates, begun_bare, none_overdrawn}
 use Rattle.zs_exchange.proofs.Rooms.{ended_room, begun_room, begun_lents}
 
 was_begun : {H T : Type 0} {name : Option Name} {handler : Option H} {wanted : List (Wanted T)} {first : PostsSeen H} {calls : List (CallSeen H T)} {now : PostsSeen H} → Begins name handler wanted first calls now → Begun name handler wanted first calls now
@@ -43,6 +43,13 @@ module _ {H : Type 0} {e : Event} {turn : Turn} {handler : Option H} {place : �
   carried_gates none =
       subst (λ (x : ExchangeSeen H). AreGates x.posts.rows) (sym c.rest)
       (ended_gates (ends_at e turn) c.between (begun_gates (opened_at (is_some handler) e place turn.answer) handler (wanted_of old.tag turn.effects) old.posts none calls c.between c.begun))
+
+  pub carried_bare : NoneHeld handler old.posts → AreBare old.posts.ready → AreBare new.posts.ready
+  carried_bare none all =
+      let name = opened_at (is_some handler) e place turn.answer in
+      let wanted = wanted_of old.tag turn.effects in
+      subst (λ (x : ExchangeSeen H). AreBare x.posts.ready) (sym c.rest)
+      (ended_bare (ends_at e turn) c.between (begun_gates name handler wanted old.posts none calls c.between c.begun) (begun_bare name handler wanted old.posts none calls c.between c.begun all))
 
 pub none_full : {H : Type 0} (e : Event) (turn : Turn) (handler : Option H) (place : ℕ) (old : ExchangeSeen H) → NoneHeld handler old.posts → Overdrawn e turn handler place old → ⊥
 none_full e turn handler place old none = none_overdrawn (opened_at (is_some handler) e place turn.answer) handler (wanted_of old.tag turn.effects) old.posts none

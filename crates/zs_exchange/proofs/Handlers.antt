@@ -4,13 +4,14 @@ use Rattle.zs_posts.specs.declared.key.Key.{Key}
 use Rattle.zs_posts.specs.declared.key.Name.{Name}
 use Rattle.zs_posts.specs.declared.call.Wanted.{Wanted}
 use Rattle.zs_posts.specs.Keys.{is_key}
-use Rattle.zs_posts.specs.Posts.{PostSeen, Rows, post_at, changed, flagged, spent_at}
+use Rattle.zs_posts.specs.Posts.{PostSeen, Rows, post_at, changed, flagged, is_spent, spent_at}
 use Rattle.zs_posts.specs.Lending.{fresh, without, lend_all, lents_of, is_overdrawn}
 use Rattle.zs_posts.specs.Calls.{CallSeen, handler_of, handler_at, keys_under, keys_for, call_keys, call_for, calls_of, turn_keys}
-use Rattle.zs_posts.specs.Settled.{PostsSeen, without_spent, ended}
+use Rattle.zs_posts.specs.Settled.{PostsSeen, if_spent, without_spent, ended}
 use Rattle.zs_posts.proofs.Changes.{all_changed, all_found, all_put, all_without}
+use Rattle.zs_posts.proofs.InTurn.{all_append}
 use Rattle.zs_exchange.specs.Begun.{Opens, Begun, Overdraws, ended_all}
-use Rattle.zs_exchange.specs.Handlers.{AreGates, NoneHeld}
+use Rattle.zs_exchange.specs.Handlers.{AreBare, AreGates, NoneHeld}
 
 module _ {H : Type 0} where
   pub keys_none : (key : Key) (o : Option (PostSeen H)) → handler_of o ≡ None → keys_for key o ≡ []
@@ -60,6 +61,29 @@ module _ {H : Type 0} where
       ended_gates keys (ended key posts)
       (spent_gates key (changed flagged key posts.rows) (all_changed (λ (p : PostSeen H). p.handler ≡ None) flagged key posts.rows (λ p is. is) all))
 
+  opened_bare : (name : Option Name) (handler : Option H) (old opened : PostsSeen H) → Opens name handler old opened → AreBare old.ready → AreBare opened.ready
+  opened_bare None handler old opened is all = subst (λ (s : PostsSeen H). AreBare s.ready) (sym is) all
+  opened_bare (Some name) handler old opened is all = subst (λ (s : PostsSeen H). AreBare s.ready) (sym is.2) all
+
+  one_bare : (p : PostSeen H) (b : Bool) → p.handler ≡ None → AreBare (cond b (p ∷ []) [])
+  one_bare p true is = (is, tt)
+  one_bare p false is = tt
+
+  spent_bare : (key : Key) (rows : Rows H) → AreGates rows → AreBare (if_spent (post_at key rows))
+  spent_bare key rows all = go (post_at key rows) refl
+    where
+      go : (o : Option (PostSeen H)) → o ≡ post_at key rows → AreBare (if_spent o)
+      go None is = tt
+      go (Some p) is = one_bare p (is_spent p) (all_found (is_key key) (λ (q : PostSeen H). q.handler ≡ None) rows p all is)
+
+  -- posts that are ended wait without a handler, where none had one
+  pub ended_bare : (keys : List Key) (posts : PostsSeen H) → AreGates posts.rows → AreBare posts.ready → AreBare (ended_all keys posts).ready
+  ended_bare [] posts gates all = all
+  ended_bare (key ∷ keys) posts gates all =
+      let now = changed flagged key posts.rows in
+      let gates_now : AreGates now = all_changed (λ (p : PostSeen H). p.handler ≡ None) flagged key posts.rows (λ p is. is) gates in
+      ended_bare keys (ended key posts) (spent_gates key now gates_now) (all_append (λ (p : PostSeen H). p.handler ≡ None) posts.ready (if_spent (post_at key now)) all (spent_bare key now gates_now))
+
 module _ {H T : Type 0} (name : Option Name) (handler : Option H) (wanted : List (Wanted T)) (old : PostsSeen H) (none : NoneHeld handler old) where
   -- an event that comes without a handler then calls none
   pub begun_calls : (calls : List (CallSeen H T)) (new : PostsSeen H) → Begun name handler wanted old calls new → calls ≡ []
@@ -70,6 +94,9 @@ module _ {H T : Type 0} (name : Option Name) (handler : Option H) (wanted : List
       let all : AreGates b.opened.rows = opened_gates name handler old b.opened b.opens none.came none.held in
       subst (λ (s : PostsSeen H). AreGates s.rows) (sym b.turn.posts_are)
       (subst (λ (ks : List Key). AreGates (lend_all ks b.opened.rows)) (sym (turn_none wanted b.opened.rows all)) all)
+
+  pub begun_bare : (calls : List (CallSeen H T)) (new : PostsSeen H) → Begun name handler wanted old calls new → AreBare old.ready → AreBare new.ready
+  begun_bare calls new b all = subst (λ (s : PostsSeen H). AreBare s.ready) (sym b.turn.posts_are) (opened_bare name handler old b.opened b.opens all)
 
   -- and needs no pass
   pub none_overdrawn : Overdraws name handler wanted old → ⊥

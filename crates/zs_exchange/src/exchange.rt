@@ -11,7 +11,7 @@ ghost use Rattle.zs_exchange.specs.Ends.{IsIdle, GivesOut, AreOf};
 ghost use Rattle.zs_posts.specs.Lending.{returned_all};
 ghost use Rattle.zs_posts.specs.Calls.{call_seen, all_lents};
 ghost use Rattle.zs_exchange.specs.Begun.{ended_all};
-ghost use Rattle.zs_exchange.specs.Handlers.{AreGates};
+ghost use Rattle.zs_exchange.specs.Handlers.{AreBare, AreGates};
 ghost use Rattle.zs_exchange.specs.Exchange.{ExchangeSeen, Prepares, Overdrawn, IsNew};
 
 use crate::beginning::{TurnCalls, begin, end_all, undo};
@@ -69,6 +69,7 @@ impl<H: Drop> Exchange<H> {
     pub fn new(alloc: Global, tag: u64, keeps: bool) -> Result<Exchange<H>, AllocError>
         ensures new { IfOk result (λ new. IsNew tag keeps new) }
         ensures gates { IfOk result (λ new. AreGates new.posts.rows) }
+        ensures waiting { IfOk result (λ new. AreBare new.posts.ready) }
     {
         let mut posts = Posts::new(alloc)?;
         let name = Name {

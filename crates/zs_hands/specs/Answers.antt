@@ -41,6 +41,12 @@ module _ {T D : Type 0} where
   IsFor item noted (Evicted other done) = noted ≡ false
   IsFor item noted (Skipped back) = (noted ≡ true) × (back ≡ item)
 
+  -- the handler kept what it was given, or wasn't called
+  abbrev pub IsKept : Handed T D → Type 0
+  IsKept (Called done) = Unit {0}
+  IsKept (Evicted other done) = ⊥
+  IsKept (Skipped back) = Unit {0}
+
   -- what a call with that item and those passes tells
   pub record Answers (item : T) (lent : Passes) (ran : RanCall T D) : Type 0 where
     pub report : IsFor item (is_any_noted ran.passes) ran.report
@@ -52,6 +58,10 @@ module _ {T D : Type 0} where
   AnswersAll [] (ran ∷ more) = ⊥
   AnswersAll (call ∷ calls) [] = ⊥
   AnswersAll (call ∷ calls) (ran ∷ more) = Answers call.item call.passes ran × AnswersAll calls more
+
+  -- of all calls that ran
+  abbrev pub AreKept : List (RanCall T D) → Type 0
+  AreKept rans = AllByRecursion (λ ran. IsKept ran.report) rans
 
   -- all passes of calls that ran, and what they told
   abbrev pub ran_lents : List (RanCall T D) → List LentSeen

@@ -1,5 +1,5 @@
 //! The ends of handlers.
-ghost use Rattle.std.specs.Prelude.{◌≡◌, option_map};
+ghost use Rattle.std.specs.Prelude.{◌≡◌, None, option_map};
 ghost use Rattle.std.specs.Arc.{arc_value};
 ghost use Rattle.std.specs.Option.{is_some};
 
@@ -45,6 +45,17 @@ impl<H> Ending<H> {
         let done = handler.ended(rt, &drained);
         drop(handler);
         (drained, Some(done))
+    }
+
+    /// Lets go of the end of a gate without a handler: there is no one to tell.
+    pub fn let_go(self)
+    where
+        H: Drop,
+        requires { self.handler ≡ None }
+    {
+        let Ending { handler, drained } = self;
+        drop(handler);
+        drop(drained);
     }
 }
 

@@ -1,10 +1,10 @@
 //! The calls of a turn, from the hold of the lock in which they were lent their passes to the one in which these come back.
-ghost use Rattle.std.specs.Prelude.{◌≡◌, ◌≤◌, [], map, IfOk};
+ghost use Rattle.std.specs.Prelude.{◌≡◌, ◌≤◌, false, [], map, IfOk};
 ghost use Rattle.std.specs.Vec.{vec_len, vec_capacity};
 ghost use Rattle.atomic_table.specs.Seated.{TableId};
 ghost use Rattle.zs_posts.specs.Calls.{call_seen, all_lents};
 ghost use Rattle.zs_posts.specs.Settled.{all_given_back};
-ghost use Rattle.zs_hands.specs.Answers.{AnswersAll, AreOfRoom, ran_lents, reports_of};
+ghost use Rattle.zs_hands.specs.Answers.{AnswersAll, AreKept, AreOfRoom, ran_lents, reports_of};
 
 use crate::handed::{Handed, RanCall};
 use crate::run::run_call;
@@ -80,6 +80,7 @@ impl<H: Drop, T: Drop, D: Drop> Hands<H, T, D> {
     where
         H: Handler<T, Done = D>,
         ensures told { AnswersAll self.calls.items result.ran.items }
+        ensures kept { H.evicts ≡ false → AreKept result.ran.items }
         ensures room { (room : TableId) → AreOfRoom room (all_lents (map call_seen self.calls.items)) → AreOfRoom room (ran_lents result.ran.items) }
     {
         let Hands { calls, room } = self;

@@ -1,6 +1,6 @@
 //! One call inside of its gates: a function a gate, each straight through.
 ghost use Rattle.std.specs.Prelude.{◌≡◌, false, ◌||◌};
-ghost use Rattle.zs_hands.specs.Answers.{unnoted, is_noted, AreSame, IsFor, Answers};
+ghost use Rattle.zs_hands.specs.Answers.{unnoted, is_noted, AreSame, IsFor, IsKept, Answers};
 
 use crate::handed::{Handed, RanCall};
 use std::sync::{Arc, Wait};
@@ -15,7 +15,8 @@ fn call<T, H: Handler<T>, R: Wait>(
     inside: &Inside,
     item: T,
 ) -> Handed<T, H::Done>
-    ensures { IsFor item false result }
+    ensures report { IsFor item false result }
+    ensures kept { H.evicts ≡ false → IsKept result }
 {
     match handler.on(rt, inside, item) {
         Handled::Taken(done) => Handed::Called(done),
@@ -31,6 +32,7 @@ fn in_own<T, H: Handler<T>, R: Wait>(
     own: Lent,
 ) -> (Handed<T, H::Done>, Lent)
     ensures report { IsFor item result.1.noted result.0 }
+    ensures kept { H.evicts ≡ false → IsKept result.0 }
     ensures own { unnoted own ≡ unnoted result.1 }
 {
     match own.enter() {
@@ -51,6 +53,7 @@ fn in_token<T, H: Handler<T>, R: Wait>(
     own: Lent,
 ) -> (Handed<T, H::Done>, Option<Lent>, Lent)
     ensures report { IsFor item (is_noted result.1 || result.2.noted) result.0 }
+    ensures kept { H.evicts ≡ false → IsKept result.0 }
     ensures token { AreSame token result.1 }
     ensures own { unnoted own ≡ unnoted result.2 }
 {
@@ -77,6 +80,7 @@ fn in_parent<T, H: Handler<T>, R: Wait>(
     own: Lent,
 ) -> (Handed<T, H::Done>, Option<Lent>, Option<Lent>, Lent)
     ensures report { IsFor item (is_noted result.1 || (is_noted result.2 || result.3.noted)) result.0 }
+    ensures kept { H.evicts ≡ false → IsKept result.0 }
     ensures parent { AreSame parent result.1 }
     ensures token { AreSame token result.2 }
     ensures own { unnoted own ≡ unnoted result.3 }
@@ -101,7 +105,8 @@ fn in_session<T, H: Handler<T>, R: Wait>(
     item: T,
     passes: Passes,
 ) -> RanCall<T, H::Done>
-    ensures { Answers item passes result }
+    ensures told { Answers item passes result }
+    ensures kept { H.evicts ≡ false → IsKept result.report }
 {
     let Passes {
         own,
@@ -149,7 +154,8 @@ pub(crate) fn run_call<T, H: Handler<T> + Drop, R: Wait>(
     rt: &R,
     call: Call<H, T>,
 ) -> RanCall<T, H::Done>
-    ensures { Answers call.item call.passes result }
+    ensures told { Answers call.item call.passes result }
+    ensures kept { H.evicts ≡ false → IsKept result.report }
 {
     let Call {
         item,

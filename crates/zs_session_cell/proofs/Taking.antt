@@ -12,8 +12,8 @@ use Rattle.zs_posts.specs.Calls.{CallSeen, all_lents}
 use Rattle.zs_hands.specs.Answers.{AreOfRoom}
 use Rattle.zs_turns.specs.declared.item.Item.{Item}
 use Rattle.zs_exchange.specs.Exchange.{ExchangeSeen, Carries, Overdrawn}
-use Rattle.zs_exchange.specs.Handlers.{AreGates, NoneHeld}
-use Rattle.zs_exchange.proofs.Carrying.{carried_room, carried_lents, carried_none, carried_gates}
+use Rattle.zs_exchange.specs.Handlers.{AreBare, AreGates, NoneHeld}
+use Rattle.zs_exchange.proofs.Carrying.{carried_room, carried_lents, carried_none, carried_gates, carried_bare}
 use Rattle.zs_session_cell.specs.declared.entry.Entry.{Entry}
 use Rattle.zs_session_cell.specs.Core.{turn_at, Stepped}
 use Rattle.zs_session_cell.specs.Cells.{CellSeen, Takes, IsFull}
@@ -44,6 +44,9 @@ module _ {H : Type 0} {e : Event} {handler : Option H} {place : ℕ} {old : Cell
 
   pub takes_gates : NoneHeld handler old.exchange.posts → AreGates new.exchange.posts.rows
   takes_gates none = carried_gates t.carries none
+
+  pub takes_bare : NoneHeld handler old.exchange.posts → AreBare old.exchange.posts.ready → AreBare new.exchange.posts.ready
+  takes_bare none all = carried_bare t.carries none all
 
   pub takes_room : new.exchange.posts.room ≡ old.exchange.posts.room
   takes_room = carried_room t.carries

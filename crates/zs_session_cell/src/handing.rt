@@ -1,9 +1,9 @@
 //! What a session gives out for an event.
-ghost use Rattle.std.specs.Prelude.{◌≡◌, [], None, map, option_map};
+ghost use Rattle.std.specs.Prelude.{◌≡◌, false, [], None, map, option_map};
 ghost use Rattle.std.specs.Arc.{arc_value};
 ghost use Rattle.atomic_table.specs.Seated.{TableId};
 ghost use Rattle.zs_posts.specs.Calls.{call_seen, all_lents};
-ghost use Rattle.zs_hands.specs.Answers.{AnswersAll, AreOfRoom, ran_lents};
+ghost use Rattle.zs_hands.specs.Answers.{AnswersAll, AreKept, AreOfRoom, ran_lents};
 
 use std::marker::Model;
 use std::sync::{Arc, Wait};
@@ -61,6 +61,7 @@ impl<H: Drop, D: Drop> Handing<H, D> {
     where
         H: Handler<Item, Done = D>,
         ensures calls { AnswersAll self.calls result.ran.items }
+        ensures kept { H.evicts ≡ false → AreKept result.ran.items }
         ensures room { (room : TableId) → AreOfRoom room (all_lents (map call_seen self.calls)) → AreOfRoom room (ran_lents result.ran.items) }
     {
         let Handing {

@@ -9,7 +9,7 @@ ghost use Rattle.zs_exchange.specs.Exchange.{IsNew};
 ghost use Rattle.zs_exchange.specs.Ends.{IsIdle, GivesOut, AreOf};
 ghost use Rattle.zs_core.specs.Settings.{is_valid};
 ghost use Rattle.zs_core.specs.Plans.{Plans};
-ghost use Rattle.zs_exchange.specs.Handlers.{AreGates, NoneHeld};
+ghost use Rattle.zs_exchange.specs.Handlers.{AreBare, AreGates, NoneHeld};
 ghost use Rattle.zs_session_cell.specs.Core.{StandsFor, WasClosed, WasTaken};
 ghost use Rattle.zs_session_cell.specs.Cells.{Takes, IsFull, with_posts};
 
@@ -119,6 +119,7 @@ impl<H: Drop> CellState<H> {
         ensures core { IfOk result (λ new. StandsFor new.world settings.now []) }
         ensures exchange { IfOk result (λ new. IsNew settings.now.tag keeps new.exchange) }
         ensures gates { IfOk result (λ new. AreGates new.exchange.posts.rows) }
+        ensures waiting { IfOk result (λ new. AreBare new.exchange.posts.ready) }
     {
         let core = SessionState::new(alloc, settings)?;
         let exchange = Exchange::new(alloc, settings.tag, keeps)?;
@@ -148,6 +149,7 @@ impl<H: Drop> CellState<H> {
         ensures lents { IfOk result (λ taken. AreOfRoom self.old.exchange.posts.room (all_lents (map call_seen taken.hands.calls.items))) }
         ensures none { IfOk result (λ taken. NoneHeld (option_map arc_value handler.now) self.old.exchange.posts → taken.hands.calls.items ≡ []) }
         ensures gates { OnOk result (NoneHeld (option_map arc_value handler.now) self.old.exchange.posts → AreGates self.new.exchange.posts.rows) }
+        ensures waiting { OnOk result (NoneHeld (option_map arc_value handler.now) self.old.exchange.posts → AreBare self.old.exchange.posts.ready → AreBare self.new.exchange.posts.ready) }
         ensures room { self.new.exchange.posts.room ≡ self.old.exchange.posts.room }
         ensures full { result ≡ Err NoPass.Full → IsFull event.now (option_map arc_value handler.now) place self.old }
         ensures held { result ≡ Err NoPass.Full → NoneHeld (option_map arc_value handler.now) self.old.exchange.posts → ⊥ }

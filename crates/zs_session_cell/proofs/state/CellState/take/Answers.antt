@@ -10,7 +10,7 @@ use Rattle.zs_exchange.specs.Handlers.{NoneHeld}
 use Rattle.zs_exchange.proofs.Carrying.{carried, none_full}
 use Rattle.zs_exchange.proofs.Undoing.{are_of_room, may_settle}
 use Rattle.zs_session_cell.specs.Cells.{CellSeen, Takes, IsFull}
-use Rattle.zs_session_cell.proofs.Taking.{takes, is_full, takes_lents, takes_none, takes_gates, takes_room, no_calls}
+use Rattle.zs_session_cell.proofs.Taking.{takes, is_full, takes_lents, takes_none, takes_gates, takes_bare, takes_room, no_calls}
 use Rattle.zs_session_cell.proofs.state.CellState.take.Goals as goal
 
 pub returns-in-Err-clause-full : goal.returns-in-Err-clause-full
@@ -54,6 +54,9 @@ returns-in-Ok-apply-clause-none g c = λ none. no_calls call_seen c.finish-hands
 
 pub returns-in-Ok-apply-clause-gates : goal.returns-in-Ok-apply-clause-gates
 returns-in-Ok-apply-clause-gates g c = λ none. takes_gates (returns-in-Ok-apply-clause-ok g c) none
+
+pub returns-in-Ok-apply-clause-waiting : goal.returns-in-Ok-apply-clause-waiting
+returns-in-Ok-apply-clause-waiting g c = λ none all. takes_bare (returns-in-Ok-apply-clause-ok g c) none all
 
 pub returns-in-Ok-apply-clause-room : goal.returns-in-Ok-apply-clause-room
 returns-in-Ok-apply-clause-room g c = takes_room (returns-in-Ok-apply-clause-ok g c)
