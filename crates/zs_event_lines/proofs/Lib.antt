@@ -9,3 +9,8 @@ pub mod LineTexts
 pub mod MessagesBack
 pub mod EventsBack
 pub mod PrintedTexts
+pub mod ReadSymbols
+pub mod ReadParts
+pub mod ReadForms
+pub mod ReadMessages
+pub mod ReadEvents

@@ -1,8 +1,13 @@
 //! Laws of printed lines, for proofs to cite.
 
-ghost use Rattle.zs_event_lines.specs.Laws.{PrintedEventsAreRead};
+ghost use Rattle.zs_event_lines.specs.Laws.{LinesAreSayable, PrintedEventsAreRead};
 
 /// The text of an event's line is read as the event, with the bytes of each payload in one slice.
 pub fn printed_events_are_read()
     ensures { PrintedEventsAreRead }
+{}
+
+/// An event that a line without a line feed says has a line of its own, and comes back the same.
+pub fn lines_are_sayable()
+    ensures { LinesAreSayable }
 {}
