@@ -20,6 +20,8 @@ usage: zenoh_drive [drive [SETTING]..]  drives a session by the script on standa
                                         SEED makes, and prints how many events it had, and
                                         how many samples were handed, messages sent and
                                         events refused: SEED up to 65536, N up to 100000
+       zenoh_drive link [SETTING]..     drives two sessions, a and b, whose messages go to
+                                        each other, by the lines on standard input
        zenoh_drive --help               prints this
        zenoh_drive --version            prints the version
 
@@ -121,6 +123,10 @@ given, each at most once:
   token=N      the cancellation token that can end the get
   to=CHAN      where replies go beside being printed
   interest=N   the lget that a message answers
+
+A line of link is a or b and a script line that is no net, no recv and has no CHAN:
+that side takes it. Or it is ab or ba: the oldest message that waits at a (or b) is
+delivered. b has the zid 2, the tag 2 and else the settings of a, which has neither.
 
 Status: 0 the end was reached; 2 bad words; 3 a line is no event; 4 a line is too
 long; 5 too many reads; 6 the input failed; 7 the output failed; 8 no memory.

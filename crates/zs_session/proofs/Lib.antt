@@ -15,3 +15,4 @@ pub mod Soaking
 pub mod Lines
 pub mod Retelling
 pub mod WordExamples
+mod Linking

@@ -1,5 +1,5 @@
 -- The words that a run is started with, and the settings that they give.
-use Rattle.std.specs.Prelude.{ℕ, Bool, ◌&&◌, ◌||◌, is_some, List, [], ◌∷◌, map, Option, Some, None, chars, codes, if◌then◌else◌}
+use Rattle.std.specs.Prelude.{ℕ, ◌==◌, Bool, false, not, ◌&&◌, ◌||◌, is_some, List, [], ◌∷◌, map, Option, Some, None, chars, codes, if◌then◌else◌}
 use Rattle.std.specs.List.{filter_map, list_all}
 use Rattle.std.specs.Str.{bytes_eq}
 use Rattle.zs_keys.specs.Key.{undeclared}
@@ -107,3 +107,22 @@ settings_of [] = Some default_settings
 settings_of (mode ∷ words) =
     if bytes_eq mode (codes "drive") && are_settings words
     then given words >>= if_valid >>= (λ s. Some (with_aggregates words s)) else None
+
+-- settings from which the second of two linked sessions differs: it has the identifier 2 and the tag 2
+abbrev pub is_apart : Settings → Bool
+is_apart s = not (s.zid == 2) && not (s.tag == 2)
+
+abbrev pub if_apart : Settings → Option Settings
+if_apart s = if is_valid s && is_apart s then Some s else None
+
+-- the words of linked sessions: the first is `link`
+abbrev pub is_link : List (List ℕ) → Bool
+is_link [] = false
+is_link (mode ∷ words) = bytes_eq mode (codes "link")
+
+-- the settings of linked sessions by their words: those behind `link` are settings, as behind `drive`
+abbrev pub link_of : List (List ℕ) → Option Settings
+link_of [] = None
+link_of (mode ∷ words) =
+    if bytes_eq mode (codes "link") && are_settings words
+    then given words >>= if_apart >>= (λ s. Some (with_aggregates words s)) else None

@@ -1,4 +1,4 @@
-//! The words that a run is started with: none, or `drive` and then settings.
+//! The words that a run is started with: none, or `drive` or `link` and then settings.
 
 ghost use Rattle.std.specs.Prelude.{◌≡◌, ◌≤◌, map, IfOk, IfSome, IsSome, IsTrue, OnErr, option_map, true, chars};
 ghost use Rattle.std.specs.List.{list_all};
@@ -8,7 +8,7 @@ ghost use Rattle.zs_core.specs.Settings.{default_settings, is_valid};
 ghost use Rattle.zs_script.specs.Hexadecimal.{hex_of};
 ghost use Rattle.zs_script.specs.Plain.{is_plain, is_plain_text};
 ghost use Rattle.zs_script.specs.Symbols.{number_of, after_prefix};
-ghost use Rattle.zs_session.specs.Words.{gives_start, gives_limit, gives_number, gives_aggregate, is_setting, is_aggregate, are_aggregates, are_settings, values, setting, given, settings_of, found};
+ghost use Rattle.zs_session.specs.Words.{gives_start, gives_limit, gives_number, gives_aggregate, is_setting, is_aggregate, are_aggregates, are_settings, values, setting, given, settings_of, found, is_apart, is_link, link_of};
 
 use std::alloc::{AllocError, Global};
 use zs_core::{KeyList, Settings};
@@ -44,6 +44,48 @@ pub fn settings_of(alloc: Global, words: &[String]) -> Result<Option<Settings>, 
     settings.aggregated_subscribers = aggregates(alloc, rest, "aggsub=")?;
     settings.aggregated_publishers = aggregates(alloc, rest, "aggpub=")?;
     Ok(Some(settings))
+}
+
+/// Whether the words are those of linked sessions: the first is `link`.
+pub(crate) fn is_link(words: &[String]) -> bool
+    ensures { result ≡ is_link (map string_bytes words.now) }
+{
+    match words {
+        [mode, ..] => mode.as_str() == "link",
+        [] => false,
+    }
+}
+
+/// The settings of the first of two linked sessions that the words of a run give: those behind the word `link`. There are
+/// none where a word has no place among them, where the settings are not valid, or where they have the second session's
+/// identifier or tag.
+pub(crate) fn link_of(alloc: Global, words: &[String]) -> Result<Option<Settings>, AllocError>
+    ensures ok { IfOk result (λ found. found ≡ link_of (map string_bytes words.now)) }
+    ensures valid { IfOk result (λ found. IfSome found (λ s. IsTrue (is_valid s))) }
+    ensures err { OnErr result (IsSome (link_of (map string_bytes words.now))) }
+{
+    let [mode, rest @ ..] = words else {
+        return Ok(None);
+    };
+    if mode.as_str() != "link" || !are_settings(rest) {
+        return Ok(None);
+    }
+    let Some(mut settings) = given(rest) else {
+        return Ok(None);
+    };
+    if !settings.is_valid() || !is_apart(&settings) {
+        return Ok(None);
+    }
+    settings.aggregated_subscribers = aggregates(alloc, rest, "aggsub=")?;
+    settings.aggregated_publishers = aggregates(alloc, rest, "aggpub=")?;
+    Ok(Some(settings))
+}
+
+/// Whether the second of two linked sessions differs from these settings.
+fn is_apart(settings: &Settings) -> bool
+    ensures { result ≡ is_apart settings.now }
+{
+    settings.zid != 2 && settings.tag != 2
 }
 
 /// Whether each word begins with the name of a setting and `=`, and each aggregate is one.
@@ -253,7 +295,7 @@ fn number(words: &[String], name: &str, max: u64, default: u64) -> Option<u64>
 }
 
 /// What stands behind this name in the first word that begins with it, and the words behind that one.
-fn value_in<'a>(words: &'a [String], name: &str) -> Option<(&'a str, &'a [String])>
+pub(crate) fn value_in<'a>(words: &'a [String], name: &str) -> Option<(&'a str, &'a [String])>
     ensures { values name.now (map string_bytes words.now) ≡ found name.now (option_map (λ found. (found.0.now, map string_bytes found.1.now)) result) }
 {
     let mut words = words;

@@ -16,6 +16,7 @@ mod closing;
 mod declared_keys;
 mod gets;
 mod home;
+mod links;
 mod liveliness;
 mod matching;
 mod network;

@@ -6,9 +6,18 @@ use zs_keys::Source;
 use zs_session::run;
 
 /// Words that no run takes.
-const BAD_WORDS: [&str; 66] = [
+const BAD_WORDS: [&str; 75] = [
     "",
-    "link",
+    "Link",
+    "links",
+    "link link",
+    "link drive",
+    "drive link",
+    "link zid=2",
+    "link tag=2",
+    "link line=9 zid=2 tag=3",
+    "link zid=0",
+    "link line",
     "soak",
     "soak 7",
     "soak 7 4 1",
@@ -116,7 +125,7 @@ struct Run {
     output: &'static str,
 }
 
-const RUNS: [Run; 17] = [
+const RUNS: [Run; 20] = [
     Run {
         words: "drive",
         script: FIRST,
@@ -268,6 +277,30 @@ const RUNS: [Run; 17] = [
         status: 7,
         complaint: "WriteFault\n",
         output: "",
+    },
+    Run {
+        words: "link zid=c0 tag=3",
+        script: "a sub any k\nb net close\n",
+        fails: (0, 0),
+        status: 3,
+        complaint: "BadLine 2\n",
+        output: "1 a ok 2\n1 a send sub 2 s0:k\n",
+    },
+    Run {
+        words: "link",
+        script: "ab\na recv sub 2\n",
+        fails: (0, 0),
+        status: 3,
+        complaint: "BadLine 2\n",
+        output: "1 none\n",
+    },
+    Run {
+        words: "link line=12",
+        script: "a sub any kk\nb sub any kkk\n",
+        fails: (0, 0),
+        status: 4,
+        complaint: "LineTooLong 2\n",
+        output: "1 a ok 2\n1 a send sub 2 s0:kk\n",
     },
 ];
 
