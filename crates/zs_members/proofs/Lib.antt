@@ -1,0 +1,4 @@
+pub mod Naming
+pub mod Counting
+pub mod Telling
+pub mod Mapped
