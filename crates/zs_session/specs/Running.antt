@@ -25,14 +25,14 @@ abbrev pub Runs : Settings → ℕ → Supply → Supply → Outlet → Outlet �
 Runs s status before after from to heard heard' =
     RunsTo (task s) (IsDone s before.left after.left (λ output. PutsOn from.written output to.written)) status before after from to heard heard'
 
--- the same of a run of linked sessions
-abbrev pub Links : Settings → ℕ → Supply → Supply → Outlet → Outlet → Outlet → Outlet → Type 0
+-- the same of a run of linked sessions. It is closed, as what is said of deliveries is, so that whoever calls a run doesn't look into it.
+unfoldable pub Links : Settings → ℕ → Supply → Supply → Outlet → Outlet → Outlet → Outlet → Type 0
 Links s status before after from to heard heard' =
     RunsTo (link_task s) (IsDoneBy (link_task s) before.left after.left (λ output. PutsOn from.written output to.written) Goes) status before after from to heard heard'
 
 -- Behind any lines of linked sessions, the newest first: where the oldest message that waits is a push, it is that of an accepted
 -- publication, and an open receiver hands its sample to exactly those subscribers that take it and meet its key.
-abbrev pub Hands : Settings → Type 0
+unfoldable pub Hands : Settings → Type 0
 Hands s = (rows : List (List ℕ)) → AreRows rows
     → BothHand s (linked_after s (events_of (link_language s) rows)).a (linked_after s (events_of (link_language s) rows)).b
 

@@ -162,6 +162,7 @@ fn law_of_links(words: &[String])
 }
 
 /// Drives two linked sessions, with the settings that the words give. It is `run` of such words.
+#[tactic(auto, unfolding(crate::specs::Running::Links))]
 fn run_link<S: Source, K: Sink, C: Sink>(
     alloc: Global,
     words: &[String],
@@ -193,6 +194,7 @@ fn run_link<S: Source, K: Sink, C: Sink>(
 }
 
 /// It is `run_link` behind its words.
+#[tactic(auto, unfolding(crate::specs::Running::Links))]
 fn run_linked<S: Source, K: Sink, C: Sink>(
     alloc: Global,
     settings: &Settings,

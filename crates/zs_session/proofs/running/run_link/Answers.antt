@@ -4,9 +4,11 @@ use Rattle.zs_driving.specs.declared.errors.DriveError.TheVariants.{NoMemory}
 use Rattle.zs_driving.specs.Driving.{Outlet, Supply}
 use Rattle.zs_driving.proofs.Exits.{unstarted}
 use Rattle.zs_link.specs.Mode.{link_task}
+use Rattle.zs_session.specs.Running.{Links}
 use Rattle.zs_session.proofs.running.run_link.Goals as goal
 
 pub returns-in-Err-clause-links : goal.returns-in-Err-clause-links
+unfolding Links
 returns-in-Err-clause-links g c =
     let before : Supply = record {
       left = g.S.Source.left c.args.source.now;
