@@ -1,0 +1,62 @@
+-- What a step makes of a caller.
+use Rattle.std.proofs.Common.{◌≡◌, ◌∙◌, ℕ, Bool, List, Option, Some, None, is_some, true, false, ap, sym, subst, refl}
+use Rattle.zs_events.specs.declared.event.Event.{Event}
+use Rattle.zs_events.specs.declared.turn.Answer.{Answer}
+use Rattle.zs_events.specs.declared.turn.Answer.TheVariants.{Ok as accepted, Refused as refused}
+use Rattle.zs_events.specs.declared.turn.Turn.{Turn}
+use Rattle.zs_core.specs.declared.settings.Settings.{Settings}
+use Rattle.zs_session_cell.specs.Core.{turn_at}
+use Rattle.zs_books.specs.Callers.{CallerSeen}
+use Rattle.zs_held.specs.Held.{entered, receipt_of}
+use Rattle.zs_held.specs.Numbers.{NumbersAreTold}
+use Rattle.zs_held.specs.Receipts.{ReceiptSeen}
+use Rattle.zs_cell.specs.declared.error.SessionError.{SessionError}
+use Rattle.zs_cell.specs.declared.error.SessionError.TheVariants.{Refused, OtherSession, NoMemory}
+use Rattle.zs_cell.specs.Steps.{Took, Steps, Stops, IsNumbered, IsRefusal}
+use Rattle.zs_cell.specs.Works.{back_at}
+
+-- the receipt of an event that was taken is the caller's last
+pub took : {old mid new : CallerSeen ReceiptSeen} {event : Event} {came : Bool} {turn : Turn} (entries : ℕ) {receipt : ReceiptSeen}
+    → receipt ≡ receipt_of event came turn entries old.count → mid ≡ entered turn old → new ≡ record mid { last = Some receipt }
+    → Took old event came turn new
+took {old} {mid} {new} {event} {came} {turn} entries {receipt} is counted kept = record {
+  entries = entries;
+  caller_is = kept ∙ (ap (λ (m : CallerSeen ReceiptSeen). record m { last = Some receipt }) counted ∙ ap (λ (r : ReceiptSeen). record (entered turn old) { last = Some r }) is);
+}
+
+-- by the answer of its turn
+pub steps : {old mid new : CallerSeen ReceiptSeen} {event : Event} {came : Bool} {turn : Turn} {answer : Answer} (entries : ℕ) {receipt : ReceiptSeen}
+    → receipt ≡ receipt_of event came turn entries old.count → mid ≡ entered turn old → new ≡ record mid { last = Some receipt } → answer ≡ turn.answer
+    → Steps old event came answer new
+steps {turn} entries is counted kept same = record { turn = turn; answer_is = sym same; took = took entries is counted kept }
+
+-- the turn of an event has a number where the law says so
+pub numbered : (s : Settings) (h : List Event) (event : Event) (turn : Turn) → NumbersAreTold → turn ≡ turn_at s h event → IsNumbered event turn.answer
+numbered s h event turn told is = go turn.answer (ap (λ (t : Turn). t.answer) is)
+  where
+    go : (answer : Answer) → answer ≡ (turn_at s h event).answer → IsNumbered event answer
+    go (accepted number) same = told s h event number (sym same)
+    go (refused refusal) same = tt
+
+-- a refused event stops, with its refusal
+pub stops : {old new : CallerSeen ReceiptSeen} {event : Event} {came : Bool} (answer : Answer) (why : SessionError) → Steps old event came answer new → IsRefusal answer why
+    → Stops old new event came why
+stops {old} {new} {event} {came} answer (Refused refusal) by is = subst (λ (a : Answer). Steps old event came a new) is by
+stops answer NoMemory by is = absurd is
+stops answer OtherSession by is = is
+
+-- and its handler goes back
+pub goes_back : {H : Type 0} (answer : Answer) (why : SessionError) (handler : Option H) → IsRefusal answer why → back_at answer handler ≡ handler
+goes_back answer (Refused refusal) handler is = ap (λ (a : Answer). back_at a handler) is
+goes_back answer NoMemory handler is = absurd is
+goes_back answer OtherSession handler is = absurd is
+
+-- none is there, where that is told
+NoneBy : {A : Type 0} → Option A → Bool → Type 0
+NoneBy o true = Unit {0}
+NoneBy o false = o ≡ None
+
+pub none_is : {A : Type 0} (o : Option A) → is_some o ≡ false → o ≡ None
+unfolding NoneBy
+none_is None is = refl
+none_is (Some a) is = subst (NoneBy (Some a)) is tt

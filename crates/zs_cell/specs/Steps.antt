@@ -1,0 +1,51 @@
+-- What a call that steps a session makes of its caller.
+use Rattle.std.specs.Prelude.{◌≡◌, ℕ, Bool, Option, Some, is_some}
+use Rattle.zs_events.specs.declared.event.Event.{Event}
+use Rattle.zs_events.specs.declared.turn.Answer.{Answer}
+use Rattle.zs_events.specs.declared.turn.Answer.TheVariants.{Ok as accepted, Refused as refused}
+use Rattle.zs_events.specs.declared.turn.Turn.{Turn}
+use Rattle.zs_books.specs.Callers.{CallerSeen}
+use Rattle.zs_held.specs.Held.{entered, receipt_of}
+use Rattle.zs_held.specs.Numbers.{numbered_at}
+use Rattle.zs_held.specs.Receipts.{ReceiptSeen}
+use Rattle.zs_cell.specs.declared.error.SessionError.{SessionError}
+use Rattle.zs_cell.specs.declared.error.SessionError.TheVariants.{Refused, OtherSession, NoMemory}
+
+-- the session took the event, which came with a handler or not, and made this turn of it: the caller counts one event more, with the
+-- messages of its turn, and has the receipt for it
+pub record Took (old : CallerSeen ReceiptSeen) (event : Event) (came : Bool) (turn : Turn) (new : CallerSeen ReceiptSeen) : Type 0 where
+  pub entries : ℕ
+  pub caller_is : new ≡ record (entered turn old) { last = Some (receipt_of event came turn entries old.count) }
+
+-- the same, by what the event was answered
+pub record Steps (old : CallerSeen ReceiptSeen) (event : Event) (came : Bool) (answer : Answer) (new : CallerSeen ReceiptSeen) : Type 0 where
+  pub turn : Turn
+  pub answer_is : turn.answer ≡ answer
+  pub took : Took old event came turn new
+
+-- an accepted event is answered a number exactly where its kind draws one, or asks for a status
+abbrev pub IsNumbered : Event → Answer → Type 0
+IsNumbered event (accepted number) = is_some number ≡ numbered_at event
+IsNumbered event (refused refusal) = Unit {0}
+
+-- a refused event is told so, with the same refusal
+abbrev pub IsRefusal : Answer → SessionError → Type 0
+IsRefusal answer (Refused refusal) = answer ≡ refused refusal
+IsRefusal answer NoMemory = ⊥
+IsRefusal answer OtherSession = ⊥
+
+-- the session took the event and accepted it, with that number
+abbrev pub Accepts : CallerSeen ReceiptSeen → CallerSeen ReceiptSeen → Event → Bool → Option ℕ → Type 0
+Accepts old new event came number = Steps old event came (accepted number) new
+
+-- the session took the event and refused it, or, where the call says another reason, didn't take it
+abbrev pub Stops : CallerSeen ReceiptSeen → CallerSeen ReceiptSeen → Event → Bool → SessionError → Type 0
+Stops old new event came (Refused refusal) = Steps old event came (refused refusal) new
+Stops old new event came NoMemory = new ≡ old
+Stops old new event came OtherSession = ⊥
+
+-- the same where the call may also be handed another session's value: then nothing was stepped either
+abbrev pub StopsOr : CallerSeen ReceiptSeen → CallerSeen ReceiptSeen → Event → Bool → SessionError → Type 0
+StopsOr old new event came (Refused refusal) = Steps old event came (refused refusal) new
+StopsOr old new event came NoMemory = new ≡ old
+StopsOr old new event came OtherSession = new ≡ old

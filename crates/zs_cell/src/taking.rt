@@ -1,0 +1,125 @@
+//! One event, taken into a session that is held.
+ghost use Rattle.std.specs.Prelude.{◌≡◌, None, Some, true, false, is_some, option_map, map, IfOk, IfErr, OnErr, if◌then◌else◌};
+ghost use Rattle.std.specs.Arc.{arc_value};
+ghost use Rattle.zs_turns.specs.Gates.{takes_handler};
+ghost use Rattle.zs_events.specs.Turn.{was_refused};
+ghost use Rattle.zs_posts.specs.Calls.{call_seen, all_lents};
+ghost use Rattle.zs_hands.specs.Answers.{AreOfRoom};
+ghost use Rattle.zs_cell.specs.Steps.{Steps, IsNumbered};
+ghost use Rattle.zs_cell.specs.Works.{back_at};
+
+use crate::work::Work;
+use std::sync::Arc;
+use zs_books::Books;
+use zs_events::Event;
+use zs_gate::NoPass;
+use zs_hands::Closing;
+use zs_held::{Held, Receipt, numbers_are_told};
+use zs_posts::Key;
+use zs_session_cell::{Handing, NotTaken};
+use zs_shared::Shared;
+
+type Caller<B> = zs_books::Caller<B, Receipt<B>>;
+
+/// Why an event wasn't taken, with the handler that came with it.
+pub(crate) struct NotNow<H> {
+    pub(crate) why: NoPass,
+    pub(crate) handler: Option<Arc<H>>,
+}
+
+// The same of an event that goes.
+#[tactic(none)]
+fn not_now<H>(refused: NotTaken<H>) -> NotNow<H>
+    ensures { result.handler ≡ refused.handler }
+{
+    let NotTaken {
+        why,
+        event,
+        handler,
+    } = refused;
+    drop(event);
+    NotNow { why, handler }
+}
+
+// Gives out the gate of a key, where the event was taken and accepted.
+fn drain_if<H: Drop, B: Books>(
+    held: &mut Held<H, B>,
+    accepted: bool,
+    key: Option<Key>,
+) -> Option<Closing<H>>
+    ensures none { key ≡ None → result ≡ None }
+    ensures refused { accepted ≡ false → result ≡ None }
+    ensures room { held.new.session.exchange.posts.room ≡ held.old.session.exchange.posts.room }
+{
+    match key {
+        Some(key) => { if accepted { held.drain_of(key) } else { None } }
+        None => None,
+    }
+}
+
+// What is to be done of an event, with the gate of a key, if the event was accepted.
+#[tactic(none)]
+fn work_of<H: Drop, D: Drop, B: Books>(
+    held: &mut Held<H, B>,
+    handing: Handing<H, D>,
+    key: Option<Key>,
+) -> Work<H, D>
+    ensures answer { result.answer ≡ handing.turn.answer }
+    ensures back { result.back ≡ handing.back }
+    ensures lents { result.lents ≡ all_lents (map call_seen handing.calls) }
+    ensures none { key ≡ None → result.waits ≡ false }
+    ensures refused { was_refused handing.turn.answer ≡ true → result.waits ≡ false }
+    ensures room { held.new.session.exchange.posts.room ≡ held.old.session.exchange.posts.room }
+{
+    let accepted = !handing.turn().is_refused();
+    let closing = drain_if(held, accepted, key);
+    Work::of(handing, closing)
+}
+
+// Keeps the receipt of an event that was taken: what is to be done of it, with the gate of a key, if it was accepted.
+#[tactic(none)]
+fn receive<H: Drop, D: Drop, B: Books>(
+    held: &mut Held<H, B>,
+    given: (Handing<H, D>, Receipt<B>),
+    key: Option<Key>,
+    caller: &mut Caller<B>,
+) -> Work<H, D>
+    ensures answer { result.answer ≡ given.0.turn.answer }
+    ensures back { result.back ≡ given.0.back }
+    ensures lents { result.lents ≡ all_lents (map call_seen given.0.calls) }
+    ensures none { key ≡ None → result.waits ≡ false }
+    ensures refused { was_refused given.0.turn.answer ≡ true → result.waits ≡ false }
+    ensures room { held.new.session.exchange.posts.room ≡ held.old.session.exchange.posts.room }
+    ensures caller { caller.new ≡ record caller.old { last = Some given.1 } }
+{
+    let (handing, receipt) = given;
+    caller.keep(receipt);
+    work_of(held, handing, key)
+}
+
+/// Takes an event, with the receipt for the caller, and gives out the gate of a key, if the event is accepted.
+#[tactic(none)]
+pub(crate) fn take_held<H: Drop, D: Drop, B: Books>(
+    held: &mut Held<H, B>,
+    event: Shared<Event>,
+    handler: Option<Arc<H>>,
+    key: Option<Key>,
+    caller: &mut Caller<B>,
+) -> Result<Work<H, D>, NotNow<H>>
+    requires { is_some handler ≡ true → takes_handler event ≡ true }
+    ensures ok { IfOk result (λ work. Steps caller.old event (is_some handler) work.answer caller.new) }
+    ensures numbered { IfOk result (λ work. IsNumbered event work.answer) }
+    ensures back { IfOk result (λ work. work.back ≡ back_at work.answer (option_map arc_value handler)) }
+    ensures lents { IfOk result (λ work. AreOfRoom held.old.session.exchange.posts.room work.lents) }
+    ensures none { key ≡ None → IfOk result (λ work. work.waits ≡ false) }
+    ensures closing { IfOk result (λ work. was_refused work.answer ≡ true → work.waits ≡ false) }
+    ensures room { held.new.session.exchange.posts.room ≡ held.old.session.exchange.posts.room }
+    ensures handler { IfErr result (λ refused. refused.handler ≡ handler) }
+    ensures err { OnErr result (caller.new ≡ caller.old) }
+{
+    numbers_are_told();
+    match held.take(event, handler, caller) {
+        Ok(given) => Ok(receive(held, given, key, caller)),
+        Err(refused) => Err(not_now(refused)),
+    }
+}

@@ -1,0 +1,113 @@
+//! What is to be done, outside of a session's lock, of an event that the session took.
+ghost use Rattle.std.specs.Prelude.{◌≡◌, None, false, is_some, map, option_map};
+ghost use Rattle.std.specs.Arc.{arc_value};
+ghost use Rattle.atomic_table.specs.Seated.{TableId};
+ghost use Rattle.zs_posts.specs.Calls.{call_seen, all_lents};
+ghost use Rattle.zs_hands.specs.Answers.{AreOfRoom};
+
+use std::marker::Model;
+use std::sync::{Arc, Wait};
+use zs_books::Books;
+use zs_events::Answer;
+use zs_handlers::Handler;
+use zs_hands::{Closing, Handed, Ran};
+use zs_held::Held;
+use zs_session_cell::Handing;
+use zs_turns::Item;
+
+/// The calls of an event that was taken, with what it was answered, the handler that goes back, and a gate that is waited
+/// for. It can't be let go: who has one makes the calls.
+pub(crate) struct Work<H, D> {
+    handing: Handing<H, D>,
+    closing: Option<Closing<H>>,
+}
+
+impl<H, D> Model for Work<H, D> {
+    ghost use Rattle.std.specs.Prelude.{map, is_some};
+    ghost use Rattle.zs_posts.specs.Calls.{call_seen, all_lents};
+    ghost use Rattle.zs_cell.specs.Works.{WorkSeen};
+
+    ghost Value = { WorkSeen H };
+
+    ghost view = { λ w. record { answer = w.handing.turn.answer; back = w.handing.back; lents = all_lents (map call_seen w.handing.calls); waits = is_some w.closing } };
+}
+
+/// Calls that were made, with the passes that go back. Contracts see the passes.
+pub(crate) struct Worked<D> {
+    ran: Ran<Item, D>,
+}
+
+impl<D> Model for Worked<D> {
+    ghost use Rattle.std.specs.Prelude.{List};
+    ghost use Rattle.zs_posts.specs.Passes.{LentSeen};
+    ghost use Rattle.zs_hands.specs.Answers.{ran_lents};
+
+    ghost Value = { List LentSeen };
+
+    ghost view = { λ w. ran_lents w.ran.ran.items };
+}
+
+/// What became of each item. Contracts see how many there are.
+#[derive(Drop)]
+pub(crate) struct Reports<D> {
+    items: Vec<Handed<Item, D>>,
+}
+
+impl<D> Model for Reports<D> {
+    ghost use Rattle.std.specs.Prelude.{ℕ, length};
+
+    ghost Value = { ℕ };
+
+    ghost view = { λ r. length r.items.items };
+}
+
+impl<H: Drop, D: Drop> Work<H, D> {
+    #[tactic(none)]
+    pub(crate) fn of(handing: Handing<H, D>, closing: Option<Closing<H>>) -> Work<H, D>
+        ensures { result ≡ record { answer = handing.turn.answer; back = handing.back; lents = all_lents (map call_seen handing.calls); waits = is_some closing } }
+    {
+        Work { handing, closing }
+    }
+
+    #[tactic(none)]
+    pub(crate) fn answer(&self) -> Answer
+        ensures { result ≡ self.now.answer }
+    {
+        self.handing.turn().answer
+    }
+
+    // The handler that goes back, at the first asking.
+    #[tactic(none)]
+    pub(crate) fn refused(&mut self) -> Option<Arc<H>>
+        ensures back { option_map arc_value result ≡ self.old.back }
+        ensures rest { self.new ≡ record self.old { back = None } }
+    {
+        self.handing.refused()
+    }
+
+    // Makes the calls: the gate that is waited for comes back.
+    #[tactic(none)]
+    pub(crate) fn run<R: Wait>(self, rt: &R) -> (Worked<D>, Option<Closing<H>>)
+    where
+        H: Handler<Item, Done = D>,
+        ensures room { (room : TableId) → AreOfRoom room self.lents → AreOfRoom room result.0 }
+        ensures closing { is_some result.1 ≡ self.waits }
+    {
+        let Work { handing, closing } = self;
+        let ran = handing.run(rt);
+        (Worked { ran }, closing)
+    }
+}
+
+impl<D: Drop> Worked<D> {
+    // Gives the passes back: what became of each item.
+    #[tactic(none)]
+    pub(crate) fn give_back<H: Drop, B: Books>(self, held: &mut Held<H, B>) -> Reports<D>
+        requires { AreOfRoom held.old.session.exchange.posts.room self }
+        ensures { held.new.session.exchange.posts.room ≡ held.old.session.exchange.posts.room }
+    {
+        let Worked { ran } = self;
+        let items = held.give_back(ran);
+        Reports { items }
+    }
+}
