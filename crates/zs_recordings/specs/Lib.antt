@@ -1,0 +1,5 @@
+pub mod Entries
+pub mod Recording
+pub mod Replaying
+pub mod Machines
+pub mod Running

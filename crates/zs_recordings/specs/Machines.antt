@@ -1,0 +1,59 @@
+-- What the machines that record and replay stand for.
+use Rattle.std.specs.Prelude.{◌≡◌, ℕ, ◌+◌, ◌<◌, ◌^◌, ◌==◌, Bool, ◌||◌, List, ◌∷◌, ◌++◌, length, Option}
+use Rattle.std.specs.Str.{bytes_eq}
+use Rattle.std.specs.String.{string_bytes}
+use Rattle.zs_driving.specs.Tasks.{Rules}
+use Rattle.zs_driving.specs.Languages.{events_of, rules_of}
+use Rattle.zs_events.specs.declared.event.Event.{Event}
+use Rattle.zs_core.specs.declared.settings.Settings.{Settings}
+use Rattle.zs_core.specs.Effects.{effects}
+use Rattle.zs_core.specs.Stands.{Stands}
+use Rattle.zs_core.specs.World.{World}
+use Rattle.zs_recordings.specs.Entries.{entry_text}
+use Rattle.zs_recordings.specs.Recording.{record_language}
+use Rattle.zs_recordings.specs.Replaying.{RecordingLine, Said, Heard, Group, replay_language, groups_of, is_headless, group_events, last_heard, last_rows, earlier_other, or_place, place_unless, with_line}
+use Rattle.zs_recordings.specs.declared.recorder.Recorder.{Recorder}
+use Rattle.zs_recordings.specs.declared.replayer.Replayer.{Replayer}
+
+-- an event was taken: whatever history the session stood for, what is recorded of it was added, and it stands for that
+-- history with the event
+pub record Records (e : Event) (number : ℕ) (old new : World) (before after : List ℕ) : Type 0 where
+  pub text : (s : Settings) (h : List Event) → Stands old s h → after ≡ before ++ entry_text number e (effects s h e)
+  pub stands : (s : Settings) (h : List Event) → Stands old s h → Stands new s (e ∷ h)
+
+-- it records by these rules, and took these rows, the newest first: each was an event, and the session stands for them
+pub record IsBehind (machine : Recorder) (r : Rules) (h : List (List ℕ)) : Type 0 where
+  pub settings : Settings
+  pub rules : r ≡ rules_of (record_language settings)
+  pub each : length (events_of (record_language settings) h) ≡ length h
+  pub stands : Stands machine.state settings (events_of (record_language settings) h)
+
+-- a replayer stands behind groups: its session for their events, and it knows of them what it is to answer
+pub record Follows (machine : Replayer) (s : Settings) (groups : List Group) : Type 0 where
+  pub stands : Stands machine.state s (group_events groups)
+  pub count : machine.count ≡ length groups
+  pub small : machine.count < 2 ^ 64
+  pub heard : string_bytes machine.heard ≡ last_heard groups
+  pub rows : string_bytes machine.rows ≡ last_rows s groups
+  pub other : machine.other ≡ earlier_other s groups
+
+-- the first event of which something else was recorded, as it knows
+abbrev pub other_in : Replayer → Option ℕ
+other_in machine = or_place machine.other (place_unless (bytes_eq (string_bytes machine.heard) (string_bytes machine.rows)) machine.count)
+
+-- a line was taken: whatever groups the replayer stood behind, it stands behind them with the line, and it is headless
+-- where it was, or where the line is of a turn and no event was taken
+abbrev pub marked_by : RecordingLine → Replayer → Bool
+marked_by (Said e) old = old.headless
+marked_by (Heard text) old = old.headless || (old.count == 0)
+
+pub record Plays (line : RecordingLine) (old new : Replayer) : Type 0 where
+  pub follows : (s : Settings) (groups : List Group) → Follows old s groups → Follows new s (with_line line groups)
+  pub headless : new.headless ≡ marked_by line old
+
+-- it replays by these rules, and took these rows, the newest first
+pub record HasPlayed (machine : Replayer) (r : Rules) (h : List (List ℕ)) : Type 0 where
+  pub settings : Settings
+  pub rules : r ≡ rules_of (replay_language settings)
+  pub headless : machine.headless ≡ is_headless (events_of (replay_language settings) h)
+  pub follows : Follows machine settings (groups_of (events_of (replay_language settings) h))
