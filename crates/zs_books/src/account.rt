@@ -1,3 +1,5 @@
+//! The book of one ledger, with its total as a number.
+
 ghost use Rattle.std.specs.Prelude.{◌≡◌, ◌+◌, ◌≤◌, ◌<◌, true, min};
 ghost use Rattle.zs_books.specs.Callers.{all_parts, most};
 

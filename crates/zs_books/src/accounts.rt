@@ -1,3 +1,5 @@
+//! The books of the three ledgers of a session.
+
 ghost use Rattle.std.specs.Prelude.{◌≡◌, ◌+◌, ◌<◌, true};
 ghost use Rattle.zs_books.specs.Callers.{all_parts, most, new_caller, no_entries, IsWithin, IsAll};
 

@@ -1,4 +1,6 @@
-ghost use Rattle.zs_core.specs.declared.settings.Settings.{Settings};
+//! The three ledgers that a session has, named by types.
+
+ghost use Rattle.zs_core.specs.Types.{Settings};
 ghost use Rattle.zs_core.specs.Settings.{default_settings};
 
 use std::marker::{Brand, PhantomData};

@@ -1,3 +1,5 @@
+//! Whoever steps a session: shares in its ledgers, and the last receipt.
+
 ghost use Rattle.std.specs.Prelude.{◌≡◌, ◌+◌, ◌<◌, true, Some, None, min};
 ghost use Rattle.std.specs.Option.{option_copied};
 ghost use Rattle.zs_books.specs.Callers.{most, all_parts, with_parts, joined, IsWithin, IsAll};

@@ -1,3 +1,5 @@
+//! A share of one ledger, with its parts and its amount as numbers.
+
 ghost use Rattle.std.specs.Prelude.{◌≡◌, ◌+◌, ◌<◌, ◌≤◌, min};
 ghost use Rattle.zs_books.specs.Callers.{all_parts, most};
 

@@ -1,3 +1,5 @@
+//! Clocks for timestamps.
+
 ghost use Rattle.std.specs.Prelude.{ℕ, ⊤};
 
 /// Tells moments.

@@ -1,14 +1,20 @@
+//! Why a call of a shared session did not do what it was asked.
+
 use std::sync::Arc;
+use thiserror::Error;
 use zs_events::Refusal;
 
 /// Why a call did not do what it was asked.
-#[derive(Clone, Copy, Debug, PartialEq, Eq, Hash)]
+#[derive(Clone, Copy, Debug, PartialEq, Eq, Hash, Error)]
 pub enum SessionError {
     /// The session took the event and refused it.
+    #[error("the session refused it: {0:?}")]
     Refused(Refusal),
     /// A value of another session was handed in. No event was taken.
+    #[error("it is of another session")]
     OtherSession,
     /// Want of memory. No event was taken.
+    #[error("out of memory")]
     NoMemory,
 }
 

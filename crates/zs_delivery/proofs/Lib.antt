@@ -5,3 +5,7 @@ mod Handing
 mod Made
 mod Spelling
 mod Deliveries
+mod Renewed
+mod Telling
+mod Declared
+mod Tidings

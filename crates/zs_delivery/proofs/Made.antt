@@ -15,8 +15,8 @@ use Rattle.zs_events.specs.declared.turn.Effect.{Effect}
 use Rattle.zs_events.specs.declared.turn.Refusal.{Refusal}
 use Rattle.zs_events.specs.Turn.{answered}
 use Rattle.zs_events.specs.Kinds.{incoming_content}
-use Rattle.zs_core.specs.declared.publisher.PubRow.{PubRow}
-use Rattle.zs_core.specs.declared.settings.Settings.{Settings}
+use Rattle.zs_core.specs.Types.{PubRow}
+use Rattle.zs_core.specs.Types.{Settings}
 use Rattle.zs_core.specs.Entry.{Entry, is_closed}
 use Rattle.zs_core.specs.Held.{named_text}
 use Rattle.zs_core.specs.Live.{live_pubs}

@@ -11,7 +11,7 @@ use Rattle.zs_wire.specs.declared.wire_expr.WireExpr.{WireExpr}
 use Rattle.zs_events.specs.declared.event.Event.{Event}
 use Rattle.zs_events.specs.declared.event.Event.TheVariants.{Net}
 use Rattle.zs_events.specs.Kinds.{NoKey, WireKey, wire_key, is_blank, response_key}
-use Rattle.zs_core.specs.declared.settings.Settings.{Settings}
+use Rattle.zs_core.specs.Types.{Settings}
 use Rattle.zs_core.specs.Received.{wire_in, AreSpelled}
 use Rattle.zs_laws.specs.Spelled.{IsSent, IsSpelled, IsSpelledName, AllSpelled, SentKeysAreSpelled}
 use Rattle.zs_delivery.specs.declared.side.LinkSide.TheVariants.{A, B}

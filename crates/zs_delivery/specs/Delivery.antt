@@ -15,7 +15,7 @@ use Rattle.zs_events.specs.declared.turn.Effect.TheVariants.{Hand}
 use Rattle.zs_events.specs.declared.turn.HandOver.{HandOver}
 use Rattle.zs_events.specs.declared.turn.HandOver.TheVariants.{Sample as sample_for}
 use Rattle.zs_events.specs.declared.turn.Kind.TheVariants.{Subscriber}
-use Rattle.zs_core.specs.declared.settings.Settings.{Settings}
+use Rattle.zs_core.specs.Types.{Settings}
 use Rattle.zs_core.specs.Entry.{is_closed}
 use Rattle.zs_core.specs.Live.{live_subs}
 use Rattle.zs_core.specs.Past.{past_of}

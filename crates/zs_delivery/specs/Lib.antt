@@ -1,3 +1,4 @@
 pub mod Linked
 pub mod Links
 pub mod Delivery
+pub mod Told

@@ -4,7 +4,7 @@ use Rattle.zs_wire.specs.declared.message.Message.{Message}
 use Rattle.zs_wire.specs.declared.message.Message.TheVariants.{Interest}
 use Rattle.zs_events.specs.declared.event.Event.{Event}
 use Rattle.zs_events.specs.declared.event.Event.TheVariants.{Net}
-use Rattle.zs_core.specs.declared.settings.Settings.{Settings}
+use Rattle.zs_core.specs.Types.{Settings}
 use Rattle.zs_core.specs.Effects.{effects}
 use Rattle.zs_core.specs.Received.{messages_of}
 use Rattle.zs_delivery.specs.declared.side.LinkSide.{LinkSide}

@@ -4,7 +4,7 @@ use Rattle.std.specs.List.{AllByRecursion}
 use Rattle.zs_wire.specs.declared.message.Message.{Message}
 use Rattle.zs_events.specs.declared.event.Event.{Event}
 use Rattle.zs_events.specs.declared.event.Event.TheVariants.{Net}
-use Rattle.zs_core.specs.declared.settings.Settings.{Settings}
+use Rattle.zs_core.specs.Types.{Settings}
 use Rattle.zs_core.specs.Received.{sent, sent_behind}
 use Rattle.zs_laws.specs.Spelled.{IsSpelled}
 use Rattle.zs_delivery.specs.Linked.{Side, LinkLine, Take, Deliver, other, is_event, linked_after}

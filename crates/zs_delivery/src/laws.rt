@@ -2,9 +2,11 @@
 
 ghost use Rattle.zs_delivery.specs.Links.{LinksAreInOrder};
 ghost use Rattle.zs_delivery.specs.Delivery.{DeliveredAreHanded};
+ghost use Rattle.zs_delivery.specs.Told.{ToldAreDeclared};
 
-use zs_core::wire_forms_are_read;
-use zs_laws::{messages_have_origins, sent_keys_are_spelled, spelled_texts_are_utf8};
+use zs_laws::{
+    messages_have_origins, sent_keys_are_spelled, spelled_texts_are_utf8, wire_forms_are_read,
+};
 
 /// Behind every schedule, what a side sent is what was delivered of it and what still waits, in order and each once; and what
 /// came in at the other side is just what was delivered, but for interests, which are dropped.
@@ -18,6 +20,18 @@ pub fn links_are_in_order()
 /// never delivered.
 pub fn delivered_are_handed()
     ensures { DeliveredAreHanded }
+{
+    wire_forms_are_read();
+    messages_have_origins();
+    spelled_texts_are_utf8();
+    sent_keys_are_spelled();
+}
+
+/// Behind every schedule, where nothing waits of what a side sent and the other side is open, the other was told of exactly those
+/// subscribers and queryables that the side declared to the network and did not end: under each number the last declaration, on
+/// the key that it means.
+pub fn told_are_declared()
+    ensures { ToldAreDeclared }
 {
     wire_forms_are_read();
     messages_have_origins();

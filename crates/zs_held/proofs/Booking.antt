@@ -6,7 +6,7 @@ use Rattle.std.proofs.lemmas.Grind.{flat_map-append}
 use Rattle.zs_wire.specs.declared.message.Message.{Message}
 use Rattle.zs_events.specs.declared.event.Event.{Event}
 use Rattle.zs_events.specs.declared.turn.Turn.{Turn}
-use Rattle.zs_core.specs.declared.settings.Settings.{Settings}
+use Rattle.zs_core.specs.Types.{Settings}
 use Rattle.zs_posts.specs.Calls.{CallSeen}
 use Rattle.zs_turns.specs.declared.item.Item.{Item}
 use Rattle.zs_exchange.specs.Exchange.{kept_messages}

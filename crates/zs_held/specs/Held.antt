@@ -2,7 +2,7 @@
 use Rattle.std.specs.Prelude.{◌≡◌, ℕ, ◌+◌, ◌≤◌, Bool, true, length, drop}
 use Rattle.zs_events.specs.declared.event.Event.{Event}
 use Rattle.zs_events.specs.declared.turn.Turn.{Turn}
-use Rattle.zs_core.specs.declared.settings.Settings.{Settings}
+use Rattle.zs_core.specs.Types.{Settings}
 use Rattle.zs_books.specs.Callers.{AccountsSeen, CallerSeen}
 use Rattle.zs_session_cell.specs.Journals.{SessionSeen, session_with}
 use Rattle.zs_posts.specs.Settled.{PostsSeen}

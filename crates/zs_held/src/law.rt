@@ -1,3 +1,5 @@
+//! The law by which callers know whether an event is answered a number.
+
 ghost use Rattle.zs_held.specs.Numbers.{NumbersAreTold};
 
 use zs_core::answers_are_numbered;

@@ -33,16 +33,16 @@ use Rattle.zs_events.specs.declared.turn.Effect.TheVariants.{Send, Hand, End}
 use Rattle.zs_events.specs.declared.turn.HandOver.TheVariants.{Sample as sample_for, Reply as reply_for}
 use Rattle.zs_events.specs.declared.turn.Kind.TheVariants.{Subscriber, Queryable as queryable_kind, LivelinessSubscriber, LivelinessGet as tokens_kind}
 use Rattle.zs_events.specs.Kinds.{NamedKey, Publishes, NoContent, OwnContent, ByPublisher, ToLiveliness, NoToken, Subscribes, AsksTokens, TellsToken, EndsToken, EndsAnswers, row_of}
-use Rattle.zs_core.specs.Publications.{Publication, sample_on, allows, hands}
-use Rattle.zs_core.specs.Subscribers.{sub_at, sub_ends}
-use Rattle.zs_core.specs.Publishers.{pub_at, resolved}
-use Rattle.zs_core.specs.Queriers.{querier_at}
-use Rattle.zs_core.specs.Queryables.{queryable_at, queryable_ends}
-use Rattle.zs_core.specs.Groups.{Shared, sub_shared, pub_shared, querier_shared, Company, joins_first, last_number, sends_if, last_sends, leaving, subscriber_end, interest_end, querier_end}
-use Rattle.zs_core.specs.Sends.{OwnKeys, full_wire, wire_form, declaration_of, key_sends, return_sends, is_sent, push_with, publication_sends, sends_of}
-use Rattle.zs_core.specs.Tokens.{answers, is_told}
-use Rattle.zs_core.specs.LivelinessEffects.{Watch, token_sample, hand_token, hand_told, token_reply, end_asking, lsub_ends, token_hands, history_hands, told_hands, answer_hands, ended_text, watch_effects}
-use Rattle.zs_core.specs.Effects.{Known, key_wire, queryable_leaves, entity_sends, token_declaration, lsub_mode, token_interest, declared_sends, publication_on, hands_for, hands_of, ends_of}
+use Rattle.zs_model.specs.Publications.{Publication, sample_on, allows, hands}
+use Rattle.zs_model.specs.Subscribers.{sub_at, sub_ends}
+use Rattle.zs_model.specs.Publishers.{pub_at, resolved}
+use Rattle.zs_model.specs.Queriers.{querier_at}
+use Rattle.zs_model.specs.Queryables.{queryable_at, queryable_ends}
+use Rattle.zs_model.specs.Groups.{Shared, sub_shared, pub_shared, querier_shared, Company, joins_first, last_number, sends_if, last_sends, leaving, subscriber_end, interest_end, querier_end}
+use Rattle.zs_model.specs.Sends.{OwnKeys, full_wire, wire_form, declaration_of, key_sends, return_sends, is_sent, push_with, publication_sends, sends_of}
+use Rattle.zs_model.specs.Tokens.{answers, is_told}
+use Rattle.zs_model.specs.LivelinessEffects.{Watch, token_sample, hand_token, hand_told, token_reply, end_asking, lsub_ends, token_hands, history_hands, told_hands, answer_hands, ended_text, watch_effects}
+use Rattle.zs_model.specs.Effects.{Known, key_wire, queryable_leaves, entity_sends, token_declaration, lsub_mode, token_interest, declared_sends, publication_on, hands_for, hands_of, ends_of}
 
 -- what holds of each sort: of what is sent, of samples for those who live, of the ends of these, of what a new subscriber to liveliness is
 -- handed, of what gets of tokens are handed and their ends, and of the end of what an event undeclares

@@ -39,21 +39,21 @@ use Rattle.zs_events.specs.declared.publication.ReplyQuality.{ReplyQuality}
 use Rattle.zs_events.specs.declared.turn.Answer.TheVariants.{Ok as accepted}
 use Rattle.zs_events.specs.declared.turn.Effect.TheVariants.{Send}
 use Rattle.zs_events.specs.Kinds.{NamedKey, OwnKey, QuerierKey, Question, Asks, ToValues, NoValue, QueryNumber, row_of}
-use Rattle.zs_core.specs.World.{World}
-use Rattle.zs_core.specs.declared.querier.QuerierRow.{QuerierRow}
-use Rattle.zs_core.specs.Answers.{quality_of, local_reply, local_error, response_by, news_of_reply, news_of_finished}
-use Rattle.zs_core.specs.Counters.{draws_query}
-use Rattle.zs_core.specs.GetEffects.{hand_reply, hand_query, end_get, last_hands, reply_effects, response_effects, final_effects, ends_effects, ended_numbers, cut_effects, request_sends, ask_effects, asked_effects, request_effects, told_effects, with_gets}
-use Rattle.zs_core.specs.Gets.{sample_reply, response_news}
-use Rattle.zs_core.specs.LivelinessEffects.{hand_answer, end_asking, cancelled_ends, asking_ends}
-use Rattle.zs_core.specs.Queriers.{querier_at, question_of, asks_of}
-use Rattle.zs_core.specs.Questions.{is_some_met, row_waiting, request_of}
-use Rattle.zs_core.specs.Sends.{full_wire, wire_form, declaration_of}
-use Rattle.zs_core.specs.Values.{met_by_get, get_request, drawn_by}
-use Rattle.zs_core.specs.ValueEffects.{Answering, requested_effects, replied_effects, error_effects, answer_effects, answer_error_effects, finish_effects}
-use Rattle.zs_core.specs.Effects.{answering, draws_of, effects_on}
-use Rattle.zs_core.specs.Turns.{to_gets_at, known_at}
-use Rattle.zs_core.proofs.Gets.{asking_by, IsAskedUnder}
+use Rattle.zs_world.specs.World.{World}
+use Rattle.zs_model.specs.declared.querier.QuerierRow.{QuerierRow}
+use Rattle.zs_model.specs.Answers.{quality_of, local_reply, local_error, response_by, news_of_reply, news_of_finished}
+use Rattle.zs_model.specs.Counters.{draws_query}
+use Rattle.zs_model.specs.GetEffects.{hand_reply, hand_query, end_get, last_hands, reply_effects, response_effects, final_effects, ends_effects, ended_numbers, cut_effects, request_sends, ask_effects, asked_effects, request_effects, told_effects, with_gets}
+use Rattle.zs_model.specs.Gets.{sample_reply, response_news}
+use Rattle.zs_model.specs.LivelinessEffects.{hand_answer, end_asking, cancelled_ends, asking_ends}
+use Rattle.zs_model.specs.Queriers.{querier_at, question_of, asks_of}
+use Rattle.zs_model.specs.Questions.{is_some_met, row_waiting, request_of}
+use Rattle.zs_model.specs.Sends.{full_wire, wire_form, declaration_of}
+use Rattle.zs_model.specs.Values.{met_by_get, get_request, drawn_by}
+use Rattle.zs_model.specs.ValueEffects.{Answering, requested_effects, replied_effects, error_effects, answer_effects, answer_error_effects, finish_effects}
+use Rattle.zs_model.specs.Effects.{answering, draws_of, effects_on}
+use Rattle.zs_world.specs.Turns.{to_gets_at, known_at}
+use Rattle.zs_model.proofs.Gets.{asking_by, IsAskedUnder}
 use Rattle.zs_laws.specs.Ended.{get_ended, picked, begun}
 use Rattle.zs_laws.proofs.Around.{others_of}
 use Rattle.zs_laws.proofs.Leaving.{gone, none_gone, filter_more, only}

@@ -29,27 +29,27 @@ use Rattle.zs_events.specs.declared.turn.Turn.{Turn}
 use Rattle.zs_events.specs.Kinds.{Draws, QueryNumber, ToGets, NoGet, Asks, AsksBy, Answers, EndsSide, Reaches, EndsQuerier, Cancels, EndsAll, ToValues, row_of}
 use Rattle.zs_tables.specs.declared.queryable.QueryableRow.{QueryableRow}
 use Rattle.zs_query.specs.declared.query_value.QueryValue.{QueryValue}
-use Rattle.zs_core.specs.declared.settings.Settings.{Settings}
-use Rattle.zs_core.specs.declared.change.Decision.{Decision}
-use Rattle.zs_core.specs.World.{World, present_at}
-use Rattle.zs_core.specs.Entry.{Entry, is_closed}
-use Rattle.zs_core.specs.Causes.{refusal_of}
-use Rattle.zs_core.specs.Past.{past_of, entry_of, with_entry}
-use Rattle.zs_core.specs.Changes.{change_for, with_change}
-use Rattle.zs_core.specs.Counters.{draws_query, next_query}
-use Rattle.zs_core.specs.Gets.{asked, open_now, news_of}
-use Rattle.zs_core.specs.Listeners.{is_listener, listener_ends}
-use Rattle.zs_core.specs.Matching.{turned}
-use Rattle.zs_core.specs.Questions.{row_waiting}
-use Rattle.zs_core.specs.Values.{met_by_get}
-use Rattle.zs_core.specs.Turns.{text_for, to_gets_at, number_for, decision, with_listeners, listener_effects_at}
-use Rattle.zs_core.specs.Stands.{lives, world_of, world_after}
-use Rattle.zs_core.specs.Effects.{effects, turn_of}
-use Rattle.zs_core.proofs.Changes.{made}
-use Rattle.zs_core.proofs.Decisions.{cases}
-use Rattle.zs_core.proofs.Gets.{AreAsked, asking_by}
-use Rattle.zs_core.proofs.Saying.{IsMade}
-use Rattle.zs_core.proofs.Stands.{standing, same_turn, steps}
+use Rattle.zs_model.specs.declared.settings.Settings.{Settings}
+use Rattle.zs_world.specs.declared.change.Decision.{Decision}
+use Rattle.zs_world.specs.World.{World, present_at}
+use Rattle.zs_model.specs.Entry.{Entry, is_closed}
+use Rattle.zs_model.specs.Causes.{refusal_of}
+use Rattle.zs_model.specs.Past.{past_of, entry_of, with_entry}
+use Rattle.zs_world.specs.Changes.{change_for, with_change}
+use Rattle.zs_model.specs.Counters.{draws_query, next_query}
+use Rattle.zs_model.specs.Gets.{asked, open_now, news_of}
+use Rattle.zs_model.specs.Listeners.{is_listener, listener_ends}
+use Rattle.zs_model.specs.Matching.{turned}
+use Rattle.zs_model.specs.Questions.{row_waiting}
+use Rattle.zs_model.specs.Values.{met_by_get}
+use Rattle.zs_world.specs.Turns.{text_for, to_gets_at, number_for, decision, with_listeners, listener_effects_at}
+use Rattle.zs_standing.specs.Stands.{lives, world_of, world_after}
+use Rattle.zs_model.specs.Effects.{effects, turn_of}
+use Rattle.zs_standing.proofs.Changes.{made}
+use Rattle.zs_standing.proofs.Decisions.{cases}
+use Rattle.zs_model.proofs.Gets.{AreAsked, asking_by}
+use Rattle.zs_standing.proofs.Saying.{IsMade}
+use Rattle.zs_standing.proofs.Stands.{standing, same_turn, steps}
 use Rattle.zs_laws.specs.Ended.{get_ended, with_number, picked, begun, EndsOfGets, EndedGetsStayEnded}
 use Rattle.zs_laws.proofs.EndsLost.{numbers, lost, nothing_lost, same_there, keeps_row, after, IsFit, ends_lost}
 use Rattle.zs_laws.proofs.Fresh.{number_answered, query_drawn}

@@ -20,21 +20,21 @@ use Rattle.zs_events.specs.declared.turn.Effect.TheVariants.{Matching}
 use Rattle.zs_events.specs.declared.turn.Refusal.{Refusal}
 use Rattle.zs_events.specs.Turn.{answered}
 use Rattle.zs_events.specs.Kinds.{ToLiveliness, AsksTokens, message_row, row_of}
-use Rattle.zs_core.specs.declared.settings.Settings.{Settings}
-use Rattle.zs_core.specs.Causes.{refusal_of}
-use Rattle.zs_core.specs.Counters.{draws_entity, next_entity}
-use Rattle.zs_core.specs.Entry.{Entry, is_closed}
-use Rattle.zs_core.specs.Gets.{moment_of}
-use Rattle.zs_core.specs.Held.{named_text}
-use Rattle.zs_core.specs.Listeners.{is_listener, listener_ends}
-use Rattle.zs_core.specs.Live.{live_listeners}
-use Rattle.zs_core.specs.Matching.{is_matched, turned, listener_effects}
-use Rattle.zs_core.specs.Past.{past_of, entry_of, with_entry}
-use Rattle.zs_core.specs.Tokens.{tokens_asked, ends_asking, asking_now}
-use Rattle.zs_core.specs.Effects.{known_of, effects_on, effects_behind}
-use Rattle.zs_core.specs.Stands.{world_after}
-use Rattle.zs_core.proofs.Stands.{standing}
-use Rattle.zs_core.proofs.Watching.{asking_more}
+use Rattle.zs_model.specs.declared.settings.Settings.{Settings}
+use Rattle.zs_model.specs.Causes.{refusal_of}
+use Rattle.zs_model.specs.Counters.{draws_entity, next_entity}
+use Rattle.zs_model.specs.Entry.{Entry, is_closed}
+use Rattle.zs_model.specs.Gets.{moment_of}
+use Rattle.zs_model.specs.Held.{named_text}
+use Rattle.zs_model.specs.Listeners.{is_listener, listener_ends}
+use Rattle.zs_model.specs.Live.{live_listeners}
+use Rattle.zs_model.specs.Matching.{is_matched, turned, listener_effects}
+use Rattle.zs_model.specs.Past.{past_of, entry_of, with_entry}
+use Rattle.zs_model.specs.Tokens.{tokens_asked, ends_asking, asking_now}
+use Rattle.zs_model.specs.Effects.{known_of, effects_on, effects_behind}
+use Rattle.zs_standing.specs.Stands.{world_after}
+use Rattle.zs_standing.proofs.Stands.{standing}
+use Rattle.zs_standing.proofs.Watching.{asking_more}
 use Rattle.zs_laws.specs.Ended.{tokens_ended, picked, EndsOfTokensGets}
 use Rattle.zs_laws.proofs.Fresh.{entity_drawn}
 use Rattle.zs_laws.proofs.Leaving.{filter_numbers, found_kept, found_here, filter_false}

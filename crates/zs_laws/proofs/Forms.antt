@@ -16,16 +16,16 @@ use Rattle.zs_tables.specs.declared.group_kind.GroupKind.{GroupKind}
 use Rattle.zs_tables.specs.declared.group_kind.GroupKind.TheVariants.{Subscribers, Publishers, Queriers}
 use Rattle.zs_events.specs.declared.event.Event.{Event}
 use Rattle.zs_events.specs.Kinds.{row_of}
-use Rattle.zs_core.specs.declared.settings.Settings.{Settings}
-use Rattle.zs_core.specs.Entry.{Entry}
-use Rattle.zs_core.specs.Held.{named_text}
-use Rattle.zs_core.specs.Past.{past_of, entry_of}
-use Rattle.zs_core.specs.Values.{values_now}
-use Rattle.zs_core.specs.Groups.{aggregate_of, aggregates_of, declaration_by}
-use Rattle.zs_core.specs.Sends.{OwnKeys, has_front, goes_by_number, full_wire, number_wire, wire_form, group_wire, declaration_of}
-use Rattle.zs_core.specs.Effects.{known_of}
-use Rattle.zs_core.specs.Received.{wire_in, AreSpelled, AreUtf8}
-use Rattle.zs_core.proofs.Reading.{front_and_rest, found_one}
+use Rattle.zs_model.specs.declared.settings.Settings.{Settings}
+use Rattle.zs_model.specs.Entry.{Entry}
+use Rattle.zs_model.specs.Held.{named_text}
+use Rattle.zs_model.specs.Past.{past_of, entry_of}
+use Rattle.zs_model.specs.Values.{values_now}
+use Rattle.zs_model.specs.Groups.{aggregate_of, aggregates_of, declaration_by}
+use Rattle.zs_model.specs.Sends.{OwnKeys, has_front, goes_by_number, full_wire, number_wire, wire_form, group_wire, declaration_of}
+use Rattle.zs_model.specs.Effects.{known_of}
+use Rattle.zs_model.specs.Received.{wire_in, AreSpelled, AreUtf8}
+use Rattle.zs_laws.proofs.Reading.{front_and_rest, found_one}
 use Rattle.zs_laws.specs.Spelled.{AllSpelled, IsSent, SentKeysAreSpelled}
 use Rattle.zs_laws.proofs.Sent.{Sending, told_all, by_accepting}
 use Rattle.zs_laws.proofs.Tested.{AreKeyed, found_of, values_of}

@@ -17,16 +17,16 @@ use Rattle.zs_events.specs.declared.turn.Answer.TheVariants.{Ok as accepted}
 use Rattle.zs_events.specs.declared.turn.Refusal.{Refusal}
 use Rattle.zs_events.specs.Turn.{answered}
 use Rattle.zs_events.specs.Kinds.{Draws, EntityNumber, QueryNumber, CancellationNumber, ToGets, NoGet, Asks, ToValues, Requested, SharesValue, GivesBack, row_of}
-use Rattle.zs_core.specs.declared.settings.Settings.{Settings}
-use Rattle.zs_core.specs.Entry.{Entry, is_closed}
-use Rattle.zs_core.specs.Held.{named_text}
-use Rattle.zs_core.specs.Live.{live_queryables, to_gets_of}
-use Rattle.zs_core.specs.Counters.{draws_entity, draws_query, next_entity, next_query, drawn_number}
-use Rattle.zs_core.specs.Cancelling.{draws_cancellation_token, next_cancellation_token}
-use Rattle.zs_core.specs.Causes.{refusal_of}
-use Rattle.zs_core.specs.Past.{past_of, entry_of, with_entry}
-use Rattle.zs_core.specs.Values.{get_request, network_request, met_by_get, met_by_request, share_of, drawn_by, news_by_draw, times_handed, handing_by, value_news}
-use Rattle.zs_core.specs.Effects.{effects, effects_behind}
+use Rattle.zs_model.specs.declared.settings.Settings.{Settings}
+use Rattle.zs_model.specs.Entry.{Entry, is_closed}
+use Rattle.zs_model.specs.Held.{named_text}
+use Rattle.zs_model.specs.Live.{live_queryables, to_gets_of}
+use Rattle.zs_model.specs.Counters.{draws_entity, draws_query, next_entity, next_query, drawn_number}
+use Rattle.zs_model.specs.Cancelling.{draws_cancellation_token, next_cancellation_token}
+use Rattle.zs_model.specs.Causes.{refusal_of}
+use Rattle.zs_model.specs.Past.{past_of, entry_of, with_entry}
+use Rattle.zs_model.specs.Values.{get_request, network_request, met_by_get, met_by_request, share_of, drawn_by, news_by_draw, times_handed, handing_by, value_news}
+use Rattle.zs_model.specs.Effects.{effects, effects_behind}
 use Rattle.zs_laws.specs.Fresh.{is_number, was_drawn, AreFresh, EntityNumbersAreFresh, QueryNumbersAreFresh, CancellationTokensAreFresh, was_value, QueryValuesAreFresh}
 
 -- a counter: the numbers of a sort are its, and it rises by one with each

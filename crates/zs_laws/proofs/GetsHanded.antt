@@ -26,17 +26,17 @@ use Rattle.zs_events.specs.declared.turn.Effect.TheVariants.{Matching}
 use Rattle.zs_events.specs.declared.turn.Refusal.{Refusal}
 use Rattle.zs_events.specs.Turn.{answered}
 use Rattle.zs_events.specs.Kinds.{row_of}
-use Rattle.zs_core.specs.Causes.{refusal_of}
-use Rattle.zs_core.specs.Entry.{Entry, is_closed}
-use Rattle.zs_core.specs.Gets.{asked, open_now}
-use Rattle.zs_core.specs.Held.{named_text}
-use Rattle.zs_core.specs.Listeners.{is_listener, listener_ends}
-use Rattle.zs_core.specs.Live.{live_listeners, to_gets_of}
-use Rattle.zs_core.specs.Matching.{is_matched, turned, listener_effects}
-use Rattle.zs_core.specs.Past.{past_of, entry_of}
-use Rattle.zs_core.specs.Values.{values_now}
-use Rattle.zs_core.specs.Effects.{known_of, effects_on, effects_behind, effects}
-use Rattle.zs_core.proofs.Stands.{standing}
+use Rattle.zs_model.specs.Causes.{refusal_of}
+use Rattle.zs_model.specs.Entry.{Entry, is_closed}
+use Rattle.zs_model.specs.Gets.{asked, open_now}
+use Rattle.zs_model.specs.Held.{named_text}
+use Rattle.zs_model.specs.Listeners.{is_listener, listener_ends}
+use Rattle.zs_model.specs.Live.{live_listeners, to_gets_of}
+use Rattle.zs_model.specs.Matching.{is_matched, turned, listener_effects}
+use Rattle.zs_model.specs.Past.{past_of, entry_of}
+use Rattle.zs_model.specs.Values.{values_now}
+use Rattle.zs_model.specs.Effects.{known_of, effects_on, effects_behind, effects}
+use Rattle.zs_standing.proofs.Stands.{standing}
 use Rattle.zs_laws.specs.Handed.{handed_to, handed_now, kept_by, is_last, handed_by, errors_by, heard_at, accepted_alone, GetsAreHanded}
 use Rattle.zs_laws.proofs.Leaving.{same_number, not_same}
 use Rattle.zs_laws.proofs.Handed.{handed_append, peeked, ended_with, at_end, given_by, given_to}

@@ -18,21 +18,21 @@ use Rattle.zs_events.specs.declared.event.Event.{Event}
 use Rattle.zs_events.specs.declared.turn.Refusal.{Refusal}
 use Rattle.zs_events.specs.Turn.{answered}
 use Rattle.zs_events.specs.Kinds.{ToGets, NoGet, Asks, AsksBy, Answers, EndsSide, Reaches, EndsQuerier, Cancels, EndsAll, ToValues, AnswersError, row_of}
-use Rattle.zs_core.specs.declared.settings.Settings.{Settings}
-use Rattle.zs_core.specs.declared.querier.QuerierRow.{QuerierRow}
-use Rattle.zs_core.specs.Answers.{local_error}
-use Rattle.zs_core.specs.Causes.{has_cause, in_order, past_sight, refusal_of, is_net}
-use Rattle.zs_core.specs.Entry.{Entry, is_closed}
-use Rattle.zs_core.specs.Gets.{asked, open_now, error_reply, is_idle, is_idle_response}
-use Rattle.zs_core.specs.Held.{named_text}
-use Rattle.zs_core.specs.Live.{live_queriers, to_gets_of}
-use Rattle.zs_core.specs.Matching.{told_subs, told_queryables, is_untold}
-use Rattle.zs_core.specs.Past.{past_of, entry_of}
-use Rattle.zs_core.specs.Queriers.{querier_at, asks_of, to_gets_by}
-use Rattle.zs_core.specs.Tokens.{is_pointless}
-use Rattle.zs_core.specs.Values.{values_now}
-use Rattle.zs_core.specs.Effects.{known_of, effects_on, effects_behind}
-use Rattle.zs_core.proofs.Stands.{standing}
+use Rattle.zs_model.specs.declared.settings.Settings.{Settings}
+use Rattle.zs_model.specs.declared.querier.QuerierRow.{QuerierRow}
+use Rattle.zs_model.specs.Answers.{local_error}
+use Rattle.zs_model.specs.Causes.{has_cause, in_order, past_sight, refusal_of, is_net}
+use Rattle.zs_model.specs.Entry.{Entry, is_closed}
+use Rattle.zs_model.specs.Gets.{asked, open_now, error_reply, is_idle, is_idle_response}
+use Rattle.zs_model.specs.Held.{named_text}
+use Rattle.zs_model.specs.Live.{live_queriers, to_gets_of}
+use Rattle.zs_model.specs.Matching.{told_subs, told_queryables, is_untold}
+use Rattle.zs_model.specs.Past.{past_of, entry_of}
+use Rattle.zs_model.specs.Queriers.{querier_at, asks_of, to_gets_by}
+use Rattle.zs_model.specs.Tokens.{is_pointless}
+use Rattle.zs_model.specs.Values.{values_now}
+use Rattle.zs_model.specs.Effects.{known_of, effects_on, effects_behind}
+use Rattle.zs_standing.proofs.Stands.{standing}
 use Rattle.zs_laws.specs.Handed.{handed_to, error_of, error_by, errors_by, heard_at, OthersAreHandedNothing}
 use Rattle.zs_laws.proofs.Handed.{peeked, ended_with, at_end, given_by, given_to}
 use Rattle.zs_laws.proofs.GetsHanded.{unheard}

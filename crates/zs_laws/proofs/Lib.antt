@@ -20,3 +20,19 @@ mod TokensEnded
 mod EndsOfTokens
 mod Unended
 mod Ordered
+pub mod Covered
+pub mod Endings
+pub mod Finals
+pub mod KeyNumbers
+pub mod Knowing
+pub mod OneMessage
+pub mod Reading
+pub mod Received
+pub mod Recipients
+pub mod ToldNumbers
+pub mod Untaken
+pub mod SpelledTexts
+pub mod SentMessages
+pub mod CoveredGroups
+pub mod CoveredKeys
+pub mod Silent

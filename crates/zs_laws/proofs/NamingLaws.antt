@@ -25,26 +25,26 @@ use Rattle.zs_events.specs.Turn.{answered}
 use Rattle.zs_events.specs.Kinds.{Subscribes, message_row, row_of}
 use Rattle.zs_wire.specs.declared.message.Message.{Message}
 use Rattle.zs_wire.specs.declared.message.Message.TheVariants.{Request as request_message}
-use Rattle.zs_core.specs.declared.settings.Settings.{Settings}
-use Rattle.zs_core.specs.World.{World}
-use Rattle.zs_core.specs.Causes.{has_cause, in_order, past_sight, refusal_of}
-use Rattle.zs_core.specs.Seen.{is_unheld, is_not_found}
-use Rattle.zs_core.specs.Counters.{draws_entity, next_entity}
-use Rattle.zs_core.specs.Entry.{Entry, is_closed}
-use Rattle.zs_core.specs.Held.{named_text}
-use Rattle.zs_core.specs.Listeners.{is_listener, listener_ends}
-use Rattle.zs_core.specs.Live.{declared, is_live, was_left, live_subs, live_queryables, live_lsubs, live_listeners, names_some}
-use Rattle.zs_core.specs.Liveliness.{lsub_row}
-use Rattle.zs_core.specs.Matching.{is_matched, turned, listener_effects}
-use Rattle.zs_core.specs.Past.{past_of, entry_of, with_entry}
-use Rattle.zs_core.specs.Queryables.{queryable_row}
-use Rattle.zs_core.specs.Subscribers.{sub_row}
-use Rattle.zs_core.specs.Tokens.{asking_now}
-use Rattle.zs_core.specs.Effects.{known_of, effects_on, effects_behind, effects}
-use Rattle.zs_core.specs.Stands.{world_after}
-use Rattle.zs_core.proofs.Entities.{AreRows}
-use Rattle.zs_core.proofs.Knowing.{numbered}
-use Rattle.zs_core.proofs.Stands.{standing}
+use Rattle.zs_model.specs.declared.settings.Settings.{Settings}
+use Rattle.zs_world.specs.World.{World}
+use Rattle.zs_model.specs.Causes.{has_cause, in_order, past_sight, refusal_of}
+use Rattle.zs_model.specs.Seen.{is_unheld, is_not_found}
+use Rattle.zs_model.specs.Counters.{draws_entity, next_entity}
+use Rattle.zs_model.specs.Entry.{Entry, is_closed}
+use Rattle.zs_model.specs.Held.{named_text}
+use Rattle.zs_model.specs.Listeners.{is_listener, listener_ends}
+use Rattle.zs_model.specs.Live.{declared, is_live, was_left, live_subs, live_queryables, live_lsubs, live_listeners, names_some}
+use Rattle.zs_model.specs.Liveliness.{lsub_row}
+use Rattle.zs_model.specs.Matching.{is_matched, turned, listener_effects}
+use Rattle.zs_model.specs.Past.{past_of, entry_of, with_entry}
+use Rattle.zs_model.specs.Queryables.{queryable_row}
+use Rattle.zs_model.specs.Subscribers.{sub_row}
+use Rattle.zs_model.specs.Tokens.{asking_now}
+use Rattle.zs_model.specs.Effects.{known_of, effects_on, effects_behind, effects}
+use Rattle.zs_standing.specs.Stands.{world_after}
+use Rattle.zs_model.proofs.Entities.{AreRows}
+use Rattle.zs_laws.proofs.Knowing.{numbered}
+use Rattle.zs_standing.proofs.Stands.{standing}
 use Rattle.zs_laws.specs.Naming.{entity_named, EffectsNameDeclared, EarlierEffectsNameNoNewEntity}
 use Rattle.zs_laws.proofs.Around.{any_holds}
 use Rattle.zs_laws.proofs.Fresh.{entity_drawn, number_answered}

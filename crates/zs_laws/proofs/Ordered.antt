@@ -47,29 +47,29 @@ use Rattle.zs_events.specs.declared.turn.Kind.TheVariants.{Subscriber, Queryable
 use Rattle.zs_events.specs.declared.turn.Refusal.{Refusal}
 use Rattle.zs_events.specs.Turn.{answered}
 use Rattle.zs_events.specs.Kinds.{NamedKey, OwnKey, QuerierKey, Question, NoValue, Publishes, NoContent, OwnContent, ByPublisher, ToLiveliness, NoToken, Subscribes, AsksTokens, TellsToken, EndsToken, EndsAnswers, row_of}
-use Rattle.zs_core.specs.declared.querier.QuerierRow.{QuerierRow}
-use Rattle.zs_core.specs.Answers.{quality_of, local_reply, local_error, response_by}
-use Rattle.zs_core.specs.Causes.{refusal_of}
-use Rattle.zs_core.specs.Entry.{Entry, is_closed}
-use Rattle.zs_core.specs.GetEffects.{hand_reply, hand_query, end_get, last_hands, reply_effects, response_effects, final_effects, ends_effects, ended_numbers, cut_effects, ask_effects, asked_effects, request_effects, told_effects, with_gets}
-use Rattle.zs_core.specs.Gets.{sample_reply}
-use Rattle.zs_core.specs.Held.{named_text}
-use Rattle.zs_core.specs.Listeners.{is_listener, listener_ends}
-use Rattle.zs_core.specs.Live.{live_listeners}
-use Rattle.zs_core.specs.LivelinessEffects.{Watch, hand_token, hand_told, hand_answer, end_asking, cancelled_ends, asking_ends, lsub_ends, token_hands, history_hands, told_hands, answer_hands, ended_text, watch_effects}
-use Rattle.zs_core.specs.Matching.{is_matched, turned, listener_effects}
-use Rattle.zs_core.specs.Past.{past_of, entry_of}
-use Rattle.zs_core.specs.Publications.{Publication, sample_on, allows}
-use Rattle.zs_core.specs.Publishers.{resolved}
-use Rattle.zs_core.specs.Queriers.{querier_at, question_of, asks_of}
-use Rattle.zs_core.specs.Queryables.{queryable_ends}
-use Rattle.zs_core.specs.Questions.{request_of}
-use Rattle.zs_core.specs.Sends.{full_wire, wire_form, declaration_of, sends_of}
-use Rattle.zs_core.specs.Subscribers.{sub_ends}
-use Rattle.zs_core.specs.Tokens.{answers, is_told}
-use Rattle.zs_core.specs.Values.{drawn_by}
-use Rattle.zs_core.specs.ValueEffects.{Answering, requested_effects, replied_effects, answer_effects, answer_error_effects, finish_effects}
-use Rattle.zs_core.specs.Effects.{Known, known_of, answering, draws_of, entity_sends, hands_of, hands_for, publication_on, ends_of, effects_on, effects_behind}
+use Rattle.zs_model.specs.declared.querier.QuerierRow.{QuerierRow}
+use Rattle.zs_model.specs.Answers.{quality_of, local_reply, local_error, response_by}
+use Rattle.zs_model.specs.Causes.{refusal_of}
+use Rattle.zs_model.specs.Entry.{Entry, is_closed}
+use Rattle.zs_model.specs.GetEffects.{hand_reply, hand_query, end_get, last_hands, reply_effects, response_effects, final_effects, ends_effects, ended_numbers, cut_effects, ask_effects, asked_effects, request_effects, told_effects, with_gets}
+use Rattle.zs_model.specs.Gets.{sample_reply}
+use Rattle.zs_model.specs.Held.{named_text}
+use Rattle.zs_model.specs.Listeners.{is_listener, listener_ends}
+use Rattle.zs_model.specs.Live.{live_listeners}
+use Rattle.zs_model.specs.LivelinessEffects.{Watch, hand_token, hand_told, hand_answer, end_asking, cancelled_ends, asking_ends, lsub_ends, token_hands, history_hands, told_hands, answer_hands, ended_text, watch_effects}
+use Rattle.zs_model.specs.Matching.{is_matched, turned, listener_effects}
+use Rattle.zs_model.specs.Past.{past_of, entry_of}
+use Rattle.zs_model.specs.Publications.{Publication, sample_on, allows}
+use Rattle.zs_model.specs.Publishers.{resolved}
+use Rattle.zs_model.specs.Queriers.{querier_at, question_of, asks_of}
+use Rattle.zs_model.specs.Queryables.{queryable_ends}
+use Rattle.zs_model.specs.Questions.{request_of}
+use Rattle.zs_model.specs.Sends.{full_wire, wire_form, declaration_of, sends_of}
+use Rattle.zs_model.specs.Subscribers.{sub_ends}
+use Rattle.zs_model.specs.Tokens.{answers, is_told}
+use Rattle.zs_model.specs.Values.{drawn_by}
+use Rattle.zs_model.specs.ValueEffects.{Answering, requested_effects, replied_effects, answer_effects, answer_error_effects, finish_effects}
+use Rattle.zs_model.specs.Effects.{Known, known_of, answering, draws_of, entity_sends, hands_of, hands_for, publication_on, ends_of, effects_on, effects_behind}
 use Rattle.zs_laws.specs.Order.{place, AreInOrder, EffectsAreInOrder}
 use Rattle.zs_laws.proofs.Around.{others_of, sends_around, entity_around}
 

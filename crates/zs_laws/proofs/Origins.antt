@@ -15,20 +15,20 @@ use Rattle.zs_tables.specs.declared.group_kind.GroupKind.TheVariants.{Subscriber
 use Rattle.zs_events.specs.declared.event.Event.{Event}
 use Rattle.zs_events.specs.declared.publication.Content.{Content}
 use Rattle.zs_events.specs.Kinds.{OwnContent, ToValues, AnswersError, row_of}
-use Rattle.zs_core.specs.declared.settings.Settings.{Settings}
-use Rattle.zs_core.specs.Entry.{Entry, is_closed}
-use Rattle.zs_core.specs.Held.{named_text}
-use Rattle.zs_core.specs.Live.{live_pubs}
-use Rattle.zs_core.specs.Causes.{refusal_of}
-use Rattle.zs_core.specs.Past.{past_of, entry_of}
-use Rattle.zs_core.specs.Publications.{sample_on}
-use Rattle.zs_core.specs.Publishers.{resolved}
-use Rattle.zs_core.specs.Values.{values_now}
-use Rattle.zs_core.specs.Sends.{wire_form, declaration_of, is_sent}
-use Rattle.zs_core.specs.Groups.{declaration_by}
-use Rattle.zs_core.specs.Effects.{known_of, publication_on}
-use Rattle.zs_core.specs.Received.{spoken_by, spoken_text}
-use Rattle.zs_core.proofs.Reading.{is_error, spoken_plain}
+use Rattle.zs_model.specs.declared.settings.Settings.{Settings}
+use Rattle.zs_model.specs.Entry.{Entry, is_closed}
+use Rattle.zs_model.specs.Held.{named_text}
+use Rattle.zs_model.specs.Live.{live_pubs}
+use Rattle.zs_model.specs.Causes.{refusal_of}
+use Rattle.zs_model.specs.Past.{past_of, entry_of}
+use Rattle.zs_model.specs.Publications.{sample_on}
+use Rattle.zs_model.specs.Publishers.{resolved}
+use Rattle.zs_model.specs.Values.{values_now}
+use Rattle.zs_model.specs.Sends.{wire_form, declaration_of, is_sent}
+use Rattle.zs_model.specs.Groups.{declaration_by}
+use Rattle.zs_model.specs.Effects.{known_of, publication_on}
+use Rattle.zs_model.specs.Received.{spoken_by, spoken_text}
+use Rattle.zs_laws.proofs.Reading.{is_error, spoken_plain}
 use Rattle.zs_laws.specs.Origins.{push_in, IsPublished, IsTested, HasOrigin, MessagesHaveOrigins}
 use Rattle.zs_laws.proofs.Sent.{ends_token, names_own, Sending, told_all, by_accepting}
 use Rattle.zs_laws.proofs.Tested.{IsCanonical, found_of, values_of, tested, past_tested}

@@ -5,9 +5,9 @@ use Rattle.zs_query.specs.declared.query_value.QueryValue.{QueryValue}
 use Rattle.zs_sample.specs.Reply.{Replied}
 use Rattle.zs_events.specs.declared.event.Event.{Event}
 use Rattle.zs_events.specs.declared.turn.Effect.{Effect}
-use Rattle.zs_core.specs.GetEffects.{hand_reply, hand_query, last_hands, end_get}
-use Rattle.zs_core.specs.LivelinessEffects.{hand_answer, end_asking}
-use Rattle.zs_core.specs.Effects.{Known}
+use Rattle.zs_model.specs.GetEffects.{hand_reply, hand_query, last_hands, end_get}
+use Rattle.zs_model.specs.LivelinessEffects.{hand_answer, end_asking}
+use Rattle.zs_model.specs.Effects.{Known}
 use Rattle.zs_laws.specs.Ended.{get_ended, with_number, picked}
 use Rattle.zs_laws.proofs.Around.{Around, others_of, others_around}
 

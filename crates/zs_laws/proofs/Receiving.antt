@@ -18,16 +18,16 @@ use Rattle.zs_events.specs.declared.event.Event.TheVariants.{Net}
 use Rattle.zs_events.specs.declared.turn.Refusal.{Refusal}
 use Rattle.zs_events.specs.declared.turn.Refusal.TheVariants.{BadKeyExpr}
 use Rattle.zs_events.specs.Kinds.{told_on}
-use Rattle.zs_core.specs.declared.settings.Settings.{Settings}
-use Rattle.zs_core.specs.Entry.{Entry, is_closed}
-use Rattle.zs_core.specs.Groups.{share_text}
-use Rattle.zs_core.specs.Held.{tells_number, told_text, mapped_text, wire_text}
-use Rattle.zs_core.specs.Causes.{holds, in_order, first_that, refusal_of}
-use Rattle.zs_core.specs.Past.{entry_of, with_entry, past_of}
-use Rattle.zs_core.specs.Effects.{effects}
-use Rattle.zs_core.specs.Received.{messages_of, sent_behind, sent, read_by, of_sender, number_text, read_as, wire_in, interest_means, meant_by, spoken_text, AreReadAs, AreSpelled}
-use Rattle.zs_core.proofs.Received.{keys_read}
-use Rattle.zs_core.proofs.OneMessage.{one_message}
+use Rattle.zs_model.specs.declared.settings.Settings.{Settings}
+use Rattle.zs_model.specs.Entry.{Entry, is_closed}
+use Rattle.zs_model.specs.Groups.{share_text}
+use Rattle.zs_model.specs.Held.{tells_number, told_text, mapped_text, wire_text}
+use Rattle.zs_model.specs.Causes.{holds, in_order, first_that, refusal_of}
+use Rattle.zs_model.specs.Past.{entry_of, with_entry, past_of}
+use Rattle.zs_model.specs.Effects.{effects}
+use Rattle.zs_model.specs.Received.{messages_of, sent_behind, sent, read_by, of_sender, number_text, read_as, wire_in, interest_means, meant_by, spoken_text, AreReadAs, AreSpelled}
+use Rattle.zs_laws.proofs.Received.{keys_read}
+use Rattle.zs_laws.proofs.OneMessage.{one_message}
 use Rattle.zs_laws.specs.Origins.{IsTested, HasOrigin}
 use Rattle.zs_laws.specs.Spelled.{AllSpelled}
 use Rattle.zs_laws.specs.Receiving.{given, number_messages, ReceiversReadKeys}

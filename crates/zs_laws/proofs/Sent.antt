@@ -38,28 +38,28 @@ use Rattle.zs_events.specs.declared.turn.Effect.TheVariants.{Send, Matching}
 use Rattle.zs_events.specs.declared.turn.Refusal.{Refusal}
 use Rattle.zs_events.specs.Turn.{answered}
 use Rattle.zs_events.specs.Kinds.{NamedKey, OwnKey, QuerierKey, Publishes, NoContent, OwnContent, ByPublisher, Question, ToGets, NoGet, Asks, AsksBy, Answers, EndsSide, Reaches, EndsQuerier, Cancels, EndsAll, AnswersError, ToLiveliness, EndsToken, row_of}
-use Rattle.zs_core.specs.declared.settings.Settings.{Settings}
-use Rattle.zs_core.specs.Entry.{Entry, is_closed}
-use Rattle.zs_core.specs.Held.{named_text}
-use Rattle.zs_core.specs.Live.{live_listeners}
-use Rattle.zs_core.specs.Listeners.{is_listener, listener_ends}
-use Rattle.zs_core.specs.Matching.{is_matched, turned, listener_effects}
-use Rattle.zs_core.specs.Causes.{refusal_of}
-use Rattle.zs_core.specs.Past.{past_of, entry_of}
-use Rattle.zs_core.specs.Subscribers.{sub_at}
-use Rattle.zs_core.specs.Publishers.{pub_at, resolved}
-use Rattle.zs_core.specs.Queriers.{querier_at}
-use Rattle.zs_core.specs.Queryables.{queryable_at}
-use Rattle.zs_core.specs.Questions.{request_of}
-use Rattle.zs_core.specs.GetEffects.{request_effects, final_effects}
-use Rattle.zs_core.specs.Answers.{quality_of, local_reply, local_error, response_by}
-use Rattle.zs_core.specs.ValueEffects.{Answering, requested_effects, replied_effects, error_effects, answer_effects, answer_error_effects, finish_effects}
-use Rattle.zs_core.specs.Groups.{Shared, sub_shared, pub_shared, querier_shared, Company, joins_first, last_number, sends_if, last_sends, leaving, subscriber_end, interest_end, querier_end, declaration_by}
-use Rattle.zs_core.specs.Sends.{OwnKeys, full_wire, wire_form, group_wire, declared_by, declaration_of, key_sends, return_sends, is_sent, push_with, publication_sends, sends_of}
-use Rattle.zs_core.specs.Effects.{Known, known_of, to_gets_for, draws_of, answering, key_wire, queryable_leaves, entity_sends, token_declaration, lsub_mode, token_interest, declared_sends, effects_on, effects_behind, effects}
-use Rattle.zs_core.specs.Received.{messages_of, wire_in}
-use Rattle.zs_core.proofs.Messages.{messages_append, silent, no_messages_in_reply, no_messages_in_final, no_messages_in_queries, no_messages_in_error, told_beside, told_by_event, all_sends}
-use Rattle.zs_core.proofs.Reading.{request_cases, is_error}
+use Rattle.zs_model.specs.declared.settings.Settings.{Settings}
+use Rattle.zs_model.specs.Entry.{Entry, is_closed}
+use Rattle.zs_model.specs.Held.{named_text}
+use Rattle.zs_model.specs.Live.{live_listeners}
+use Rattle.zs_model.specs.Listeners.{is_listener, listener_ends}
+use Rattle.zs_model.specs.Matching.{is_matched, turned, listener_effects}
+use Rattle.zs_model.specs.Causes.{refusal_of}
+use Rattle.zs_model.specs.Past.{past_of, entry_of}
+use Rattle.zs_model.specs.Subscribers.{sub_at}
+use Rattle.zs_model.specs.Publishers.{pub_at, resolved}
+use Rattle.zs_model.specs.Queriers.{querier_at}
+use Rattle.zs_model.specs.Queryables.{queryable_at}
+use Rattle.zs_model.specs.Questions.{request_of}
+use Rattle.zs_model.specs.GetEffects.{request_effects, final_effects}
+use Rattle.zs_model.specs.Answers.{quality_of, local_reply, local_error, response_by}
+use Rattle.zs_model.specs.ValueEffects.{Answering, requested_effects, replied_effects, error_effects, answer_effects, answer_error_effects, finish_effects}
+use Rattle.zs_model.specs.Groups.{Shared, sub_shared, pub_shared, querier_shared, Company, joins_first, last_number, sends_if, last_sends, leaving, subscriber_end, interest_end, querier_end, declaration_by}
+use Rattle.zs_model.specs.Sends.{OwnKeys, full_wire, wire_form, group_wire, declared_by, declaration_of, key_sends, return_sends, is_sent, push_with, publication_sends, sends_of}
+use Rattle.zs_model.specs.Effects.{Known, known_of, to_gets_for, draws_of, answering, key_wire, queryable_leaves, entity_sends, token_declaration, lsub_mode, token_interest, declared_sends, effects_on, effects_behind, effects}
+use Rattle.zs_model.specs.Received.{messages_of, wire_in}
+use Rattle.zs_laws.proofs.SentMessages.{messages_append, silent, no_messages_in_reply, no_messages_in_final, no_messages_in_queries, no_messages_in_error, told_beside, told_by_event, all_sends}
+use Rattle.zs_laws.proofs.Reading.{request_cases, is_error}
 use Rattle.zs_query.proofs.Ascending.{all_append}
 use Rattle.zs_laws.specs.Origins.{push_in}
 

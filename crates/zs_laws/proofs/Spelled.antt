@@ -1,6 +1,6 @@
 -- The laws on what is sent, for spelled events.
-use Rattle.zs_core.proofs.Received.{keys_read}
-use Rattle.zs_core.proofs.Covered.{covered}
+use Rattle.zs_laws.proofs.Received.{keys_read}
+use Rattle.zs_laws.proofs.Covered.{covered}
 use Rattle.zs_laws.specs.Spelled.{SpelledFormsAreRead, SpelledSubscribersAreCovered}
 use Rattle.zs_laws.proofs.Texts.{past_utf8, event_utf8}
 

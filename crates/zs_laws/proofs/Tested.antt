@@ -17,20 +17,20 @@ use Rattle.zs_events.specs.declared.event.Event.TheVariants.{Undeclare, Net, Get
 use Rattle.zs_events.specs.declared.entity_kind.EntityKind.TheVariants.{Sub as sub_kind, Pub as pub_kind, Queryable as queryable_sort, Querier as querier_sort, Listener as listener_sort, Token as token_sort, Lsub as lsub_sort}
 use Rattle.zs_events.specs.declared.turn.Refusal.{Refusal}
 use Rattle.zs_events.specs.Kinds.{Question, Asks, ToValues, NoValue, ToLiveliness, EndsToken, row_of}
-use Rattle.zs_core.specs.declared.settings.Settings.{Settings}
-use Rattle.zs_core.specs.declared.querier.QuerierRow.{QuerierRow}
-use Rattle.zs_core.specs.World.{World}
-use Rattle.zs_core.specs.Entry.{Entry, is_closed}
-use Rattle.zs_core.specs.Held.{named_text}
-use Rattle.zs_core.specs.Past.{past_of, entry_of, with_entry}
-use Rattle.zs_core.specs.Causes.{has_cause, in_order, first_that, refusal_of}
-use Rattle.zs_core.specs.Seen.{is_bad}
-use Rattle.zs_core.specs.Tokens.{told_tokens, is_spared}
-use Rattle.zs_core.specs.Queriers.{querier_at, question_of, asks_of, to_gets_by}
-use Rattle.zs_core.specs.Values.{met_by_get, met_by_request, get_request, network_request, values_now}
-use Rattle.zs_core.proofs.Values.{handing_next}
-use Rattle.zs_core.proofs.Steps.{along}
-use Rattle.zs_core.proofs.Stands.{standing}
+use Rattle.zs_model.specs.declared.settings.Settings.{Settings}
+use Rattle.zs_model.specs.declared.querier.QuerierRow.{QuerierRow}
+use Rattle.zs_world.specs.World.{World}
+use Rattle.zs_model.specs.Entry.{Entry, is_closed}
+use Rattle.zs_model.specs.Held.{named_text}
+use Rattle.zs_model.specs.Past.{past_of, entry_of, with_entry}
+use Rattle.zs_model.specs.Causes.{has_cause, in_order, first_that, refusal_of}
+use Rattle.zs_model.specs.Seen.{is_bad}
+use Rattle.zs_model.specs.Tokens.{told_tokens, is_spared}
+use Rattle.zs_model.specs.Queriers.{querier_at, question_of, asks_of, to_gets_by}
+use Rattle.zs_model.specs.Values.{met_by_get, met_by_request, get_request, network_request, values_now}
+use Rattle.zs_model.proofs.Values.{handing_next}
+use Rattle.zs_standing.proofs.Steps.{along}
+use Rattle.zs_standing.proofs.Stands.{standing}
 use Rattle.zs_laws.proofs.Sent.{ends_token}
 
 -- the texts of the keys of these values are such

@@ -16,17 +16,17 @@ use Rattle.zs_events.specs.declared.key_arg.KeyArg.TheVariants.{Text, Number, De
 use Rattle.zs_events.specs.declared.turn.Kind.TheVariants.{Publisher, Querier as querier_kind}
 use Rattle.zs_events.specs.declared.turn.Refusal.{Refusal}
 use Rattle.zs_events.specs.Kinds.{NamedKey, NoKey, OwnKey, PublisherKey, QuerierKey, WireKey, row_of}
-use Rattle.zs_core.specs.declared.settings.Settings.{Settings}
-use Rattle.zs_core.specs.declared.publisher.PubRow.{PubRow}
-use Rattle.zs_core.specs.declared.querier.QuerierRow.{QuerierRow}
-use Rattle.zs_core.specs.Entry.{Entry, is_closed}
-use Rattle.zs_core.specs.Held.{declares_number, tells_number, is_held, drawn_text, held_text, key_text, told_text, mapped_text, wire_text, text_named, named_text}
-use Rattle.zs_core.specs.Live.{appended, declared, is_live, live_pubs, live_queriers}
-use Rattle.zs_core.specs.Publishers.{pub_row, pub_at}
-use Rattle.zs_core.specs.Queriers.{querier_row, querier_at}
-use Rattle.zs_core.specs.Causes.{refusal_of}
-use Rattle.zs_core.specs.Past.{entry_of, with_entry, past_of}
-use Rattle.zs_core.specs.Received.{AreUtf8}
+use Rattle.zs_model.specs.declared.settings.Settings.{Settings}
+use Rattle.zs_model.specs.declared.publisher.PubRow.{PubRow}
+use Rattle.zs_model.specs.declared.querier.QuerierRow.{QuerierRow}
+use Rattle.zs_model.specs.Entry.{Entry, is_closed}
+use Rattle.zs_model.specs.Held.{declares_number, tells_number, is_held, drawn_text, held_text, key_text, told_text, mapped_text, wire_text, text_named, named_text}
+use Rattle.zs_model.specs.Live.{appended, declared, is_live, live_pubs, live_queriers}
+use Rattle.zs_model.specs.Publishers.{pub_row, pub_at}
+use Rattle.zs_model.specs.Queriers.{querier_row, querier_at}
+use Rattle.zs_model.specs.Causes.{refusal_of}
+use Rattle.zs_model.specs.Past.{entry_of, with_entry, past_of}
+use Rattle.zs_model.specs.Received.{AreUtf8}
 use Rattle.zs_laws.specs.Spelled.{IsSpelledArgument, IsSpelledName, AllSpelled, SpelledTextsAreUtf8}
 
 -- the bytes of characters

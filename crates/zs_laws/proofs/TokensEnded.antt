@@ -35,19 +35,19 @@ use Rattle.zs_events.specs.declared.publication.ReplyQuality.{ReplyQuality}
 use Rattle.zs_events.specs.declared.turn.Effect.{Effect}
 use Rattle.zs_events.specs.declared.turn.Effect.TheVariants.{Send}
 use Rattle.zs_events.specs.Kinds.{NamedKey, OwnKey, QuerierKey, Question, NoValue, EndsAnswers, row_of}
-use Rattle.zs_core.specs.declared.querier.QuerierRow.{QuerierRow}
-use Rattle.zs_core.specs.Answers.{quality_of, local_reply, local_error, response_by}
-use Rattle.zs_core.specs.GetEffects.{hand_reply, hand_query, end_get, last_hands, reply_effects, response_effects, final_effects, ends_effects, ended_numbers, cut_effects, ask_effects, asked_effects, request_effects, told_effects, with_gets}
-use Rattle.zs_core.specs.Gets.{sample_reply}
-use Rattle.zs_core.specs.LivelinessEffects.{hand_answer, end_asking, cancelled_ends, asking_ends}
-use Rattle.zs_core.specs.Queriers.{querier_at, question_of, asks_of}
-use Rattle.zs_core.specs.Questions.{request_of}
-use Rattle.zs_core.specs.Sends.{full_wire, wire_form, declaration_of}
-use Rattle.zs_core.specs.Tokens.{ends_asking}
-use Rattle.zs_core.specs.Values.{drawn_by}
-use Rattle.zs_core.specs.ValueEffects.{Answering, requested_effects, replied_effects, answer_effects, answer_error_effects, finish_effects}
-use Rattle.zs_core.specs.Effects.{Known, answering, draws_of, effects_on}
-use Rattle.zs_core.proofs.Watching.{or_false}
+use Rattle.zs_model.specs.declared.querier.QuerierRow.{QuerierRow}
+use Rattle.zs_model.specs.Answers.{quality_of, local_reply, local_error, response_by}
+use Rattle.zs_model.specs.GetEffects.{hand_reply, hand_query, end_get, last_hands, reply_effects, response_effects, final_effects, ends_effects, ended_numbers, cut_effects, ask_effects, asked_effects, request_effects, told_effects, with_gets}
+use Rattle.zs_model.specs.Gets.{sample_reply}
+use Rattle.zs_model.specs.LivelinessEffects.{hand_answer, end_asking, cancelled_ends, asking_ends}
+use Rattle.zs_model.specs.Queriers.{querier_at, question_of, asks_of}
+use Rattle.zs_model.specs.Questions.{request_of}
+use Rattle.zs_model.specs.Sends.{full_wire, wire_form, declaration_of}
+use Rattle.zs_model.specs.Tokens.{ends_asking}
+use Rattle.zs_model.specs.Values.{drawn_by}
+use Rattle.zs_model.specs.ValueEffects.{Answering, requested_effects, replied_effects, answer_effects, answer_error_effects, finish_effects}
+use Rattle.zs_model.specs.Effects.{Known, answering, draws_of, effects_on}
+use Rattle.zs_standing.proofs.Watching.{or_false}
 use Rattle.zs_laws.specs.Ended.{tokens_ended, with_number, picked}
 use Rattle.zs_laws.proofs.Around.{Around, others_of, others_around}
 use Rattle.zs_laws.proofs.Leaving.{filter_false}

@@ -7,14 +7,14 @@ use Rattle.zs_keys.specs.Matching.{intersects}
 use Rattle.zs_tables.proofs.Ascending.{ascend_map, ascend_filter}
 use Rattle.zs_tables.specs.declared.subscriber.SubRow.{SubRow}
 use Rattle.zs_events.specs.declared.event.Event.{Event}
-use Rattle.zs_core.specs.Entry.{Entry}
-use Rattle.zs_core.specs.Listeners.{ends_listener}
-use Rattle.zs_core.specs.Live.{appended, live_listeners, declared, is_live, live_subs}
-use Rattle.zs_core.specs.Past.{past_of}
-use Rattle.zs_core.specs.Subscribers.{sub_row}
+use Rattle.zs_model.specs.Entry.{Entry}
+use Rattle.zs_model.specs.Listeners.{ends_listener}
+use Rattle.zs_model.specs.Live.{appended, live_listeners, declared, is_live, live_subs}
+use Rattle.zs_model.specs.Past.{past_of}
+use Rattle.zs_model.specs.Subscribers.{sub_row}
 use Rattle.zs_events.specs.declared.turn.Kind.TheVariants.{Subscriber}
-use Rattle.zs_core.specs.Matching.{told_subs, told_queryables}
-use Rattle.zs_core.proofs.Stands.{standing}
+use Rattle.zs_model.specs.Matching.{told_subs, told_queryables}
+use Rattle.zs_standing.proofs.Stands.{standing}
 use Rattle.zs_laws.specs.Plain.{unended, declared_listener, told_sub, replaces_sub, told_queryable, replaces_queryable, ListenersAreUnended, ToldAreLastDeclared, MarksAreTold, MatchesAscend}
 
 appended_is : {R : Type 0} (xs ys : List R) → appended xs ys ≡ xs ++ ys

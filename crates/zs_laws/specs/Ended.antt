@@ -8,13 +8,13 @@ use Rattle.zs_events.specs.declared.turn.Effect.{Effect}
 use Rattle.zs_events.specs.declared.turn.Effect.TheVariants.{End}
 use Rattle.zs_events.specs.declared.turn.Kind.TheVariants.{Get, LivelinessGet}
 use Rattle.zs_events.specs.Kinds.{Draws, QueryNumber, row_of}
-use Rattle.zs_core.specs.declared.settings.Settings.{Settings}
-use Rattle.zs_core.specs.Counters.{next_query}
-use Rattle.zs_core.specs.Gets.{open_now}
-use Rattle.zs_core.specs.Past.{past_of}
-use Rattle.zs_core.specs.Stands.{lives}
-use Rattle.zs_core.specs.Tokens.{asking_now}
-use Rattle.zs_core.specs.Effects.{effects}
+use Rattle.zs_model.specs.declared.settings.Settings.{Settings}
+use Rattle.zs_model.specs.Counters.{next_query}
+use Rattle.zs_model.specs.Gets.{open_now}
+use Rattle.zs_model.specs.Past.{past_of}
+use Rattle.zs_standing.specs.Stands.{lives}
+use Rattle.zs_model.specs.Tokens.{asking_now}
+use Rattle.zs_model.specs.Effects.{effects}
 
 -- the get that an effect ends, if it ends one, and the get of tokens
 abbrev pub get_ended : Effect → Option ℕ

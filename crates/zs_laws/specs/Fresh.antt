@@ -7,15 +7,15 @@ use Rattle.zs_query.specs.Drawn.{drawn}
 use Rattle.zs_events.specs.declared.event.Event.{Event}
 use Rattle.zs_events.specs.declared.turn.Answer.TheVariants.{Ok as accepted}
 use Rattle.zs_events.specs.Kinds.{Draws, row_of}
-use Rattle.zs_core.specs.declared.settings.Settings.{Settings}
-use Rattle.zs_core.specs.Entry.{Entry}
-use Rattle.zs_core.specs.Held.{named_text}
-use Rattle.zs_core.specs.Live.{live_queryables, to_gets_of}
-use Rattle.zs_core.specs.Counters.{draws_entity, draws_query}
-use Rattle.zs_core.specs.Cancelling.{draws_cancellation_token}
-use Rattle.zs_core.specs.Values.{drawn_by, value_news, handing_of}
-use Rattle.zs_core.specs.Past.{past_of, entry_of}
-use Rattle.zs_core.specs.Effects.{effects}
+use Rattle.zs_model.specs.declared.settings.Settings.{Settings}
+use Rattle.zs_model.specs.Entry.{Entry}
+use Rattle.zs_model.specs.Held.{named_text}
+use Rattle.zs_model.specs.Live.{live_queryables, to_gets_of}
+use Rattle.zs_model.specs.Counters.{draws_entity, draws_query}
+use Rattle.zs_model.specs.Cancelling.{draws_cancellation_token}
+use Rattle.zs_model.specs.Values.{drawn_by, value_news, handing_of}
+use Rattle.zs_model.specs.Past.{past_of, entry_of}
+use Rattle.zs_model.specs.Effects.{effects}
 
 -- whether an answer has that number
 abbrev pub is_number : ℕ → Option ℕ → Bool

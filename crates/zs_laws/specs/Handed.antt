@@ -24,16 +24,16 @@ use Rattle.zs_events.specs.declared.turn.HandOver.TheVariants.{Reply}
 use Rattle.zs_events.specs.declared.turn.Kind.TheVariants.{Get}
 use Rattle.zs_events.specs.declared.turn.Refusal.{Refusal}
 use Rattle.zs_events.specs.Kinds.{ToGets, NoGet, Answers, ToValues, AnswersError, row_of}
-use Rattle.zs_core.specs.declared.settings.Settings.{Settings}
-use Rattle.zs_core.specs.Answers.{local_error}
-use Rattle.zs_core.specs.Causes.{refusal_of}
-use Rattle.zs_core.specs.Entry.{Entry, is_closed}
-use Rattle.zs_core.specs.Gets.{asked, open_now, news_of, error_reply}
-use Rattle.zs_core.specs.Held.{named_text}
-use Rattle.zs_core.specs.Live.{to_gets_of}
-use Rattle.zs_core.specs.Past.{past_of}
-use Rattle.zs_core.specs.Values.{values_now}
-use Rattle.zs_core.specs.Effects.{effects}
+use Rattle.zs_model.specs.declared.settings.Settings.{Settings}
+use Rattle.zs_model.specs.Answers.{local_error}
+use Rattle.zs_model.specs.Causes.{refusal_of}
+use Rattle.zs_model.specs.Entry.{Entry, is_closed}
+use Rattle.zs_model.specs.Gets.{asked, open_now, news_of, error_reply}
+use Rattle.zs_model.specs.Held.{named_text}
+use Rattle.zs_model.specs.Live.{to_gets_of}
+use Rattle.zs_model.specs.Past.{past_of}
+use Rattle.zs_model.specs.Values.{values_now}
+use Rattle.zs_model.specs.Effects.{effects}
 
 -- the replies that effects hand to the get of a number, the first first
 abbrev pub handed_at : ℕ → Effect → List Replied

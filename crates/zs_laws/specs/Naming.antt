@@ -11,10 +11,10 @@ use Rattle.zs_events.specs.declared.turn.HandOver.TheVariants.{Sample, Reply, Qu
 use Rattle.zs_events.specs.declared.turn.Kind.{Kind}
 use Rattle.zs_events.specs.declared.turn.Kind.TheVariants.{Get}
 use Rattle.zs_events.specs.Kinds.{row_of}
-use Rattle.zs_core.specs.declared.settings.Settings.{Settings}
-use Rattle.zs_core.specs.Counters.{draws_entity, next_entity}
-use Rattle.zs_core.specs.Past.{past_of}
-use Rattle.zs_core.specs.Effects.{effects}
+use Rattle.zs_model.specs.declared.settings.Settings.{Settings}
+use Rattle.zs_model.specs.Counters.{draws_entity, next_entity}
+use Rattle.zs_model.specs.Past.{past_of}
+use Rattle.zs_model.specs.Effects.{effects}
 
 -- the entity of a kind and number: a get has a number of its own sort
 abbrev pub entity_numbered : Kind → ℕ → Option ℕ

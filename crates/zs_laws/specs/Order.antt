@@ -8,8 +8,8 @@ use Rattle.zs_events.specs.declared.turn.HandOver.{HandOver}
 use Rattle.zs_events.specs.declared.turn.HandOver.TheVariants.{Reply}
 use Rattle.zs_events.specs.declared.turn.Kind.{Kind}
 use Rattle.zs_events.specs.declared.turn.Kind.TheVariants.{Queryable, Subscriber, LivelinessSubscriber, Get, LivelinessGet}
-use Rattle.zs_core.specs.declared.settings.Settings.{Settings}
-use Rattle.zs_core.specs.Effects.{effects}
+use Rattle.zs_model.specs.declared.settings.Settings.{Settings}
+use Rattle.zs_model.specs.Effects.{effects}
 
 -- ends stand by kind: queryables, subscribers, subscribers to liveliness, gets, gets of tokens, listeners
 abbrev pub place_of_end : Kind → ℕ

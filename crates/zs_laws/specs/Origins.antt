@@ -9,15 +9,15 @@ use Rattle.zs_wire.specs.declared.push.Push.{Push}
 use Rattle.zs_tables.specs.Recipients.{has_network}
 use Rattle.zs_events.specs.declared.event.Event.{Event}
 use Rattle.zs_events.specs.Kinds.{incoming_content}
-use Rattle.zs_core.specs.declared.settings.Settings.{Settings}
-use Rattle.zs_core.specs.Entry.{Entry, is_closed}
-use Rattle.zs_core.specs.Held.{named_text}
-use Rattle.zs_core.specs.Live.{live_pubs}
-use Rattle.zs_core.specs.Causes.{refusal_of}
-use Rattle.zs_core.specs.Past.{past_of}
-use Rattle.zs_core.specs.Publications.{Publication, sample_on}
-use Rattle.zs_core.specs.Effects.{publication_of, effects}
-use Rattle.zs_core.specs.Received.{messages_of, wire_in, spoken_text}
+use Rattle.zs_model.specs.declared.settings.Settings.{Settings}
+use Rattle.zs_model.specs.Entry.{Entry, is_closed}
+use Rattle.zs_model.specs.Held.{named_text}
+use Rattle.zs_model.specs.Live.{live_pubs}
+use Rattle.zs_model.specs.Causes.{refusal_of}
+use Rattle.zs_model.specs.Past.{past_of}
+use Rattle.zs_model.specs.Publications.{Publication, sample_on}
+use Rattle.zs_model.specs.Effects.{publication_of, effects}
+use Rattle.zs_model.specs.Received.{messages_of, wire_in, spoken_text}
 
 -- the push that a message is, if it is one
 abbrev pub push_in : Message → Option Push

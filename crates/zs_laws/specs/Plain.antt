@@ -9,14 +9,14 @@ use Rattle.zs_tables.specs.declared.told_row.ToldQueryable.{ToldQueryable}
 use Rattle.zs_events.specs.declared.event.Event.{Event}
 use Rattle.zs_events.specs.declared.turn.Kind.{Kind}
 use Rattle.zs_events.specs.Kinds.{row_of}
-use Rattle.zs_core.specs.declared.settings.Settings.{Settings}
-use Rattle.zs_core.specs.Entry.{Entry}
-use Rattle.zs_core.specs.Listeners.{listener_row, ends_listener}
-use Rattle.zs_core.specs.Live.{was_left, live_pubs, live_queriers, live_subs, live_listeners}
-use Rattle.zs_core.specs.Matching.{told_sub_row, told_queryable_row, renews_sub, renews_queryable, told_subs, told_queryables}
-use Rattle.zs_core.specs.Past.{past_of}
-use Rattle.zs_core.specs.Stands.{world_after}
-use Rattle.zs_core.specs.Turns.{is_left}
+use Rattle.zs_model.specs.declared.settings.Settings.{Settings}
+use Rattle.zs_model.specs.Entry.{Entry}
+use Rattle.zs_model.specs.Listeners.{listener_row, ends_listener}
+use Rattle.zs_model.specs.Live.{was_left, live_pubs, live_queriers, live_subs, live_listeners}
+use Rattle.zs_model.specs.Matching.{told_sub_row, told_queryable_row, renews_sub, renews_queryable, told_subs, told_queryables}
+use Rattle.zs_model.specs.Past.{past_of}
+use Rattle.zs_standing.specs.Stands.{world_after}
+use Rattle.zs_world.specs.Turns.{is_left}
 
 -- what each accepted event declares, where no accepted event after it ends it, nor any of the later ones; the first one first
 abbrev pub unended : {R : Type 0} → (Event → R → Bool) → (Entry → List Entry → List R) → List Event → List Entry → List R

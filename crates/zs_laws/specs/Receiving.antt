@@ -6,12 +6,12 @@ use Rattle.zs_wire.specs.declared.message.Message.{Message}
 use Rattle.zs_wire.specs.declared.message.Message.TheVariants.{DeclareKeyExpr, UndeclareKeyExpr}
 use Rattle.zs_events.specs.declared.event.Event.{Event}
 use Rattle.zs_events.specs.declared.event.Event.TheVariants.{Net}
-use Rattle.zs_core.specs.declared.settings.Settings.{Settings}
-use Rattle.zs_core.specs.Entry.{is_closed}
-use Rattle.zs_core.specs.Held.{wire_text}
-use Rattle.zs_core.specs.Past.{past_of}
-use Rattle.zs_core.specs.Effects.{effects}
-use Rattle.zs_core.specs.Received.{messages_of, sent, wire_in, meant_by, spoken_text, AreSpelled}
+use Rattle.zs_model.specs.declared.settings.Settings.{Settings}
+use Rattle.zs_model.specs.Entry.{is_closed}
+use Rattle.zs_model.specs.Held.{wire_text}
+use Rattle.zs_model.specs.Past.{past_of}
+use Rattle.zs_model.specs.Effects.{effects}
+use Rattle.zs_model.specs.Received.{messages_of, sent, wire_in, meant_by, spoken_text, AreSpelled}
 use Rattle.zs_laws.specs.Spelled.{AllSpelled}
 
 -- the messages that came in, the newest first

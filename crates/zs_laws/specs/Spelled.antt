@@ -10,13 +10,13 @@ use Rattle.zs_events.specs.declared.event.Event.{Event}
 use Rattle.zs_events.specs.declared.key_arg.KeyArg.{KeyArg}
 use Rattle.zs_events.specs.declared.key_arg.KeyArg.TheVariants.{Text, Number, Declared}
 use Rattle.zs_events.specs.Kinds.{NamedKey, NoKey, OwnKey, PublisherKey, QuerierKey, WireKey, row_of}
-use Rattle.zs_core.specs.declared.settings.Settings.{Settings}
-use Rattle.zs_core.specs.Held.{named_text}
-use Rattle.zs_core.specs.Live.{live_subs}
-use Rattle.zs_core.specs.Past.{past_of}
-use Rattle.zs_core.specs.Effects.{effects}
-use Rattle.zs_core.specs.Received.{messages_of, sent, wire_in, spoken_text, AreReadAs, AreSpelled, AreUtf8}
-use Rattle.zs_core.specs.Covered.{IsCovered}
+use Rattle.zs_model.specs.declared.settings.Settings.{Settings}
+use Rattle.zs_model.specs.Held.{named_text}
+use Rattle.zs_model.specs.Live.{live_subs}
+use Rattle.zs_model.specs.Past.{past_of}
+use Rattle.zs_model.specs.Effects.{effects}
+use Rattle.zs_model.specs.Received.{messages_of, sent, wire_in, spoken_text, AreReadAs, AreSpelled, AreUtf8}
+use Rattle.zs_model.specs.Covered.{IsCovered}
 
 -- a key argument's text is one of characters
 abbrev pub IsSpelledArgument : KeyArg → Type 0

@@ -7,7 +7,7 @@ use Rattle.zs_driving.specs.declared.errors.DriveError.{DriveError}
 use Rattle.zs_driving.specs.Tasks.{Rules, task_of}
 use Rattle.zs_driving.specs.Driving.{Drives, Supply, Outlet}
 use Rattle.zs_driving.specs.Languages.{text_of, events_of, rules_of}
-use Rattle.zs_core.specs.declared.settings.Settings.{Settings}
+use Rattle.zs_core.specs.Types.{Settings}
 use Rattle.zs_session_cell.specs.Core.{StandsFor}
 use Rattle.zs_events.specs.declared.event.Event.TheVariants.{Close}
 use Rattle.zs_events.specs.declared.turn.Turn.{Turn}

@@ -12,7 +12,7 @@ use Rattle.zs_turns.specs.declared.item.Item.{Item}
 use Rattle.zs_posts.specs.Calls.{CallSeen}
 use Rattle.zs_exchange.specs.Exchange.{ExchangeSeen, IsNew as IsNewExchange, kept_messages}
 use Rattle.zs_exchange.specs.Handlers.{AreGates}
-use Rattle.zs_core.specs.declared.settings.Settings.{Settings}
+use Rattle.zs_core.specs.Types.{Settings}
 use Rattle.zs_core.specs.Settings.{is_valid, last_entity}
 use Rattle.zs_core.specs.World.{World as Tables}
 use Rattle.zs_core.specs.Received.{messages_of}

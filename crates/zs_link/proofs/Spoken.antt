@@ -9,7 +9,7 @@ use Rattle.zs_events.specs.declared.script_event.ScriptEvent.TheVariants.{Core, 
 use Rattle.zs_events.specs.declared.key_arg.KeyArg.{KeyArg}
 use Rattle.zs_events.specs.declared.key_arg.KeyArg.TheVariants.{Text, Number, Declared}
 use Rattle.zs_events.specs.Kinds.{NamedKey, NoKey, OwnKey, PublisherKey, QuerierKey, WireKey, row_of}
-use Rattle.zs_core.specs.declared.settings.Settings.{Settings}
+use Rattle.zs_core.specs.Types.{Settings}
 use Rattle.zs_core.specs.Received.{AreSpelled}
 use Rattle.zs_script.specs.Grammar.{event_of}
 use Rattle.zs_script.specs.Plain.{has_no_line_feed, is_field_text, is_plain_text, is_plain_named, is_plain_event}

@@ -1,7 +1,7 @@
 -- Who is handed what is delivered, behind the lines of a run.
 use Rattle.std.specs.Prelude.{◌≡◌, ℕ, true, List}
 use Rattle.std.specs.List.{AllByRecursion}
-use Rattle.zs_core.specs.declared.settings.Settings.{Settings}
+use Rattle.zs_core.specs.Types.{Settings}
 use Rattle.zs_core.specs.Received.{AreSpelled}
 use Rattle.zs_script.specs.Plain.{has_no_line_feed}
 use Rattle.zs_driving.specs.Languages.{events_of}

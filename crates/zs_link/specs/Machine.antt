@@ -2,7 +2,7 @@
 use Rattle.std.specs.Prelude.{◌≡◌, ℕ, List, ◌++◌, length}
 use Rattle.zs_driving.specs.Tasks.{Rules}
 use Rattle.zs_driving.specs.Languages.{events_of, rules_of}
-use Rattle.zs_core.specs.declared.settings.Settings.{Settings}
+use Rattle.zs_core.specs.Types.{Settings}
 use Rattle.zs_events.specs.declared.event.Event.TheVariants.{Close}
 use Rattle.zs_delivery.specs.declared.side.LinkSide.TheVariants.{A, B}
 use Rattle.zs_delivery.specs.Linked.{Linked, LinkLine, Take, linked_after, with_line}

@@ -9,7 +9,7 @@ use Rattle.zs_events.specs.declared.script_event.ScriptEvent.{ScriptEvent}
 use Rattle.zs_events.specs.declared.script_event.ScriptEvent.TheVariants.{Core}
 use Rattle.zs_events.specs.declared.turn.Turn.{Turn}
 use Rattle.zs_events.specs.Kinds.{row_of}
-use Rattle.zs_core.specs.declared.settings.Settings.{Settings}
+use Rattle.zs_core.specs.Types.{Settings}
 use Rattle.zs_script.specs.Grammar.{event_of}
 use Rattle.zs_script.specs.Printing.{line, marked_text}
 use Rattle.zs_script.specs.Symbols.{after_prefix}

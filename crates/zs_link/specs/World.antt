@@ -4,7 +4,7 @@ use Rattle.zs_wire.specs.declared.message.Message.{Message}
 use Rattle.zs_events.specs.declared.event.Event.{Event}
 use Rattle.zs_events.specs.declared.event.Event.TheVariants.{Net}
 use Rattle.zs_events.specs.declared.turn.Turn.{Turn}
-use Rattle.zs_core.specs.declared.settings.Settings.{Settings}
+use Rattle.zs_core.specs.Types.{Settings}
 use Rattle.zs_core.specs.World.{World as Tables}
 use Rattle.zs_exchange.specs.Handlers.{AreGates}
 use Rattle.zs_session_cell.specs.Core.{turn_at, StandsFor}

@@ -1,3 +1,5 @@
+//! Two linked sessions, driven by lines.
+
 ghost use Rattle.std.specs.Prelude.{◌≡◌, ◌≤◌, ℕ, List, [], IsTrue};
 ghost use Rattle.zs_keys.specs.Stream.{PutsOn};
 ghost use Rattle.zs_core.specs.Settings.{is_valid};

@@ -4,7 +4,7 @@ ghost use Rattle.std.specs.Prelude.{◌≡◌, ℕ, ◌+◌, true, false, is_som
 ghost use Rattle.std.specs.String.{string_bytes};
 ghost use Rattle.zs_driving.specs.Tasks.{Rules};
 ghost use Rattle.zs_driving.specs.Languages.{rules_of};
-ghost use Rattle.zs_core.specs.declared.settings.Settings.{Settings};
+ghost use Rattle.zs_core.specs.Types.{Settings};
 ghost use Rattle.zs_core.specs.Settings.{is_valid};
 ghost use Rattle.zs_delivery.specs.Linked.{Take, Deliver};
 ghost use Rattle.zs_delivery.specs.Links.{is_net};

@@ -17,7 +17,7 @@ use Rattle.zs_events.specs.declared.turn.Refusal.{Refusal}
 use Rattle.zs_events.specs.declared.turn.Turn.{Turn}
 use Rattle.zs_events.specs.Turn.{answered}
 use Rattle.zs_events.specs.Kinds.{NamedKey, Publishes, NoContent, OwnContent, ByPublisher, row_of}
-use Rattle.zs_core.specs.declared.settings.Settings.{Settings}
+use Rattle.zs_core.specs.Types.{Settings}
 use Rattle.zs_core.specs.Entry.{is_closed}
 use Rattle.zs_core.specs.Held.{named_text}
 use Rattle.zs_core.specs.Live.{live_subs, live_pubs}

@@ -8,7 +8,7 @@ use Rattle.zs_events.specs.declared.event.Event.TheVariants.{Token, Undeclare}
 use Rattle.zs_events.specs.declared.entity_kind.EntityKind.TheVariants.{Token as token_kind}
 use Rattle.zs_events.specs.declared.key_arg.KeyArg.TheVariants.{Text}
 use Rattle.zs_events.specs.declared.turn.Answer.TheVariants.{Ok as accepted}
-use Rattle.zs_core.specs.declared.settings.Settings.{Settings}
+use Rattle.zs_core.specs.Types.{Settings}
 use Rattle.zs_core.specs.Entry.{is_closed}
 use Rattle.zs_core.specs.Causes.{refusal_of}
 use Rattle.zs_core.specs.Past.{past_of}

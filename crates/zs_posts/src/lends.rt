@@ -1,3 +1,5 @@
+//! The passes of one call: of its own gate and of those above it.
+
 // Lending the passes of calls, all or none.
 ghost use Rattle.std.specs.Prelude.{◌≡◌, true, ◌∷◌, ◌++◌, [], is_some, IfOk, OnErr};
 ghost use Rattle.std.specs.List.{AllByRecursion};

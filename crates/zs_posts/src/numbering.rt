@@ -1,4 +1,5 @@
-// What the seats of a room's table know, the rule of the table, and its kinds of step.
+//! The table of a room's gates: what its seats know, its rule, and its kinds of step.
+
 use atomic_table::{Join, Play, Split, TableRule};
 use zs_gate::Keeper;
 

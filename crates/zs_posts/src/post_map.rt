@@ -1,3 +1,5 @@
+//! Posts under their keys.
+
 // Posts of one room by their keys.
 ghost use Rattle.std.specs.Prelude.{◌≡◌, ℕ, true, [], ◌∷◌, length, Some, None, option_map, IfOk, IfSome, OnOk, OnErr};
 ghost use Rattle.std.specs.Arc.{arc_value};

@@ -1,3 +1,5 @@
+//! Posts and their passes, as a session uses them.
+
 use super::*;
 use std::sync::Arc;
 use std::test::Fail;

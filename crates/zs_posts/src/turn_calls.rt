@@ -1,3 +1,5 @@
+//! The passes of all calls of a turn, lent together or not at all.
+
 // Lending the passes of a turn's calls, all or none.
 ghost use Rattle.std.specs.Prelude.{◌≡◌, ◌+◌, ◌<◌, ◌≤◌, true, false, [], List, ◌++◌, map, IfOk, OnOk, OnErr};
 ghost use Rattle.std.specs.List.{AllByRecursion};

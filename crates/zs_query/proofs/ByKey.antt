@@ -1,6 +1,6 @@
 -- What the maps make of their entries.
 use Rattle.std.proofs.Common.{◌≡◌, Bool, true, false, List, [], ◌∷◌, Option, Some, None, refl, sym, ap, ◌∙◌}
-use Rattle.std.specs.Prelude.{ℕ, map, bytes_eq, if◌then◌else◌}
+use Rattle.std.specs.Prelude.{ℕ, map, bytes_eq}
 use Rattle.std.specs.List.{AllByRecursion}
 use Rattle.std.specs.Option.{option_map}
 use Rattle.std.specs.Map.{lookup, values_of}

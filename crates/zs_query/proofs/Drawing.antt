@@ -1,15 +1,15 @@
 -- The table of unfinished values follows what is heard of them, and the values stay below the counter.
-use Rattle.std.proofs.Common.{◌≡◌, ◌≢◌, ℕ, ◌+◌, ◌<◌, ◌≤◌, Bool, true, false, List, [], ◌∷◌, ◌++◌, length, Option, Some, None, refl, sym, ap, ◌∙◌, arith}
-use Rattle.std.specs.Prelude.{◌==◌, ◌||◌, not, map, filter, is_some, if◌then◌else◌}
-use Rattle.std.specs.List.{AllByRecursion, find, list_any}
+use Rattle.std.proofs.Common.{◌≡◌, ◌≢◌, ℕ, ◌+◌, ◌<◌, Bool, true, false, List, [], ◌∷◌, ◌++◌, length, Option, Some, None, refl, sym, ap, ◌∙◌, arith}
+use Rattle.std.specs.Prelude.{◌==◌, ◌||◌, not, map, filter, is_some}
+use Rattle.std.specs.List.{AllByRecursion, list_any}
 use Rattle.std.proofs.lemmas.Bool.Decides.{nat_tests}
 use Rattle.std.proofs.lemmas.List.{map-append}
 use Rattle.std.proofs.lemmas.List.Elements.{filter-append}
 use Rattle.zs_query.specs.declared.query_value.QueryValue.{QueryValue}
 use Rattle.zs_query.specs.declared.request_row.RequestRow.{RequestRow}
 use Rattle.zs_query.specs.Unfinished.{Unfinished, value_at, are_used, values_from, with_request, shared, without_value}
-use Rattle.zs_query.specs.RequestTable.{Handing, with_handed, with_share, with_shared, with_finished}
-use Rattle.zs_query.specs.Drawn.{ValueNews, Drew, GaveBack, Drawn, just_drawn, giving_back, drawn, is_unfinished, unfinished, ValuesAreTold, has_value, HasNoneAfter, EndedRequestsStay}
+use Rattle.zs_query.specs.RequestTable.{Handing, with_handed, with_share, with_shared}
+use Rattle.zs_query.specs.Drawn.{Drew, GaveBack, Drawn, just_drawn, giving_back, drawn, is_unfinished, unfinished, ValuesAreTold, has_value, EndedRequestsStay}
 use Rattle.zs_query.proofs.Ascending.{all_weaker, all_append, all_filter}
 use Rattle.zs_query.proofs.Requesting.{AreOf, values_of}
 use Rattle.zs_query.proofs.Standing.{placed_last}

@@ -1,5 +1,5 @@
 -- The table of open gets follows what the gets hear.
-use Rattle.std.proofs.Common.{◌≡◌, ◌≢◌, ℕ, ◌<◌, Bool, true, false, List, [], ◌∷◌, ◌++◌, Option, Some, None, refl, sym, ap, ◌∙◌, arith}
+use Rattle.std.proofs.Common.{◌≡◌, ◌≢◌, ℕ, ◌<◌, Bool, true, false, List, [], ◌∷◌, ◌++◌, Some, refl, sym, ap, ◌∙◌, arith}
 use Rattle.std.specs.Prelude.{◌==◌, ◌&&◌, ◌||◌, nat_le, not, map, filter, if◌then◌else◌}
 use Rattle.std.specs.List.{AllByRecursion, list_any}
 use Rattle.std.proofs.lemmas.Bool.Decides.{nat_tests}
@@ -16,12 +16,12 @@ use Rattle.zs_query.specs.declared.outcome.Outcome.{Outcome}
 use Rattle.zs_query.specs.declared.outcome.Outcome.TheVariants as outcome
 use Rattle.zs_query.specs.Ascending.{Ascend}
 use Rattle.zs_query.specs.Marks.{key_of}
-use Rattle.zs_query.specs.Gets.{get_at, with_get, without_get, fresh, takes_key, replied, is_local, wants, other_side, less, less_final, final_outcome, after_final, is_due, names}
+use Rattle.zs_query.specs.Gets.{get_at, fresh, takes_key, replied, wants, other_side, less, less_final, final_outcome, after_final, names}
 use Rattle.zs_query.specs.Laws.{kept_in, passed_in, get_after}
-use Rattle.zs_query.specs.Asked.{News, Quiet, ReplyTo, FinalOf, AtMoment, QuerierEnds, CancelledBy, AllEnd, Asked, is_side, is_final, is_done, waiting, waits, is_end, is_open, is_for, replies_in, state, open_gets, hearing, heard, gets_after, opened, OpenGetsAreTold}
+use Rattle.zs_query.specs.Asked.{News, Quiet, ReplyTo, FinalOf, AtMoment, QuerierEnds, CancelledBy, AllEnd, Asked, is_done, waiting, waits, is_end, is_open, is_for, replies_in, state, open_gets, hearing, heard, opened, OpenGetsAreTold}
 use Rattle.zs_query.proofs.Ascending.{all_weaker, ascend_filter}
 use Rattle.zs_query.proofs.Getting.{with_none}
-use Rattle.zs_query.proofs.Searching.{find_none, filter_none}
+use Rattle.zs_query.proofs.Searching.{filter_none}
 use Rattle.zs_query.proofs.Standing.{stands}
 
 -- the open ones of two lists

@@ -8,7 +8,7 @@ use Rattle.zs_sample.specs.Reply.{Replied}
 use Rattle.zs_query.specs.Marks.{Mark, mark_of, key_of, passes}
 use Rattle.zs_query.specs.Kept.{same_key, is_older, passes_all, firsts, greatest, kept, last_passing, put}
 use Rattle.zs_query.proofs.Ascending.{all_weaker, all_both, all_fail, all_append}
-use Rattle.zs_query.proofs.Order.{below_same, below_through, below_once, key_same, keys_equal, equal_keys, same_by_left, same_by_right}
+use Rattle.zs_query.proofs.Order.{below_same, below_through, below_once, key_same, keys_equal, equal_keys, same_by_left}
 
 -- truth values
 or_left : (x y : Bool) → (x || y) ≡ false → x ≡ false

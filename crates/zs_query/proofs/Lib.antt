@@ -2,6 +2,8 @@ pub mod Ascending
 pub mod Searching
 pub mod Requesting
 pub mod Getting
+pub mod Indexed
+pub mod Filed
 pub mod ByKey
 pub mod Order
 pub mod Keeping

@@ -1,16 +1,15 @@
 -- The unfinished values stay in order, and what giving one back comes to.
-use Rattle.std.proofs.Common.{◌≡◌, ◌≢◌, ℕ, ◌+◌, ◌<◌, ◌≤◌, Bool, true, false, List, [], ◌∷◌, ◌++◌, length, take, drop, Option, Some, None, refl, sym, ap, ◌∙◌, arith}
-use Rattle.std.specs.Prelude.{◌==◌, ◌&&◌, nat_lt, not, filter, if◌then◌else◌}
-use Rattle.std.specs.List.{AllByRecursion, find, list_any}
+use Rattle.std.proofs.Common.{◌≡◌, ℕ, ◌+◌, ◌<◌, ◌≤◌, Bool, true, false, List, [], ◌∷◌, ◌++◌, length, take, drop, Some, refl, sym, ap, ◌∙◌, arith}
+use Rattle.std.specs.Prelude.{◌==◌, ◌&&◌, not, if◌then◌else◌}
+use Rattle.std.specs.List.{AllByRecursion, list_any}
 use Rattle.std.proofs.lemmas.Bool.Decides.{nat_tests}
 use Rattle.std.proofs.lemmas.List.{take-append-drop}
 use Rattle.zs_query.specs.declared.query_value.QueryValue.{QueryValue}
 use Rattle.zs_query.specs.declared.request_row.RequestRow.{RequestRow}
-use Rattle.zs_query.specs.declared.requests.Finished.{Finished}
-use Rattle.zs_query.specs.declared.requests.Finished.TheVariants.{Unknown, MoreLeft, Last}
+use Rattle.zs_query.specs.declared.requests.Finished.TheVariants.{MoreLeft, Last}
 use Rattle.zs_query.specs.Ascending.{Ascend, placed}
 use Rattle.zs_query.specs.Unfinished.{value_at, is_between, are_used, values_from, has_other, finished, without_value, Unfinished, AreInOrder}
-use Rattle.zs_query.proofs.Ascending.{all_weaker, all_both, all_filter, all_fail, ascend_filter, ascend_placed, all_placed}
+use Rattle.zs_query.proofs.Ascending.{all_weaker, all_filter, all_fail, ascend_filter, ascend_placed, all_placed}
 
 -- what is put in whole leaves nothing out
 pub put_whole : {X : Type 0} (at : ℕ) (more xs ys : List X) → more ≡ [] → take at xs ++ (more ++ drop at xs) ≡ ys → xs ≡ ys

@@ -1,7 +1,7 @@
 -- What stands at a place that a search found, and what an edit there makes of the list.
 use Rattle.std.proofs.Common.{◌≡◌, ℕ, zero, suc, ◌-◌, ◌<◌, ◌≤◌, ◌≢◌, Bool, true, false, List, [], ◌∷◌, ◌++◌, length, get_or, take, drop, Some, None, Result, Ok, Err, inl, inr, refl, sym, ap, ◌∙◌, arith}
 use Rattle.std.specs.Prelude.{◌==◌, nat_lt, nat_le, not, filter, is_some, is_ok}
-use Rattle.std.specs.List.{AllByRecursion, AllWithin, HoldsAt, find, list_any, insert, remove}
+use Rattle.std.specs.List.{AllByRecursion, AllWithin, HoldsAt, find, remove}
 use Rattle.std.specs.List.Sorted.{IsSearchInRange, IsBinarySearchResult, IsPartitionedBy, IsPartitionPoint}
 use Rattle.std.specs.Ordering.{nat_cmp, ordering_index}
 use Rattle.std.proofs.lemmas.Bool.{cases_lt}

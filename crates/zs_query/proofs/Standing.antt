@@ -1,7 +1,7 @@
 -- The laws.
-use Rattle.std.proofs.Common.{◌≡◌, ◌⊎◌, ℕ, ◌<◌, Bool, true, false, List, [], ◌∷◌, ◌++◌, inl, inr, true≢false, refl, sym, ap, subst, ◌∙◌, arith}
-use Rattle.std.specs.Prelude.{◌&&◌, ◌||◌, nat_lt, not, map, filter, if◌then◌else◌}
-use Rattle.std.specs.List.{AllByRecursion, list_any}
+use Rattle.std.proofs.Common.{◌≡◌, ℕ, ◌<◌, Bool, true, false, List, [], ◌∷◌, ◌++◌, refl, sym, ap, ◌∙◌, arith}
+use Rattle.std.specs.Prelude.{nat_lt, not, map, filter, if◌then◌else◌}
+use Rattle.std.specs.List.{AllByRecursion}
 use Rattle.std.proofs.lemmas.Bool.Decides.{nat_tests}
 use Rattle.std.proofs.lemmas.List.{append-nil}
 use Rattle.zs_wire.specs.declared.request.ConsolidationMode.{ConsolidationMode}
@@ -10,13 +10,11 @@ use Rattle.zs_sample.specs.Reply.{Replied}
 use Rattle.zs_query.specs.declared.get_row.GetRow.{GetRow}
 use Rattle.zs_query.specs.declared.open_get.OpenGet.{OpenGet}
 use Rattle.zs_query.specs.Ascending.{placed}
-use Rattle.zs_query.specs.Marks.{Mark, mark_of, key_of, passes}
-use Rattle.zs_query.specs.Kept.{same_key, is_older, passes_all, firsts, greatest, kept, put}
-use Rattle.zs_query.specs.Gets.{takes_key, peek_by, peek_get, after_reply, noted, replied}
-use Rattle.zs_query.specs.Laws.{IsIn, AreSame, AreApart, kept_in, passed_in, get_after, peek_in, StandsForReplies}
-use Rattle.zs_query.proofs.Ascending.{all_weaker}
-use Rattle.zs_query.proofs.Order.{keys_equal, equal_keys, same_by_left}
-use Rattle.zs_query.proofs.Keeping.{older_through, older_once, older_same, turned, greatest_key, any_firsts, all_firsts, kept_more, passes_kept, marks_of_put}
+use Rattle.zs_query.specs.Marks.{Mark, mark_of, key_of}
+use Rattle.zs_query.specs.Kept.{passes_all, kept, put}
+use Rattle.zs_query.specs.Gets.{takes_key, peek_by, peek_get, after_reply, noted}
+use Rattle.zs_query.specs.Laws.{kept_in, passed_in, get_after, peek_in, StandsForReplies}
+use Rattle.zs_query.proofs.Keeping.{kept_more, passes_kept, marks_of_put}
 
 -- more elements behind all that are below them
 pub placed_last : {X : Type 0} (number : X → ℕ) (n : ℕ) (more xs : List X) → AllByRecursion (λ x. number x < n) xs → placed number n more xs ≡ xs ++ more

@@ -1,5 +1,5 @@
 -- What is kept by key, as the maps hold it.
-use Rattle.std.specs.Prelude.{◌≡◌, List, Option}
+use Rattle.std.specs.Prelude.{◌≡◌, Option}
 use Rattle.zs_keys.specs.Key.{Key}
 use Rattle.zs_wire.specs.declared.origin.Timestamp.{Timestamp}
 use Rattle.zs_sample.specs.Reply.{Replied}

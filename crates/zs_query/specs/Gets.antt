@@ -1,6 +1,6 @@
 -- The open gets, what replies and finals come to, and what ends them.
-use Rattle.std.specs.Prelude.{ℕ, ◌≤◌, ◌==◌, ◌&&◌, ◌||◌, nat_lt, nat_le, Bool, true, false, not, List, [], ◌∷◌, ◌++◌, map, filter, codes, Option, Some, None, Err, if◌then◌else◌}
-use Rattle.std.specs.List.{find, AllByRecursion}
+use Rattle.std.specs.Prelude.{ℕ, ◌==◌, ◌&&◌, ◌||◌, nat_le, Bool, true, false, not, List, [], ◌∷◌, ◌++◌, map, filter, codes, Option, Some, None, Err, if◌then◌else◌}
+use Rattle.std.specs.List.{find}
 use Rattle.zs_keys.specs.Matching.{intersects}
 use Rattle.zs_wire.specs.declared.request.ConsolidationMode.{ConsolidationMode}
 use Rattle.zs_wire.specs.declared.request.ConsolidationMode.TheVariants as by
@@ -13,7 +13,9 @@ use Rattle.zs_query.specs.declared.outcome.Outcome.{Outcome}
 use Rattle.zs_query.specs.declared.outcome.Outcome.TheVariants as outcome
 use Rattle.zs_query.specs.declared.outcome.Peek.{Peek}
 use Rattle.zs_query.specs.declared.outcome.Peek.TheVariants as peek
-use Rattle.zs_query.specs.Ascending.{Ascend}
+pub use Rattle.zs_rows.specs.Index.{names}
+pub use Rattle.zs_rows.specs.Rows.{is_behind}
+use Rattle.zs_rows.specs.Rows.{row_at}
 use Rattle.zs_query.specs.Marks.{Mark, mark_of, key_of, passes}
 use Rattle.zs_query.specs.Kept.{put}
 
@@ -136,14 +138,19 @@ timeout_error = record { result = Err (record { payload = codes "Timeout" ∷ []
 abbrev pub end_of : OpenGet → ℕ × List Replied
 end_of g = (g.row.number, g.kept ++ timeout_error ∷ [])
 
+-- the end of the get of that number, if there is one
+abbrev pub end_at : ℕ → Option OpenGet → List (ℕ × List Replied)
+end_at number None = []
+end_at number (Some g) = (number, g.kept ++ timeout_error ∷ []) ∷ []
+
+-- the ends of the gets of these numbers
+abbrev pub ends_from : List ℕ → List (ℕ × OpenGet) → List (ℕ × List Replied)
+ends_from [] rows = []
+ends_from (n ∷ numbers) rows = end_at n (row_at n rows) ++ ends_from numbers rows
+
 -- the ends of those whose deadline is reached
 abbrev pub ends_at : ℕ → List OpenGet → List (ℕ × List Replied)
 ends_at now gets = map end_of (filter (is_due now) gets)
-
--- whether a number is above the last one, if there was one
-abbrev pub is_behind : Option ℕ → ℕ → Bool
-is_behind None number = true
-is_behind (Some after) number = nat_lt after number
 
 -- the row of the first of them
 abbrev pub first_row : List OpenGet → Option GetRow
@@ -154,13 +161,3 @@ first_row (g ∷ gets) = Some g.row
 abbrev pub kept_at : Option OpenGet → List Replied
 kept_at None = []
 kept_at (Some g) = g.kept
-
--- whether a number is the one that is named
-abbrev pub names : ℕ → Option ℕ → Bool
-names number None = false
-names number (Some named) = named == number
-
--- the numbers ascend, and no deadline is before that moment
-pub record AreInOrder (least : ℕ) (gets : List OpenGet) : Type 0 where
-  pub ascending : Ascend (λ g. g.row.number) gets
-  pub deadlines : AllByRecursion (λ g. least ≤ g.row.deadline) gets

@@ -2,7 +2,7 @@
 use Rattle.std.specs.Prelude.{ℕ, ◌&&◌, Bool, not, List, [], ◌∷◌, ◌++◌, map, bytes_eq, if◌then◌else◌}
 use Rattle.std.specs.List.{list_any}
 use Rattle.zs_sample.specs.Reply.{Replied}
-use Rattle.zs_query.specs.Marks.{Mark, mark_of, key_of, is_below}
+use Rattle.zs_query.specs.Marks.{mark_of, key_of, is_below}
 
 -- two replies on one key
 abbrev pub same_key : Replied → Replied → Bool

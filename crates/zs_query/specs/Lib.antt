@@ -1,8 +1,10 @@
 pub mod Ascending
 pub mod Unfinished
+pub mod ValueRows
 pub mod Marks
 pub mod Kept
 pub mod Gets
+pub mod GetRows
 pub mod ByKey
 pub mod Laws
 pub mod Asked

@@ -1,5 +1,5 @@
 -- The query values that were handed out and not given back.
-use Rattle.std.specs.Prelude.{◌≡◌, ℕ, ◌+◌, ◌<◌, ◌==◌, ◌&&◌, nat_lt, Bool, not, List, [], ◌∷◌, filter, Option, Some, None, MatchOption, if◌then◌else◌}
+use Rattle.std.specs.Prelude.{◌≡◌, ℕ, ◌+◌, ◌<◌, ◌==◌, ◌&&◌, Bool, not, List, [], ◌∷◌, filter, Option, Some, None, MatchOption, if◌then◌else◌}
 use Rattle.std.specs.List.{find, list_any, AllByRecursion}
 use Rattle.std.specs.Borrow.{Bor}
 use Rattle.zs_query.specs.declared.query_value.QueryValue.{QueryValue}
@@ -9,6 +9,7 @@ use Rattle.zs_query.specs.declared.requests.Finished.TheVariants.{Unknown, MoreL
 use Rattle.zs_query.specs.declared.requests.Finishing.{Finishing}
 use Rattle.zs_query.specs.declared.requests.Finishing.TheVariants as finishing
 use Rattle.zs_query.specs.Ascending.{Ascend, placed}
+pub use Rattle.zs_rows.specs.Rows.{is_between}
 
 -- the unfinished values, ascending, and how many requests were handed out so far
 pub record Unfinished : Type 0 where
@@ -18,10 +19,6 @@ pub record Unfinished : Type 0 where
 -- the unfinished value of that number, if there is one
 abbrev pub value_at : ℕ → List QueryValue → Option QueryValue
 value_at number values = find (λ v. v.value == number) values
-
--- a number from `first` on, and below `end`
-abbrev pub is_between : ℕ → ℕ → ℕ → Bool
-is_between first end n = not (nat_lt n first) && nat_lt n end
 
 -- whether an unfinished value has one of these numbers
 abbrev pub are_used : ℕ → ℕ → List QueryValue → Bool

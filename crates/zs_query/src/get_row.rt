@@ -1,6 +1,8 @@
 ghost use Rattle.std.specs.Prelude.{◌≡◌};
-ghost use Rattle.zs_query.specs.Gets.{wants, less, takes_key, names};
+ghost use Rattle.zs_query.specs.Gets.{wants, less, takes_key};
+ghost use Rattle.zs_query.specs.GetRows.{keys_of};
 
+use crate::get_marks::GetKeys;
 use crate::side::Side;
 use zs_keys::KeyExpr;
 use zs_wire::ConsolidationMode;
@@ -27,6 +29,18 @@ pub struct GetRow {
 }
 
 impl GetRow {
+    /// Its number, and the keys under which it is found.
+    pub(crate) fn keys(&self) -> GetKeys
+        ensures { result ≡ keys_of self.now }
+    {
+        GetKeys {
+            number: self.number,
+            deadline: self.deadline,
+            token: wide(self.token),
+            querier: wide(self.querier),
+        }
+    }
+
     /// Whether it waits for the final of that side.
     pub(crate) fn wants(&self, side: Side) -> bool
         ensures { result ≡ wants side self.now }
@@ -53,18 +67,14 @@ impl GetRow {
     {
         self.any_key || self.key.meets(key)
     }
+}
 
-    /// Whether that querier asked.
-    pub(crate) fn is_of_querier(&self, id: u32) -> bool
-        ensures { result ≡ names id self.now.querier }
-    {
-        self.querier == Some(id)
-    }
-
-    /// Whether that token ends it.
-    pub(crate) fn has_token(&self, token: u32) -> bool
-        ensures { result ≡ names token self.now.token }
-    {
-        self.token == Some(token)
+/// A number as a key of an index.
+fn wide(number: Option<u32>) -> Option<u64>
+    ensures { result ≡ number }
+{
+    match number {
+        Some(number) => Some(u64::from(number)),
+        None => None,
     }
 }

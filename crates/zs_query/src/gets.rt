@@ -6,36 +6,30 @@ ghost use Rattle.zs_query.specs.Gets.{get_at, without_get, with_get, fresh, peek
 
 use crate::ends::Ends;
 use crate::get_row::GetRow;
+use crate::get_rows::GetRows;
 use crate::open_get::OpenGet;
 use crate::outcome::{Outcome, Peek};
-use crate::places::{find_get, get_place, gets_behind, insert_get, least_deadline, numbers_of};
 use crate::side::Side;
-use crate::timeout::{ends_of, is_due};
 use std::alloc::{AllocError, Global};
 use std::marker::Model;
 use zs_sample::Reply;
 
-/// The open gets, each with what it keeps of its replies. A get is found by its number by binary search, and a reply's
-/// key by its hash; a tick before the first deadline looks at no get. No call that answers want of memory has changed
-/// anything.
+/// The open gets, each with what it keeps of its replies. A get is found by its number, its deadline, its token and its
+/// querier in steps that go with the logarithm of how many there are, and a reply's key by its hash; a tick, a token and a
+/// querier look at the gets that they end alone. No call that answers want of memory has changed anything.
 #[derive(Drop)]
 pub struct Gets {
     alloc: Global,
-    gets: Vec<OpenGet>,
-    /// No deadline is before it.
-    least: u64,
+    gets: GetRows,
 }
 
 impl Model for Gets {
     ghost use Rattle.std.specs.Prelude.{List};
     ghost use Rattle.zs_query.specs.declared.open_get.OpenGet.{OpenGet};
-    ghost use Rattle.zs_query.specs.Gets.{AreInOrder};
 
     ghost Value = { List OpenGet };
 
-    ghost view = { λ s. s.gets.items };
-
-    ghost invariant = { λ s. AreInOrder s.least s.gets.items };
+    ghost view = { λ s. s.gets };
 }
 
 impl Gets {
@@ -45,8 +39,7 @@ impl Gets {
     {
         Gets {
             alloc,
-            gets: Vec::new(alloc),
-            least: u64::MAX,
+            gets: GetRows::new(alloc),
         }
     }
 
@@ -54,7 +47,7 @@ impl Gets {
     pub fn is_open(&self, number: u32) -> bool
         ensures { result ≡ is_some (get_at number self.now) }
     {
-        get_place(&self.gets, number).is_ok()
+        self.gets.has(number)
     }
 
     /// Opens a get.
@@ -69,10 +62,7 @@ impl Gets {
         ensures ok { OnOk result (self.new ≡ placed (λ g. g.row.number) row.number (fresh row ∷ []) self.old) }
         ensures err { OnErr result (self.new ≡ self.old) }
     {
-        self.gets.reserve(1)?;
-        self.least = self.least.min(row.deadline);
-        insert_get(&mut self.gets, OpenGet::new(self.alloc, row));
-        Ok(())
+        self.gets.insert(OpenGet::new(self.alloc, row))
     }
 
     /// What a reply that holds a sample would come to.
@@ -80,7 +70,7 @@ impl Gets {
         requires { IsOk reply.now.result }
         ensures { result ≡ peek_at (get_at number self.now) reply.now }
     {
-        match find_get(&self.gets, number) {
+        match self.gets.find(number) {
             Some(get) => get.peek(reply),
             None => Peek::Unknown,
         }
@@ -97,10 +87,7 @@ impl Gets {
         ensures ok { OnOk result (self.new ≡ with_get number (replied reply) self.old) }
         ensures err { OnErr result (self.new ≡ self.old) }
     {
-        let Ok(at) = get_place(&self.gets, number) else {
-            return Ok(Outcome::Unknown);
-        };
-        self.gets[at].take(self.alloc, reply)
+        self.gets.reply(self.alloc, number, reply)
     }
 
     /// Takes a reply that holds an error.
@@ -112,7 +99,7 @@ impl Gets {
         ensures answer { IfOk result (λ outcome. outcome ≡ error_outcome (get_at number self.old) error) }
         ensures same { self.new ≡ self.old }
     {
-        if find_get(&self.gets, number).is_none() {
+        if self.gets.find(number).is_none() {
             return Ok(Outcome::Unknown);
         }
         Ok(Outcome::Handed(error))
@@ -128,20 +115,21 @@ impl Gets {
         ensures ok { IfOk result (λ outcome. self.new ≡ after_final outcome side number self.old) }
         ensures err { OnErr result (self.new ≡ self.old) }
     {
-        let Ok(at) = get_place(&self.gets, number) else {
+        let Some(get) = self.gets.find(number) else {
             return Ok(Outcome::Unknown);
         };
-        let get = &self.gets[at];
         if !get.row.wants(side) {
             return Ok(Outcome::Repeated);
         }
         if get.row.wants(side.other()) {
-            self.gets[at].row.take_final(side);
+            self.gets.lessen(number, side);
             return Ok(Outcome::Counted);
         }
         let room = Vec::with_capacity(self.alloc, get.kept.len())?;
-        let ended = self.gets.remove(at).into_kept();
-        Ok(Outcome::Ended(ended.into_replies(room)))
+        let Some(ended) = self.gets.take(number) else {
+            return Ok(Outcome::Unknown);
+        };
+        Ok(Outcome::Ended(ended.into_kept().into_replies(room)))
     }
 
     /// What the final of a side would come to. It hands out copies.
@@ -152,7 +140,7 @@ impl Gets {
     pub fn peek_final(&self, number: u32, side: Side) -> Result<Outcome, AllocError>
         ensures { IfOk result (λ outcome. outcome ≡ final_outcome side (get_at number self.now)) }
     {
-        match find_get(&self.gets, number) {
+        match self.gets.find(number) {
             Some(get) => get.peek_final(self.alloc, side),
             None => Ok(Outcome::Unknown),
         }
@@ -162,18 +150,17 @@ impl Gets {
     pub fn note_final(&mut self, number: u32, side: Side)
         ensures { self.new ≡ after_final (final_outcome side (get_at number self.old)) side number self.old }
     {
-        let Ok(at) = get_place(&self.gets, number) else {
+        let Some(get) = self.gets.find(number) else {
             return;
         };
-        let get = &self.gets[at];
         if !get.row.wants(side) {
             return;
         }
         if get.row.wants(side.other()) {
-            self.gets[at].row.take_final(side);
+            self.gets.lessen(number, side);
             return;
         }
-        let _ = self.gets.remove(at);
+        let _open = end_get(&mut self.gets, number);
     }
 
     /// Ends each get whose deadline is at that moment or before it. Each hands out what it kept, and then the error
@@ -200,21 +187,16 @@ impl Gets {
     pub fn peek_tick(&self, now: u64) -> Result<Ends, AllocError>
         ensures { IfOk result (λ ends. ends ≡ ends_at now self.now) }
     {
-        if now < self.least {
-            return Ok(Ends::of(Vec::new(self.alloc)));
-        }
-        ends_of(self.alloc, &self.gets, now)
+        self.gets.ends(self.alloc, now)
     }
 
     /// Ends each get whose deadline is at that moment or before it, and hands nothing out.
     pub fn note_tick(&mut self, now: u64)
         ensures { self.new ≡ filter (λ g. not (is_due now g)) self.old }
     {
-        if now < self.least {
-            return;
+        'gets: while let Some(number) = self.gets.first_due(now) {
+            let _open = end_get(&mut self.gets, number);
         }
-        self.gets.retain(|get| !is_due(get, now));
-        self.least = least_deadline(&self.gets);
     }
 
     /// The numbers of the open gets, ascending.
@@ -225,7 +207,7 @@ impl Gets {
     pub fn numbers(&self) -> Result<Vec<u32>, AllocError>
         ensures { IfOk result (λ numbers. numbers.items ≡ map (λ g. g.row.number) self.now) }
     {
-        numbers_of(self.alloc, &self.gets)
+        self.gets.numbers(self.alloc)
     }
 
     /// The row of the open get with the least number above that one, or with the least of all.
@@ -233,17 +215,14 @@ impl Gets {
         ensures next { option_copied result ≡ first_row (filter (λ g. is_behind after g.row.number) self.now) }
         ensures ascending { Ascend (λ g. g.row.number) self.now }
     {
-        match gets_behind(&self.gets, after) {
-            [get, ..] => Some(&get.row),
-            [] => None,
-        }
+        self.gets.next_behind(after)
     }
 
     /// How many replies the end of a get by its finals would hand out, 0 where it isn't open.
     pub fn kept(&self, number: u32) -> usize
         ensures { result ≡ length (kept_at (get_at number self.now)) }
     {
-        match find_get(&self.gets, number) {
+        match self.gets.find(number) {
             Some(get) => get.kept.len(),
             None => 0,
         }
@@ -253,7 +232,7 @@ impl Gets {
     pub fn kept_reply(&self, number: u32, index: usize) -> Option<&Reply>
         ensures { option_copied result ≡ slice_get (kept_at (get_at number self.now)) index }
     {
-        let Some(get) = find_get(&self.gets, number) else {
+        let Some(get) = self.gets.find(number) else {
             return None;
         };
         get.kept.get(index)
@@ -264,25 +243,25 @@ impl Gets {
         ensures answer { result ≡ is_some (get_at number self.old) }
         ensures gets { self.new ≡ without_get number self.old }
     {
-        let Ok(at) = get_place(&self.gets, number) else {
-            return false;
-        };
-        let _ = self.gets.remove(at);
-        true
+        end_get(&mut self.gets, number)
     }
 
     /// Ends each get that the querier asked.
     pub fn end_querier(&mut self, id: u32)
         ensures { self.new ≡ filter (λ g. not (names id g.row.querier)) self.old }
     {
-        self.gets.retain(|get| !get.row.is_of_querier(id));
+        'gets: while let Some(number) = self.gets.first_of_querier(id) {
+            let _open = end_get(&mut self.gets, number);
+        }
     }
 
     /// Ends each get that has the cancellation token.
     pub fn end_token(&mut self, token: u32)
         ensures { self.new ≡ filter (λ g. not (names token g.row.token)) self.old }
     {
-        self.gets.retain(|get| !get.row.has_token(token));
+        'gets: while let Some(number) = self.gets.first_of_token(token) {
+            let _open = end_get(&mut self.gets, number);
+        }
     }
 
     /// Ends all gets.
@@ -290,6 +269,13 @@ impl Gets {
         ensures { self.new ≡ [] }
     {
         self.gets.clear();
-        self.least = u64::MAX;
     }
+}
+
+/// Ends a get, and says whether it was open.
+fn end_get(gets: &mut GetRows, number: u32) -> bool
+    ensures answer { result ≡ is_some (get_at number gets.old) }
+    ensures gets { gets.new ≡ without_get number gets.old }
+{
+    gets.take(number).is_some()
 }

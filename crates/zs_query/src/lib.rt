@@ -18,7 +18,9 @@ pub use requests::{Finished, Finishing, Requests};
 pub use side::Side;
 
 mod ends;
+mod get_marks;
 mod get_row;
+mod get_rows;
 mod get_table;
 mod gets;
 mod kept_replies;
@@ -26,7 +28,6 @@ mod last_times;
 mod laws;
 mod open_get;
 mod outcome;
-mod places;
 mod query_data;
 mod query_value;
 mod replies;

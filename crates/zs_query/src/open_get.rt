@@ -1,5 +1,5 @@
 ghost use Rattle.std.specs.Prelude.{◌≡◌, Some, IfOk, OnOk, OnErr, IsOk, if◌then◌else◌};
-ghost use Rattle.zs_query.specs.Gets.{fresh, peek_by, peek_get, named, after_reply, replied, final_outcome};
+ghost use Rattle.zs_query.specs.Gets.{fresh, peek_by, peek_get, named, after_reply, replied, final_outcome, less_final};
 
 use crate::get_row::GetRow;
 use crate::kept_replies::KeptReplies;
@@ -104,6 +104,13 @@ impl OpenGet {
             return Ok(Outcome::Counted);
         }
         Ok(Outcome::Ended(Replies::of(self.kept.copies(alloc)?)))
+    }
+
+    /// Waits for the final of that side no longer.
+    pub(crate) fn take_final(&mut self, side: Side)
+        ensures { self.new ≡ less_final side self.old }
+    {
+        self.row.take_final(side);
     }
 
     /// What it keeps.

@@ -4,11 +4,10 @@ ghost use Rattle.zs_query.specs.Unfinished.{value_at, are_used, with_request, sh
 
 use crate::query_value::QueryValue;
 use crate::request_row::RequestRow;
-use crate::values::{
-    count_of, find_value, has_other, has_request, make_share, make_values, put_in, value_place,
-};
+use crate::values::{count_of, find_value, has_other, is_used, make_share, make_values};
 use std::alloc::{AllocError, Global};
 use std::marker::Model;
+use zs_rows::{Index, Rows};
 
 /// What giving a query value back comes to.
 #[derive(Debug, Drop)]
@@ -33,23 +32,27 @@ pub enum Finishing<'a> {
 }
 
 /// The query values that were handed out and not given back, each with its request and queryable. A request is told
-/// apart from others by when it was handed out, and not by its number. No call that answers want of memory has changed
-/// anything.
+/// apart from others by when it was handed out, and not by its number. A value is found, put in and given back in steps
+/// that go with the logarithm of how many there are. No call that answers want of memory has changed anything.
 #[derive(Drop)]
 pub struct Requests {
     alloc: Global,
     handed: u64,
-    values: Vec<QueryValue>,
+    values: Rows<QueryValue>,
+    /// The numbers of the values of each request.
+    requests: Index,
 }
 
 impl Model for Requests {
-    ghost use Rattle.zs_query.specs.Unfinished.{Unfinished, AreInOrder};
+    ghost use Rattle.zs_rows.specs.Rows.{rows_of};
+    ghost use Rattle.zs_query.specs.Unfinished.{Unfinished};
+    ghost use Rattle.zs_query.specs.ValueRows.{AreFiled};
 
     ghost Value = { Unfinished };
 
-    ghost view = { λ r. record { handed = r.handed; values = r.values.items } };
+    ghost view = { λ r. record { handed = r.handed; values = rows_of r.values } };
 
-    ghost invariant = { λ r. AreInOrder r.handed r.values.items };
+    ghost invariant = { λ r. AreFiled r.handed r.values r.requests };
 }
 
 impl Requests {
@@ -60,7 +63,8 @@ impl Requests {
         Requests {
             alloc,
             handed: 0,
-            values: Vec::new(alloc),
+            values: Rows::new(alloc),
+            requests: Index::new(alloc),
         }
     }
 
@@ -68,9 +72,7 @@ impl Requests {
     pub fn are_used(&self, first: u32, end: u32) -> bool
         ensures { result ≡ are_used first end self.now.values }
     {
-        self.values
-            .iter()
-            .any(|value| value.value >= first && value.value < end)
+        is_used(&self.values, first, end)
     }
 
     /// Takes a request that is handed out to queryables, each with a query value of its own, numbered from `first` on.
@@ -95,8 +97,12 @@ impl Requests {
             return Err(AllocError);
         };
         let made = make_values(self.alloc, request, self.handed, queryables, first)?;
-        self.values.reserve(made.len())?;
-        put_in(&mut self.values, first, made);
+        let end = first + made.len() as u32;
+        self.requests.note_all(self.handed, first, end)?;
+        if let Err(error) = self.values.insert_all(first, made) {
+            self.requests.forget_all(self.handed, first, end);
+            return Err(error);
+        }
         self.handed = handed;
         Ok(())
     }
@@ -117,8 +123,12 @@ impl Requests {
             return Ok(false);
         };
         let made = make_share(self.alloc, found, new)?;
-        self.values.reserve(1)?;
-        put_in(&mut self.values, new, made);
+        let request = made.request;
+        self.requests.note(Some(request), new)?;
+        if let Err(error) = self.values.insert(new, made) {
+            self.requests.forget(Some(request), new);
+            return Err(error);
+        }
         Ok(true)
     }
 
@@ -127,11 +137,11 @@ impl Requests {
         ensures answer { result ≡ finished (value_at value self.old.values) self.old.values }
         ensures values { self.new ≡ record self.old { values = without_value value self.old.values } }
     {
-        let Ok(at) = value_place(&self.values, value) else {
+        let Some(ended) = self.values.remove(value) else {
             return Finished::Unknown;
         };
-        let ended = self.values.remove(at);
-        let more_left = has_request(&self.values, ended.request);
+        self.requests.forget(Some(ended.request), value);
+        let more_left = self.requests.first_under(ended.request).is_some();
         finished_of(ended, more_left)
     }
 
@@ -142,7 +152,7 @@ impl Requests {
         let Some(found) = find_value(&self.values, value) else {
             return Finishing::Unknown;
         };
-        finishing_of(found, has_other(&self.values, found))
+        finishing_of(found, has_other(&self.requests, found))
     }
 
     /// The request and the queryable of an unfinished value.

@@ -1,32 +1,47 @@
 //! The ends of gets at their deadlines.
 
-ghost use Rattle.std.specs.Prelude.{◌≡◌, IfOk};
-ghost use Rattle.zs_query.specs.Gets.{timeout_error, end_of, ends_at, is_due};
+ghost use Rattle.std.specs.Prelude.{◌≡◌, ◌++◌, IfOk, OnOk};
+ghost use Rattle.zs_rows.specs.Ascending.{Ascend};
+ghost use Rattle.zs_rows.specs.Rows.{row_at};
+ghost use Rattle.zs_query.specs.Gets.{timeout_error, end_of, end_at, ends_from};
 
 use crate::ends::Ends;
 use crate::open_get::OpenGet;
 use crate::replies::Replies;
 use std::alloc::{AllocError, Global};
+use zs_rows::{Numbers, Rows};
 use zs_sample::{Encoding, Reply, ReplyError, ZBytes};
 
-/// The end of each get whose deadline is reached.
-pub(crate) fn ends_of(alloc: Global, gets: &[OpenGet], now: u64) -> Result<Ends, AllocError>
-    ensures { IfOk result (λ ends. ends ≡ ends_at now gets.now) }
+/// The ends of the gets of these numbers.
+pub(crate) fn ends_of(
+    alloc: Global,
+    rows: &Rows<OpenGet>,
+    numbers: &Numbers,
+) -> Result<Ends, AllocError>
+    ensures ends { IfOk result (λ ends. ends ≡ ends_from numbers.now rows.now) }
+    ensures ascending { Ascend (λ n. n) numbers.now }
 {
     let mut ends = Vec::new(alloc);
-    for get in gets {
-        if is_due(get, now) {
-            ends.push((get.row.number, last_replies(alloc, get)?))?;
-        }
+    for number in numbers.iter() {
+        push_end(alloc, &mut ends, rows, *number)?;
     }
     Ok(Ends::of(ends))
 }
 
-/// Whether a get's deadline is reached.
-pub(crate) fn is_due(get: &OpenGet, now: u64) -> bool
-    ensures { result ≡ is_due now get.now }
+/// Pushes the end of the get of that number.
+fn push_end(
+    alloc: Global,
+    ends: &mut Vec<(u32, Replies)>,
+    rows: &Rows<OpenGet>,
+    number: u32,
+) -> Result<(), AllocError>
+    ensures { OnOk result (ends.new.items ≡ ends.old.items ++ end_at number (row_at number rows.now)) }
 {
-    get.row.deadline <= now
+    let Some(get) = rows.find(number) else {
+        return Ok(());
+    };
+    ends.push((number, last_replies(alloc, get)?))?;
+    Ok(())
 }
 
 /// What a get hands out at its deadline.

@@ -1,32 +1,24 @@
-//! Query values in ascending order.
+//! Query values, and the numbers of a request's values.
 
-ghost use Rattle.std.specs.Prelude.{◌≡◌, ◌+◌, ◌^◌, ◌<◌, ◌≤◌, ◌==◌, [], ◌∷◌, length, vec_len, vec_capacity, filter, IfOk};
+ghost use Rattle.std.specs.Prelude.{◌≡◌, ◌+◌, ◌^◌, ◌<◌, ◌==◌, length, filter, IfOk};
 ghost use Rattle.std.specs.List.{list_any, AllByRecursion};
 ghost use Rattle.std.specs.Option.{option_copied};
-ghost use Rattle.zs_query.specs.Ascending.{Ascend, IsPlaceOf, placed};
-ghost use Rattle.zs_query.specs.Unfinished.{values_from, value_at, has_other};
+ghost use Rattle.zs_rows.specs.Rows.{AreNumbered, rows_of};
+ghost use Rattle.zs_query.specs.Ascending.{Ascend};
+ghost use Rattle.zs_query.specs.Unfinished.{values_from, value_at, is_between};
+ghost use Rattle.zs_query.specs.ValueRows.{IsAnother};
 
 use crate::query_value::QueryValue;
 use crate::request_row::RequestRow;
 use std::alloc::{AllocError, Global};
-
-/// Where a value stands, or where it would go.
-pub(crate) fn value_place(values: &[QueryValue], number: u32) -> Result<usize, usize>
-    requires { Ascend (λ v. v.value) values.now }
-    ensures { IsPlaceOf (λ v. v.value) number values.now result }
-{
-    values.binary_search_by_key(&number, |value| value.value)
-}
+use zs_rows::{Index, Rows};
 
 /// The value of that number.
-pub(crate) fn find_value(values: &[QueryValue], number: u32) -> Option<&QueryValue>
-    requires { Ascend (λ v. v.value) values.now }
-    ensures { option_copied result ≡ value_at number values.now }
+pub(crate) fn find_value(values: &Rows<QueryValue>, number: u32) -> Option<&QueryValue>
+    requires { AreNumbered (λ v. v.value) values.now }
+    ensures { option_copied result ≡ value_at number (rows_of values.now) }
 {
-    match value_place(values, number) {
-        Ok(at) => Some(&values[at]),
-        Err(_) => None,
-    }
+    values.find(number)
 }
 
 /// A value for each queryable, numbered from `first` on.
@@ -54,65 +46,59 @@ pub(crate) fn make_values(
     Ok(made)
 }
 
-/// Puts the values of a list where the first of them belongs, in the room that there is.
-pub(crate) fn put_in(values: &mut Vec<QueryValue>, first: u32, mut more: Vec<QueryValue>)
-    requires ascending { Ascend (λ v. v.value) values.old.items }
-    requires room { vec_len values.old + vec_len more ≤ vec_capacity values.old }
-    ensures { values.new.items ≡ placed (λ v. v.value) first more.items values.old.items }
-{
-    let at = values.partition_point(|value| value.value < first);
-    while let Some(value) = more.pop() {
-        let _ = values.insert(at, value);
-    }
-}
-
-/// One more value of the same request and queryable, in a list.
+/// One more value of the same request and queryable.
 pub(crate) fn make_share(
     alloc: Global,
     value: &QueryValue,
     new: u32,
-) -> Result<Vec<QueryValue>, AllocError>
-    ensures { IfOk result (λ made. made.items ≡ record value.now { value = new } ∷ []) }
+) -> Result<QueryValue, AllocError>
+    ensures { IfOk result (λ made. made ≡ record value.now { value = new }) }
 {
-    let share = QueryValue {
+    let row = value.row.try_clone(alloc)?;
+    Ok(QueryValue {
         value: new,
         queryable: value.queryable,
         request: value.request,
-        row: value.row.try_clone(alloc)?,
-    };
-    let mut made = Vec::with_capacity(alloc, 1)?;
-    made.push(share)?;
-    Ok(made)
+        row,
+    })
 }
 
-/// Whether a request has a value.
-pub(crate) fn has_request(values: &[QueryValue], request: u64) -> bool
-    ensures { result ≡ list_any (λ v. v.request == request) values.now }
+/// Whether a value has a number from `first` on that is below `end`.
+pub(crate) fn is_used(values: &Rows<QueryValue>, first: u32, end: u32) -> bool
+    ensures { result ≡ list_any (λ e. is_between first end e.0) values.now }
 {
-    values.iter().any(|value| value.request == request)
+    values
+        .iter()
+        .any(|(number, _value)| *number >= first && *number < end)
 }
 
-/// Whether another value of its request is there.
-pub(crate) fn has_other(values: &[QueryValue], value: &QueryValue) -> bool
-    ensures { result ≡ has_other value.now values.now }
+/// Whether another number than that of a value stands under its request.
+pub(crate) fn has_other(requests: &Index, value: &QueryValue) -> bool
+    ensures { IsAnother value.now.request value.now.value requests.now result }
 {
-    values.iter().any(|other| other.request == value.request && other.value != value.value)
+    if requests.next_under(value.request, value.value).is_some() {
+        return true;
+    }
+    match requests.first_under(value.request) {
+        Some(first) => first < value.value,
+        None => false,
+    }
 }
 
 /// How many values a request has. They have as many numbers, all of one type.
-pub(crate) fn count_of(values: &[QueryValue], request: u64) -> u32
-    requires ascending { Ascend (λ v. v.value) values.now }
-    requires below { AllByRecursion (λ v. v.value < 4294967295) values.now }
-    ensures { result ≡ length (filter (λ v. v.request == request) values.now) }
+pub(crate) fn count_of(values: &Rows<QueryValue>, request: u64) -> u32
+    requires below { AllByRecursion (λ e. e.0 < 4294967295) values.now }
+    ensures { result ≡ length (filter (λ e. e.1.request == request) values.now) }
 {
     number_of(values, request) as u32
 }
 
-fn number_of(values: &[QueryValue], request: u64) -> usize
-    ensures { result ≡ length (filter (λ v. v.request == request) values.now) }
+fn number_of(values: &Rows<QueryValue>, request: u64) -> usize
+    ensures count { result ≡ length (filter (λ e. e.1.request == request) values.now) }
+    ensures ascending { Ascend (λ e. e.0) values.now }
 {
     values
         .iter()
-        .filter(|value| value.request == request)
+        .filter(|entry| entry.1.request == request)
         .count()
 }

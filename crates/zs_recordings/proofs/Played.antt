@@ -19,7 +19,7 @@ use Rattle.zs_lines.specs.Lines.{lines as cut_lines}
 use Rattle.zs_keys.specs.Stream.{PutsOn}
 use Rattle.zs_events.specs.declared.event.Event.{Event}
 use Rattle.zs_events.specs.declared.turn.Turn.{Turn}
-use Rattle.zs_core.specs.declared.settings.Settings.{Settings}
+use Rattle.zs_core.specs.Types.{Settings}
 use Rattle.zs_core.specs.Stands.{Stands, Steps}
 use Rattle.zs_core.specs.World.{World}
 use Rattle.zs_recordings.specs.Entries.{turn_rows}

@@ -15,7 +15,7 @@ use Rattle.zs_driving.proofs.Exits.{retold, unstarted}
 use Rattle.zs_lines.specs.Lines.{lines}
 use Rattle.zs_events.specs.declared.event.Event.{Event}
 use Rattle.zs_events.specs.declared.event.Event.TheVariants.{Close}
-use Rattle.zs_core.specs.declared.settings.Settings.{Settings}
+use Rattle.zs_core.specs.Types.{Settings}
 use Rattle.zs_core.specs.Effects.{effects}
 use Rattle.zs_core.specs.Stands.{Stands, Steps}
 use Rattle.zs_core.specs.World.{World}

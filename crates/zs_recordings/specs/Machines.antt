@@ -5,7 +5,7 @@ use Rattle.std.specs.String.{string_bytes}
 use Rattle.zs_driving.specs.Tasks.{Rules}
 use Rattle.zs_driving.specs.Languages.{events_of, rules_of}
 use Rattle.zs_events.specs.declared.event.Event.{Event}
-use Rattle.zs_core.specs.declared.settings.Settings.{Settings}
+use Rattle.zs_core.specs.Types.{Settings}
 use Rattle.zs_core.specs.Effects.{effects}
 use Rattle.zs_core.specs.Stands.{Stands}
 use Rattle.zs_core.specs.World.{World}

@@ -11,7 +11,7 @@ use Rattle.zs_driving.specs.declared.driving.Driven.{Driven}
 use Rattle.zs_driving.specs.declared.errors.DriveError.{DriveError}
 use Rattle.zs_events.specs.declared.event.Event.{Event}
 use Rattle.zs_events.specs.declared.event.Event.TheVariants.{Close}
-use Rattle.zs_core.specs.declared.settings.Settings.{Settings}
+use Rattle.zs_core.specs.Types.{Settings}
 use Rattle.zs_core.specs.Effects.{effects}
 use Rattle.zs_recordings.specs.Entries.{entry_text, recorded_of}
 

@@ -2,7 +2,7 @@
 
 ghost use Rattle.std.specs.Prelude.{◌≡◌, List, [], false, Err, IsTrue, OnOk};
 ghost use Rattle.zs_driving.specs.declared.errors.DriveError.{DriveError};
-ghost use Rattle.zs_core.specs.declared.settings.Settings.{Settings};
+ghost use Rattle.zs_core.specs.Types.{Settings};
 ghost use Rattle.zs_core.specs.Settings.{is_valid};
 ghost use Rattle.zs_core.specs.Stands.{Stands};
 ghost use Rattle.zs_recordings.specs.Recording.{Recorded};

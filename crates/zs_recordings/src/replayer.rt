@@ -4,7 +4,7 @@ ghost use Rattle.std.specs.Prelude.{◌≡◌, ℕ, ◌+◌, ◌==◌, Bool, tru
 ghost use Rattle.std.specs.String.{string_bytes};
 ghost use Rattle.zs_driving.specs.Tasks.{Rules};
 ghost use Rattle.zs_driving.specs.Languages.{rules_of};
-ghost use Rattle.zs_core.specs.declared.settings.Settings.{Settings};
+ghost use Rattle.zs_core.specs.Types.{Settings};
 ghost use Rattle.zs_core.specs.Settings.{is_valid};
 ghost use Rattle.zs_script.specs.Grammar.{event_of};
 ghost use Rattle.zs_recordings.specs.Entries.{if_core, session_of};

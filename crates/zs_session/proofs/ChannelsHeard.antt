@@ -8,7 +8,7 @@ use Rattle.zs_events.specs.declared.script_event.ScriptEvent.TheVariants.{Core, 
 use Rattle.zs_events.specs.declared.turn.HandOver.{HandOver}
 use Rattle.zs_events.specs.declared.turn.Kind.{Kind}
 use Rattle.zs_events.specs.declared.turn.Turn.{Turn}
-use Rattle.zs_core.specs.declared.settings.Settings.{Settings}
+use Rattle.zs_core.specs.Types.{Settings}
 use Rattle.zs_core.specs.Effects.{effects}
 use Rattle.zs_channels.specs.Channel.{received, without_first}
 use Rattle.zs_channels.specs.Told.{Declared, state, channel_of}

@@ -16,3 +16,4 @@ pub mod Lines
 pub mod Retelling
 pub mod WordExamples
 mod Linking
+mod Quietly

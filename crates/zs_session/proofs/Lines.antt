@@ -7,7 +7,7 @@ use Rattle.zs_driving.proofs.Languages.{texts_are}
 use Rattle.zs_events.specs.declared.event.Event.TheVariants.{Close}
 use Rattle.zs_events.specs.declared.script_event.ScriptEvent.{ScriptEvent}
 use Rattle.zs_events.specs.declared.script_event.ScriptEvent.TheVariants.{Core}
-use Rattle.zs_core.specs.declared.settings.Settings.{Settings}
+use Rattle.zs_core.specs.Types.{Settings}
 use Rattle.zs_script.specs.Grammar.{event_of}
 use Rattle.zs_session.specs.Script.{events_of, event_text, text_after, text, language}
 

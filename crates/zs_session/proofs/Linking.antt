@@ -4,7 +4,7 @@ use Rattle.std.specs.Cmp.Lexicographic.{same_text}
 use Rattle.std.specs.List.{AllByRecursion, cons_option}
 use Rattle.std.specs.Str.{IsUtf8}
 use Rattle.zs_keys.specs.Key.{undeclared}
-use Rattle.zs_core.specs.declared.settings.Settings.{Settings}
+use Rattle.zs_core.specs.Types.{Settings}
 use Rattle.zs_core.specs.Received.{AreSpelled}
 use Rattle.zs_core.specs.Settings.{is_valid}
 use Rattle.zs_script.specs.Symbols.{after_prefix}

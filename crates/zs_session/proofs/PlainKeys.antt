@@ -9,7 +9,7 @@ use Rattle.zs_events.specs.declared.event.Event.{Event}
 use Rattle.zs_events.specs.declared.event.Event.TheVariants.{Pub, Querier, Publish, PublishBy, Net}
 use Rattle.zs_events.specs.declared.key_arg.KeyArg.{KeyArg}
 use Rattle.zs_events.specs.declared.key_arg.KeyArg.TheVariants.{Text, Number, Declared}
-use Rattle.zs_core.specs.declared.settings.Settings.{Settings}
+use Rattle.zs_core.specs.Types.{Settings}
 use Rattle.zs_events.specs.declared.turn.Kind.TheVariants.{Publisher, Querier as querier_kind}
 use Rattle.zs_events.specs.declared.turn.Refusal.{Refusal}
 use Rattle.zs_sample.specs.Encoding.{encoding_of}
@@ -28,8 +28,8 @@ use Rattle.zs_core.specs.Entry.{Entry, is_closed}
 use Rattle.std.specs.Option.{option_or}
 use Rattle.zs_core.specs.Held.{declares_number, tells_number, is_held, drawn_text, held_text, key_text, told_text, mapped_text, wire_text, text_named, named_text}
 use Rattle.zs_core.specs.Causes.{refusal_of}
-use Rattle.zs_core.specs.declared.publisher.PubRow.{PubRow}
-use Rattle.zs_core.specs.declared.querier.QuerierRow.{QuerierRow}
+use Rattle.zs_core.specs.Types.{PubRow}
+use Rattle.zs_core.specs.Types.{QuerierRow}
 use Rattle.zs_core.specs.Live.{appended, declared, is_live, live_pubs, live_queriers}
 use Rattle.zs_core.specs.Publications.{handed_encoding}
 use Rattle.zs_core.specs.Publishers.{pub_row, pub_at, content_of, resolved}

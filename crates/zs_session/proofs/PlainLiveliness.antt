@@ -16,7 +16,7 @@ use Rattle.zs_tables.specs.LivelinessGets.{is_asking}
 use Rattle.zs_events.specs.declared.turn.Effect.{Effect}
 use Rattle.zs_events.specs.Kinds.{ToLiveliness, NoToken, Subscribes, AsksTokens, TellsToken, EndsToken, EndsAnswers, row_of}
 use Rattle.zs_events.specs.Updates.{default_encoding}
-use Rattle.zs_core.specs.declared.settings.Settings.{Settings}
+use Rattle.zs_core.specs.Types.{Settings}
 use Rattle.zs_core.specs.Entry.{Entry}
 use Rattle.zs_core.specs.Publications.{handed_encoding}
 use Rattle.zs_core.specs.Tokens.{asking_now, answers, is_told, token_told, told_behind, told_tokens}

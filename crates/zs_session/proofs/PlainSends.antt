@@ -29,7 +29,7 @@ use Rattle.zs_events.specs.declared.turn.Effect.TheVariants.{Send, Hand, End, Ma
 use Rattle.zs_events.specs.declared.turn.HandOver.TheVariants.{Sample, Reply, Query}
 use Rattle.zs_events.specs.declared.turn.Kind.TheVariants.{LivelinessSubscriber}
 use Rattle.zs_events.specs.Kinds.{NamedKey, Publishes, NoContent, OwnContent, ByPublisher, row_of}
-use Rattle.zs_core.specs.declared.publisher.PubRow.{PubRow}
+use Rattle.zs_core.specs.Types.{PubRow}
 use Rattle.zs_core.specs.Groups.{Company, Shared, aggregate_of, sub_shared, pub_shared, querier_shared, joins_first, last_number, sends_if, last_sends, leaving, subscriber_end, interest_end, querier_end}
 use Rattle.zs_core.specs.Publishers.{pub_at, resolved}
 use Rattle.zs_core.specs.Subscribers.{sub_at}

@@ -23,7 +23,7 @@ use Rattle.zs_events.specs.Kinds.{Question, ToGets, NoGet, Asks, AsksBy, Answers
 use Rattle.zs_events.specs.declared.inquiry.Inquiry.{Inquiry}
 use Rattle.zs_events.specs.Updates.{texts_by}
 use Rattle.zs_core.specs.Entry.{Entry}
-use Rattle.zs_core.specs.declared.querier.QuerierRow.{QuerierRow}
+use Rattle.zs_core.specs.Types.{QuerierRow}
 use Rattle.zs_core.specs.Queriers.{querier_at, asks_of, to_gets_by}
 use Rattle.zs_core.specs.Live.{live_queryables, live_queriers, to_gets_of}
 use Rattle.zs_core.specs.Questions.{parameters_of, sent_value}

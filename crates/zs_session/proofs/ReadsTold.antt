@@ -20,7 +20,7 @@ use Rattle.zs_events.specs.declared.turn.Kind.{Kind}
 use Rattle.zs_events.specs.declared.turn.Refusal.TheVariants.{NotFound}
 use Rattle.zs_events.specs.Turn.{answered}
 use Rattle.zs_events.specs.Kinds.{row_of}
-use Rattle.zs_core.specs.declared.settings.Settings.{Settings}
+use Rattle.zs_core.specs.Types.{Settings}
 use Rattle.zs_core.specs.Entry.{is_closed}
 use Rattle.zs_core.specs.Received.{AreSpelled}
 use Rattle.zs_core.specs.Past.{past_of}

@@ -7,7 +7,7 @@ use Rattle.zs_driving.specs.Tasks.{Rules, Task, task_of}
 use Rattle.zs_driving.specs.Languages.{rules_of}
 use Rattle.zs_driving.specs.Driving.{Supply, Outlet, Drives as DrivesMachine, IsDone as IsDoneMachine}
 use Rattle.zs_driving.proofs.Exits.{retold}
-use Rattle.zs_core.specs.declared.settings.Settings.{Settings}
+use Rattle.zs_core.specs.Types.{Settings}
 use Rattle.zs_lines.specs.Lines.{lines}
 use Rattle.zs_script.specs.Grammar.{event_of}
 use Rattle.zs_session.specs.declared.scripted.ScriptedSession.{ScriptedSession}

@@ -2,7 +2,7 @@ use Rattle.std.proofs.Common.{◌≡◌, ℕ, List, [], ◌∷◌, true, Option,
 use Rattle.std.specs.List.{list_all}
 use Rattle.zs_events.specs.declared.script_event.ScriptEvent.{ScriptEvent}
 use Rattle.zs_events.specs.declared.script_event.ScriptEvent.TheVariants.{Core}
-use Rattle.zs_core.specs.declared.settings.Settings.{Settings}
+use Rattle.zs_core.specs.Types.{Settings}
 use Rattle.zs_events.specs.declared.event.Event.TheVariants.{Close}
 use Rattle.zs_lines.specs.Lines.{lines}
 use Rattle.zs_script.specs.Grammar.{event_of}

@@ -1,7 +1,7 @@
 -- The words of the mode that makes its script.
 use Rattle.std.proofs.Common.{◌≡◌, ℕ, List, [], ◌∷◌, Bool, true, false, Some, None, codes, refl, sym, ◌∙◌, bytes_eq}
 use Rattle.std.specs.Cmp.Lexicographic.{same_text}
-use Rattle.zs_core.specs.declared.settings.Settings.{Settings}
+use Rattle.zs_core.specs.Types.{Settings}
 use Rattle.zs_session.specs.Soak.{soak_named, soak_of}
 use Rattle.zs_session.specs.Words.{settings_of}
 use Rattle.zs_session.specs.declared.soak.Soak.{Soak}

@@ -6,7 +6,7 @@ use Rattle.zs_events.specs.declared.script_event.ScriptEvent.{ScriptEvent}
 use Rattle.zs_events.specs.declared.script_event.ScriptEvent.TheVariants.{Core, Recv}
 use Rattle.zs_events.specs.declared.turn.HandOver.{HandOver}
 use Rattle.zs_events.specs.declared.turn.Kind.{Kind}
-use Rattle.zs_core.specs.declared.settings.Settings.{Settings}
+use Rattle.zs_core.specs.Types.{Settings}
 use Rattle.zs_core.specs.Effects.{effects}
 use Rattle.zs_channels.specs.Channel.{received}
 use Rattle.zs_channels.specs.Told.{ChannelNews, Hears, Read, state, channel_of}

@@ -1,6 +1,6 @@
 -- A law over whole scripts.
 use Rattle.std.specs.Prelude.{ℕ, List}
-use Rattle.zs_core.specs.declared.settings.Settings.{Settings}
+use Rattle.zs_core.specs.Types.{Settings}
 use Rattle.zs_core.specs.Received.{AreSpelled}
 use Rattle.zs_session.specs.Script.{script, text}
 use Rattle.zs_session.specs.Telling.{Told, told}

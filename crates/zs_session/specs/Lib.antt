@@ -1,5 +1,6 @@
 pub mod Heard
 pub mod Script
+pub mod Quiet
 pub mod Scripted
 pub mod Telling
 pub mod Driving

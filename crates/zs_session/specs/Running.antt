@@ -7,7 +7,7 @@ use Rattle.zs_driving.specs.Driving.{Outlet, Supply, IsDone as IsDoneBy}
 use Rattle.zs_driving.specs.Languages.{events_of}
 use Rattle.zs_driving.specs.Errors.{status_of, complaint_of}
 use Rattle.zs_driving.specs.Statuses.{Complains, RunsTo}
-use Rattle.zs_core.specs.declared.settings.Settings.{Settings}
+use Rattle.zs_core.specs.Types.{Settings}
 use Rattle.zs_delivery.specs.Linked.{linked_after}
 use Rattle.zs_delivery.specs.Delivery.{BothHand}
 use Rattle.zs_link.specs.Mode.{link_task, link_language, Goes}

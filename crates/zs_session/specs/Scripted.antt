@@ -3,7 +3,7 @@ use Rattle.std.specs.Prelude.{◌≡◌, ℕ, List, length}
 use Rattle.zs_driving.specs.Tasks.{Rules}
 use Rattle.zs_driving.specs.Languages.{rules_of}
 use Rattle.zs_events.specs.declared.script_event.ScriptEvent.{ScriptEvent}
-use Rattle.zs_core.specs.declared.settings.Settings.{Settings}
+use Rattle.zs_core.specs.Types.{Settings}
 use Rattle.zs_core.specs.Stands.{Stands}
 use Rattle.zs_channels.specs.Table.{table_after}
 use Rattle.zs_session.specs.Heard.{core_of, heard}

@@ -4,7 +4,7 @@ use Rattle.std.specs.List.{filter_map, list_all}
 use Rattle.std.specs.Str.{bytes_eq}
 use Rattle.zs_keys.specs.Key.{undeclared}
 use Rattle.zs_keys.specs.Text.{is_canonical}
-use Rattle.zs_core.specs.declared.settings.Settings.{Settings}
+use Rattle.zs_core.specs.Types.{Settings}
 use Rattle.zs_core.specs.Settings.{default_settings, is_valid}
 use Rattle.zs_script.specs.Hexadecimal.{hex_of}
 use Rattle.zs_script.specs.Plain.{is_plain_text}

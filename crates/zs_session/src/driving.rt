@@ -1,3 +1,5 @@
+//! One session, driven by a script.
+
 ghost use Rattle.std.specs.Prelude.{◌≡◌, ◌≤◌, ℕ, List, [], IsTrue};
 ghost use Rattle.zs_keys.specs.Stream.{PutsOn};
 ghost use Rattle.zs_core.specs.Settings.{is_valid};

@@ -1,3 +1,5 @@
+//! Laws on the texts of scripts: what they tell of each event.
+
 ghost use Rattle.zs_session.specs.Laws.{TextTells};
 
 /// The text of a script tells of each event: a refusal just where one of its causes holds, and else the hand-overs of

@@ -11,6 +11,7 @@ pub use zs_driving::{DriveError, Driven, StdSink, StdSource};
 mod driving;
 mod laws;
 mod printing;
+mod quiet;
 mod running;
 mod scripted;
 mod soak;

@@ -1,6 +1,8 @@
+//! The program: its words, and what each makes it do.
+
 ghost use Rattle.std.specs.Prelude.{◌≡◌, ◌≢◌, ◌≤◌, ℕ, List, map, Some, None, IsTrue};
 ghost use Rattle.std.specs.String.{string_bytes};
-ghost use Rattle.zs_core.specs.declared.settings.Settings.{Settings};
+ghost use Rattle.zs_core.specs.Types.{Settings};
 ghost use Rattle.zs_core.specs.Settings.{is_valid};
 ghost use Rattle.zs_driving.specs.Statuses.{Complains};
 ghost use Rattle.zs_session.specs.Running.{bad_words, Runs, Links, Hands, Soaks};

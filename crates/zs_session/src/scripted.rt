@@ -6,17 +6,21 @@ ghost use Rattle.zs_driving.specs.Languages.{rules_of};
 ghost use Rattle.zs_events.specs.declared.event.Event.TheVariants.{Close};
 ghost use Rattle.zs_events.specs.declared.script_event.ScriptEvent.{ScriptEvent};
 ghost use Rattle.zs_events.specs.declared.script_event.ScriptEvent.TheVariants.{Core, Recv};
-ghost use Rattle.zs_core.specs.declared.settings.Settings.{Settings};
+ghost use Rattle.zs_core.specs.Types.{Settings};
 ghost use Rattle.zs_core.specs.Settings.{is_valid};
 ghost use Rattle.zs_events.specs.Turn.{answered};
+ghost use Rattle.zs_channels.specs.Table.{behind_all};
+ghost use Rattle.zs_channels.specs.Heard.{news_of_turn};
+ghost use Rattle.zs_script.specs.Printing.{turn_text};
 ghost use Rattle.zs_script.specs.Grammar.{event_of};
 ghost use Rattle.zs_session.specs.Script.{event_text, language, read_text, read_refusal};
 ghost use Rattle.zs_session.specs.Scripted.{StandsFor, IsBehind};
 
 use crate::printing::{add_received, add_turn};
+use crate::quiet::QuietSession;
 use std::alloc::{AllocError, Global};
 use zs_channels::Channels;
-use zs_core::{Event, HandOver, Kind, Refusal, SessionState, Settings, Turn};
+use zs_core::{Event, HandOver, Kind, Refusal, Settings, Turn};
 use zs_driving::{LineMachine, Transcript};
 use zs_events::{Received, ScriptEvent};
 use zs_lines::Line;
@@ -26,7 +30,7 @@ use zs_script::parse_event;
 #[derive(Drop)]
 pub(crate) struct ScriptedSession {
     alloc: Global,
-    state: SessionState,
+    state: QuietSession,
     channels: Channels<HandOver>,
     /// Where each event's text is printed; its memory outlives the events.
     printed: String,
@@ -38,7 +42,7 @@ impl ScriptedSession {
         requires { IsTrue (is_valid settings.now) }
         ensures { IfOk result (λ made. StandsFor made settings.now []) }
     {
-        let state = SessionState::new(alloc, settings)?;
+        let state = QuietSession::new(alloc, settings)?;
         Ok(ScriptedSession {
             alloc,
             state,
@@ -100,8 +104,26 @@ impl ScriptedSession {
         ensures err { OnErr result (transcript.new ≡ transcript.old) }
     {
         let turn = self.state.step(event)?;
-        self.channels.hear_turn(event, &turn)?;
-        add_turn(&mut self.printed, transcript, number, &turn)
+        let added = self.add_heard(event, turn.get(), number, transcript);
+        drop(turn);
+        added
+    }
+
+    /// Has the channels hear a turn, and adds its text.
+    fn add_heard(
+        &mut self,
+        event: &Event,
+        turn: &Turn,
+        number: u64,
+        transcript: &mut Transcript,
+    ) -> Result<(), AllocError>
+        ensures text { OnOk result (transcript.new ≡ transcript.old ++ turn_text number turn.now) }
+        ensures state { self.new.state ≡ self.old.state }
+        ensures heard { OnOk result (self.new.channels ≡ behind_all (news_of_turn event.now turn.now) self.old.channels) }
+        ensures err { OnErr result (transcript.new ≡ transcript.old) }
+    {
+        self.channels.hear_turn(event, turn)?;
+        add_turn(&mut self.printed, transcript, number, turn)
     }
 
     /// Reads the channel of a kind and number.

@@ -3,8 +3,8 @@ use Rattle.std.proofs.Common.{◌≡◌, ℕ, Bool, true, List, [], ◌∷◌}
 use Rattle.zs_events.specs.declared.event.Event.{Event}
 use Rattle.zs_events.specs.declared.turn.Turn.{Turn}
 use Rattle.zs_events.specs.Turn.{was_refused}
-use Rattle.zs_core.specs.declared.settings.Settings.{Settings}
-use Rattle.zs_core.specs.declared.change.Decision.{Decision}
+use Rattle.zs_core.specs.Types.{Settings}
+use Rattle.zs_core.specs.Types.{Decision}
 use Rattle.zs_core.specs.World.{World}
 use Rattle.zs_core.specs.Changes.{with_change}
 use Rattle.zs_core.specs.Stands.{world_after, ClosedIs, IsTaken}

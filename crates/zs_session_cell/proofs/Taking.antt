@@ -2,9 +2,9 @@
 use Rattle.std.proofs.Common.{◌≡◌, ℕ, true, List, [], ◌∷◌, ◌++◌, length, map, Option, refl, sym, ap, ◌∙◌, subst}
 use Rattle.zs_events.specs.declared.event.Event.{Event}
 use Rattle.zs_events.specs.declared.turn.Turn.{Turn}
-use Rattle.zs_core.specs.declared.settings.Settings.{Settings}
-use Rattle.zs_core.specs.declared.change.Change.{Change}
-use Rattle.zs_core.specs.declared.change.Decision.{Decision}
+use Rattle.zs_core.specs.Types.{Settings}
+use Rattle.zs_core.specs.Types.{Change}
+use Rattle.zs_core.specs.Types.{Decision}
 use Rattle.zs_core.specs.World.{World}
 use Rattle.zs_core.specs.Changes.{with_change}
 use Rattle.zs_core.specs.Plans.{Plans}

@@ -4,7 +4,7 @@ use Rattle.std.specs.List.{list_any}
 use Rattle.zs_events.specs.declared.event.Event.{Event}
 use Rattle.zs_events.specs.declared.turn.Turn.{Turn}
 use Rattle.zs_events.specs.Turn.{was_refused}
-use Rattle.zs_core.specs.declared.settings.Settings.{Settings}
+use Rattle.zs_core.specs.Types.{Settings}
 use Rattle.zs_core.specs.World.{World}
 use Rattle.zs_posts.specs.declared.key.Key.{Key}
 use Rattle.zs_posts.specs.Keys.{is_key}

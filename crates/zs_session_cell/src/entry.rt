@@ -1,3 +1,5 @@
+//! What the journal of a session has of each event.
+
 use zs_events::{Event, Turn};
 use zs_shared::Shared;
 

@@ -1,3 +1,5 @@
+//! What handlers are handed.
+
 use crate::query::Query;
 use zs_sample::{MatchingStatus, Reply, Sample};
 use zs_shared::Shared;

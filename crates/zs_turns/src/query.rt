@@ -1,3 +1,5 @@
+//! Queries, as queryables are handed them.
+
 ghost use Rattle.std.specs.Prelude.{◌≡◌, if◌then◌else◌, IfOk};
 ghost use Rattle.std.specs.Option.{option_copied, option_copied_mut};
 ghost use Rattle.zs_wire.specs.Parameters.{contains_name, any_key_name};

@@ -1,15 +1,16 @@
+//! Who receives a publication, read from the tables.
+
 ghost use Rattle.std.specs.Prelude.{◌≡◌, IsSome};
 ghost use Rattle.std.specs.Option.{option_map, option_copied, ForSome};
 ghost use Rattle.zs_tables.specs.Numbers.{key_at};
 ghost use Rattle.zs_tables.specs.Contents.{text_meant, IsByNumber};
-ghost use Rattle.zs_tables.specs.Recipients.{has_session, has_network, matches, next_recipient};
-ghost use Rattle.zs_core.specs.World.{tables_of};
-ghost use Rattle.zs_core.specs.Keys.{numbers_for};
+ghost use Rattle.zs_tables.specs.Recipients.{matches, next_recipient};
+ghost use Rattle.zs_world.specs.World.{tables_of};
+ghost use Rattle.zs_world.specs.Keys.{numbers_for};
 
 use super::SessionState;
 use std::sync::ledger::Ledger;
 use zs_keys::Steps;
-use zs_sample::Locality;
 use zs_tables::KeyRef;
 use zs_wire::Mapping;
 
@@ -20,7 +21,7 @@ impl SessionState {
     pub fn matches_of(&self, mapping: Mapping, number: u16) -> Option<&[u32]>
         ensures { option_copied result ≡ option_map (λ key. matches key.text self.now.entities.subs) (key_at number (numbers_for mapping self.now)) }
     {
-        self.tables.matches_of(mapping, number)
+        self.world.matches_of(mapping, number)
     }
 
     /// The next live subscriber behind the last one, if there was one, that receives a publication on that key.
@@ -37,20 +38,6 @@ impl SessionState {
         ensures next { ForSome (text_meant key.entry (tables_of self.now)) (λ text. result ≡ next_recipient local text after self.now.entities.subs) }
         ensures uncounted { IsByNumber key.entry → steps.new ≡ steps.old }
     {
-        self.tables.next_recipient(key, local, after, steps)
+        self.world.next_recipient(key, local, after, steps)
     }
-}
-
-/// Whether a locality has this session in it.
-pub(super) fn has_session(locality: Locality) -> bool
-    ensures { result ≡ has_session locality }
-{
-    matches!(locality, Locality::SessionLocal | Locality::Any)
-}
-
-/// Whether a locality has the network in it.
-pub(super) fn has_network(locality: Locality) -> bool
-    ensures { result ≡ has_network locality }
-{
-    matches!(locality, Locality::Remote | Locality::Any)
 }

@@ -1,6 +1,9 @@
-use Rattle.std.proofs.Common.{◌≡◌, take}
-use Rattle.zs_query.specs.Gets.{ends_at}
+use Rattle.std.proofs.Common.{◌≡◌, ◌++◌}
+use Rattle.zs_query.specs.Gets.{ends_from}
 use Rattle.zs_query.proofs.timeout.ends_of.Given as goal
 
-abbrev pub invariant-loop-get : goal.invariant-loop-get
-invariant-loop-get l = l.ends.items ≡ ends_at l.now (take l.get-index l.gets)
+abbrev pub invariant-loop-number : goal.invariant-loop-number
+invariant-loop-number l =
+    (goal.iterator-loop-number).can_next l.number-iterator ×
+    (goal.iterator-loop-number).is_finite l.number-iterator ×
+    (l.ends.items ++ ends_from l.number-iterator l.rows ≡ ends_from l.numbers l.rows)

@@ -2,7 +2,7 @@ use Rattle.std.proofs.Common.{◌≡◌, List}
 use Rattle.std.specs.Prelude.{Result, Ok, Err, OnOk}
 use Rattle.zs_driving.specs.declared.driving.Driven.{Driven}
 use Rattle.zs_driving.specs.declared.errors.DriveError.{DriveError}
-use Rattle.zs_core.specs.declared.settings.Settings.{Settings}
+use Rattle.zs_core.specs.Types.{Settings}
 use Rattle.zs_recordings.specs.Machines.{Follows}
 use Rattle.zs_recordings.specs.Replaying.{RecordingLine, answer_for, groups_of, is_headless}
 use Rattle.zs_recordings.specs.declared.replayed.Replayed.{Replayed}

@@ -1,5 +1,5 @@
 use Rattle.std.proofs.Common.{refl, ap}
-use Rattle.zs_core.specs.declared.settings.Settings.{Settings}
+use Rattle.zs_core.specs.Types.{Settings}
 use Rattle.zs_cell.proofs.session.Session.shared_by.Goals as goal
 
 pub over-requires-clause-zid : goal.over-requires-clause-zid

@@ -1,8 +1,8 @@
 use Rattle.std.proofs.Common.{◌≡◌, sym, ap, ◌∙◌}
 use Rattle.zs_events.specs.Turn.{was_refused}
 use Rattle.zs_events.specs.declared.turn.Turn.{Turn}
-use Rattle.zs_core.specs.declared.change.Change.{Change}
-use Rattle.zs_core.specs.Changes.{with_change}
+use Rattle.zs_world.specs.declared.change.Change.{Change}
+use Rattle.zs_world.specs.Changes.{with_change}
 use Rattle.zs_core.proofs.state.SessionState.step.Goals as goal
 
 pub apply-requires : goal.apply-requires

@@ -1,5 +1,5 @@
 use Rattle.zs_query.specs.Asked.{ReplyTo}
-use Rattle.zs_query.proofs.Tabling.{AreBelow, below_after}
+use Rattle.zs_query.proofs.Tabling.{below_after}
 use Rattle.zs_query.proofs.get_table.GetTable.take.Goals as goal
 
 pub invariant_of-self-2 : goal.invariant_of-self-2

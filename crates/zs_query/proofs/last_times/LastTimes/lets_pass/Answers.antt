@@ -1,8 +1,7 @@
 use Rattle.std.proofs.Common.{◌≡◌, Some, None, sym, refl, ap, ◌∙◌}
-use Rattle.std.specs.Prelude.{List, map}
+use Rattle.std.specs.Prelude.{List}
 use Rattle.std.specs.Option.{option_map}
 use Rattle.zs_query.specs.Marks.{Mark, mark_at}
-use Rattle.zs_query.specs.ByKey.{mark_of_entry}
 use Rattle.zs_query.proofs.ByKey.{time_at_key, by_time}
 use Rattle.zs_query.proofs.last_times.LastTimes.lets_pass.Goals as goal
 

@@ -1,39 +1,36 @@
-use Rattle.std.proofs.Common.{◌≡◌, Some, sym, refl, ◌∙◌, ap}
-use Rattle.std.specs.Prelude.{◌==◌}
-use Rattle.std.specs.List.{list_any}
+use Rattle.std.proofs.Common.{Bool, sym, refl, ◌∙◌, ap}
+use Rattle.std.specs.Prelude.{Option, if◌then◌else◌}
+use Rattle.zs_rows.specs.Rows.{rows_of}
+use Rattle.zs_rows.proofs.Numbered.{rows_without}
 use Rattle.zs_query.specs.declared.query_value.QueryValue.{QueryValue}
-use Rattle.zs_query.specs.Unfinished.{Unfinished, value_at, finished, without_value}
-use Rattle.zs_query.proofs.Searching.{missing, find_none, filter_none, find_here, remove_here}
-use Rattle.zs_query.proofs.Requesting.{in_order_without, finished_is, same_values}
+use Rattle.zs_query.specs.declared.requests.Finished.TheVariants.{MoreLeft, Last}
+use Rattle.zs_query.specs.Unfinished.{Unfinished, value_at, finished}
+use Rattle.zs_query.proofs.Requesting.{same_values}
+use Rattle.zs_query.proofs.Filed.{values_found, filed_kept, filed_without, finished_by}
 use Rattle.zs_query.proofs.requests.Requests.finish.Goals as goal
-use Rattle.zs_query.proofs.requests.Requests.finish.Goals.{In_default, After-finished_of}
+
+pub invariant_of-self : goal.invariant_of-self
+invariant_of-self c = filed_kept c.self.inside.handed c.args.value c.self.inside.values c.remove.new.self c.self.inside.requests c.self.invariant (sym c.in_default.ensures.row) c.remove.ensures.rows c.remove.ensures.found c.remove.ensures.ascending
 
 pub returns-in_default-clause-answer : goal.returns-in_default-clause-answer
 returns-in_default-clause-answer c =
-    let place = rw c.deref.ensures.value at c.in_default.ensures in
-    rw (← c.self.view_is) (rw (find_none (λ (v : QueryValue). v.value) c.args.value c.self.inside.values.items (missing (λ v. v.value) c.args.value _ _ place)) refl)
+    ap (λ (o : Option QueryValue). finished o c.args.self.now.values)
+    (c.in_default.ensures.row ∙ (values_found c.self.inside.handed c.args.value c.self.inside.values c.self.inside.requests c.self.invariant ∙ ap (λ (u : Unfinished). value_at c.args.value u.values) c.self.view_is))
 
 pub returns-in_default-clause-values : goal.returns-in_default-clause-values
-returns-in_default-clause-values c =
-    let place = rw c.deref.ensures.value at c.in_default.ensures in
-    rw (← c.self.view_is) (same_values refl (sym (filter_none (λ v. v.value) c.args.value c.self.inside.values.items (missing (λ v. v.value) c.args.value _ _ place))))
+returns-in_default-clause-values c = rw (← c.self.view_is) (same_values refl (ap rows_of c.remove.ensures.rows ∙ rows_without (λ (v : QueryValue). v.value) c.args.value c.self.inside.values c.self.invariant.numbered))
 
--- what is left is all but the value
-left : (c : After-finished_of) → c.remove-ended.new.self.items ≡ without_value c.args.value c.self.inside.values.items
-left c =
-    let place = rw c.deref.ensures.value at c.in-Ok.ensures in
-    c.remove-ended.ensures.items ∙ remove_here (λ v. v.value) c.args.value c.self.inside.values.items _ c.self.invariant.ascending place.0 place.1
-
-pub invariant_of-self : goal.invariant_of-self
-invariant_of-self c = rw (left c) (in_order_without c.self.inside.handed c.args.value _ c.self.invariant)
+pub invariant_of-self-2 : goal.invariant_of-self-2
+invariant_of-self-2 c = filed_without c.self.inside.handed c.args.value c.in-Some.ended c.self.inside.values c.remove.new.self c.self.inside.requests c.forget.new.self c.self.invariant (sym c.in-Some.ensures.row) c.remove.ensures.rows c.remove.ensures.found c.remove.ensures.ascending c.forget.ensures
 
 pub returns-clause-answer : goal.returns-clause-answer
 returns-clause-answer c =
-    let place = rw c.deref.ensures.value at c.in-Ok.ensures in
-    let ended = c.remove-ended.result in
-    let at = c.in-Ok.at in
-    let here : value_at c.args.value c.self.inside.values.items ≡ Some ended = find_here (λ v. v.value) c.args.value ended c.self.inside.values.items at c.self.invariant.ascending place.0 (place.1 ended) ∙ ap Some (sym c.remove-ended.ensures.value) in
-    rw (← c.self.view_is) (c.finished_of.ensures ∙ finished_is c.args.value c.self.inside.values.items ended c.has_request-more_left.result here (ap (λ (v : QueryValue). v.value) c.remove-ended.ensures.value ∙ place.1 ended) (c.has_request-more_left.ensures ∙ ap (list_any (λ (o : QueryValue). o.request == ended.request)) (c.deref-2.ensures.value ∙ left c)))
+    let there = sym c.in-Some.ensures.row in
+    let filed = filed_without c.self.inside.handed c.args.value c.in-Some.ended c.self.inside.values c.remove.new.self c.self.inside.requests c.forget.new.self c.self.invariant there c.remove.ensures.rows c.remove.ensures.found c.remove.ensures.ascending c.forget.ensures in
+    c.finished_of.ensures
+    ∙ (ap (λ (b : Bool). if b then MoreLeft else Last c.in-Some.ended.row) c.is_some-more_left.ensures
+    ∙ (finished_by c.self.inside.handed c.args.value c.in-Some.ended c.self.inside.values c.remove.new.self c.forget.new.self c.first_under.result c.self.invariant.numbered there c.remove.ensures.rows filed c.first_under.ensures.found
+    ∙ ap (λ (u : Unfinished). finished (value_at c.args.value u.values) u.values) c.self.view_is))
 
 pub returns-clause-values : goal.returns-clause-values
-returns-clause-values c = rw (← c.self.view_is) (same_values refl (left c))
+returns-clause-values c = rw (← c.self.view_is) (same_values refl (ap rows_of c.remove.ensures.rows ∙ rows_without (λ (v : QueryValue). v.value) c.args.value c.self.inside.values c.self.invariant.numbered))

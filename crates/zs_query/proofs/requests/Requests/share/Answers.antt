@@ -1,21 +1,39 @@
-use Rattle.std.proofs.Common.{◌≡◌, ◌+◌, false, [], ◌∷◌, Some, refl, sym, ap, ◌∙◌, arith}
-use Rattle.std.specs.List.{AllByRecursion}
+use Rattle.std.proofs.Common.{◌≡◌, ℕ, ◌+◌, false, List, [], ◌∷◌, Some, refl, sym, ap, ◌∙◌, subst}
+use Rattle.std.specs.Prelude.{Option}
+use Rattle.zs_rows.specs.Ascending.{placed}
+use Rattle.zs_rows.specs.Rows.{rows_of}
+use Rattle.zs_rows.proofs.Numbered.{rows_placed}
 use Rattle.zs_query.specs.declared.query_value.QueryValue.{QueryValue}
-use Rattle.zs_query.specs.Ascending.{Ascend}
-use Rattle.zs_query.specs.Unfinished.{Unfinished, are_used, value_at}
-use Rattle.zs_query.proofs.Requesting.{AreOf, in_order_placed, found_request}
+use Rattle.zs_query.specs.Unfinished.{Unfinished, are_used, shared}
+use Rattle.zs_query.specs.ValueRows.{AreFiled}
+use Rattle.zs_query.proofs.Requesting.{same_values, found_request}
+use Rattle.zs_query.proofs.Filed.{share_free, share_undone, filed_share}
 use Rattle.zs_query.proofs.requests.Requests.share.Goals as goal
 
-pub invariant_of-self-2 : goal.invariant_of-self-2
-invariant_of-self-2 c =
-    let new = c.args.new in
-    let handed = c.self.inside.handed in
-    let old = c.in-Some.found.now in
-    let share : QueryValue = record old { value = new } in
-    let unused : are_used new (new + 1) c.self.inside.values.items ≡ false = ap (λ (u : Unfinished). are_used new (new + 1) u.values) c.self.view_is ∙ c.requires.unused in
-    let found : value_at c.args.value c.self.inside.values.items ≡ Some old = sym (c.in-Some.ensures ∙ ap (value_at c.args.value) c.deref.ensures.value) in
-    let up : Ascend (λ (v : QueryValue). v.value) (share ∷ []) = (tt, tt) in
-    let of : AllByRecursion (AreOf old.request new (new + 1)) (share ∷ []) = (record { above = omega arith; below = omega arith; same = refl }, tt) in
-    rw (c.put_in.ensures, c.in_ok-reserve.ensures.items, c.in_ok-made.ensures)
-    (in_order_placed handed handed old.request new (new + 1) (share ∷ []) c.self.inside.values.items c.self.invariant up of
-    unused (omega arith) (omega arith) (omega arith) (found_request handed c.args.value old c.self.inside.values.items c.self.invariant.requests found))
+pub insert-requires : goal.insert-requires
+insert-requires c = share_free c.self.inside.handed c.args.new c.self.inside.values c.self.inside.requests c.self.invariant (ap (λ (u : Unfinished). are_used c.args.new (c.args.new + 1) u.values) c.self.view_is ∙ c.requires.unused)
+
+pub invariant_of-self-in-Err : goal.invariant_of-self-in-Err
+invariant_of-self-in-Err c =
+    let unused : are_used c.args.new (c.args.new + 1) (rows_of c.self.inside.values) ≡ false = ap (λ (u : Unfinished). are_used c.args.new (c.args.new + 1) u.values) c.self.view_is ∙ c.requires.unused in
+    let free = share_free c.self.inside.handed c.args.new c.self.inside.values c.self.inside.requests c.self.invariant unused in
+    subst (λ (rows : List (ℕ × QueryValue)). AreFiled c.self.inside.handed rows c.forget.new.self) (sym c.in-Err.ensures.err)
+    (share_undone c.self.inside.handed c.args.new (Some c.in_ok-made.made.request) c.self.inside.values c.self.inside.requests c.note.new.self c.forget.new.self c.self.invariant free c.in_ok-note.ensures.ok c.forget.ensures)
+
+pub invariant_of-self-in_default-insert : goal.invariant_of-self-in_default-insert
+invariant_of-self-in_default-insert c =
+    let unused : are_used c.args.new (c.args.new + 1) (rows_of c.self.inside.values) ≡ false = ap (λ (u : Unfinished). are_used c.args.new (c.args.new + 1) u.values) c.self.view_is ∙ c.requires.unused in
+    let free = share_free c.self.inside.handed c.args.new c.self.inside.values c.self.inside.requests c.self.invariant unused in
+    filed_share c.self.inside.handed c.args.new c.in-Some.found.now c.in_ok-made.made c.self.inside.values c.insert.new.self c.self.inside.requests c.note.new.self c.self.invariant
+    (ap (λ (v : QueryValue). v.value) c.in_ok-made.ensures) (ap (λ (v : QueryValue). v.request) c.in_ok-made.ensures)
+    (found_request c.self.inside.handed c.args.value c.in-Some.found.now (rows_of c.self.inside.values) c.self.invariant.order.requests (sym c.in-Some.ensures))
+    unused c.requires.number free c.in_default-insert.ensures.rows c.in_default-insert.ensures.found c.in_default-insert.ensures.ascending c.in_ok-note.ensures.ok
+
+pub returns-clause-ok : goal.returns-clause-ok
+returns-clause-ok c =
+    let all = rows_of c.self.inside.values in
+    rw (← c.self.view_is) (same_values refl
+    (ap rows_of c.in_default-insert.ensures.rows
+    ∙ (rows_placed (λ (v : QueryValue). v.value) c.args.new c.in_ok-made.made c.self.inside.values c.self.invariant.numbered
+    ∙ (ap (λ (v : QueryValue). placed (λ (w : QueryValue). w.value) c.args.new (v ∷ []) all) c.in_ok-made.ensures
+    ∙ ap (λ (o : Option QueryValue). shared c.args.new o all) c.in-Some.ensures))))

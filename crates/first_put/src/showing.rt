@@ -1,0 +1,40 @@
+//! Prints what handlers were handed.
+use crate::trouble::Trouble;
+use std::alloc::Global;
+use std::io::Print;
+use std::sync::Wait;
+use zs_cell::Item;
+use zs_handlers::FifoChannelHandler;
+use zs_sample::Sample;
+
+/// Prints a sample as its key and its text.
+fn show_sample<R: Print>(
+    rt: &R,
+    alloc: Global,
+    word: &str,
+    sample: &Sample,
+) -> Result<(), Trouble> {
+    let key = sample.key_expr().as_str();
+    let Ok(text) = sample.payload().try_to_string(alloc) else {
+        return Err(Trouble::Nothing);
+    };
+    let text = text.as_str();
+    println!(rt; "{word} {key} is {text}")?;
+    Ok(())
+}
+
+/// Prints the next item of a channel.
+pub(crate) fn show<R: Wait + Print>(
+    rt: &R,
+    alloc: Global,
+    items: &FifoChannelHandler<Item>,
+) -> Result<(), Trouble> {
+    match items.try_recv(rt) {
+        Ok(Some(Item::Sample(sample))) => show_sample(rt, alloc, "sample:", sample.get()),
+        Ok(Some(Item::Reply(reply))) => match reply.get().result() {
+            Ok(sample) => show_sample(rt, alloc, "reply:", sample),
+            Err(_) => Err(Trouble::Nothing),
+        },
+        _ => Err(Trouble::Nothing),
+    }
+}

@@ -1,0 +1,12 @@
+//! The session for C, and for any language that can call C: a static library, whose calls `include/yeqofin.h` declares.
+//! C holds a slot; a session is behind it from `yq_open` to `yq_free`. Each call answers a status.
+#![tactic(auto)]
+
+mod handle;
+mod lines;
+mod loose;
+mod opening;
+mod settings;
+mod slot;
+mod status;
+mod texts;

@@ -1,0 +1,4 @@
+pub mod Keys
+pub mod Publications
+pub mod Gets
+pub mod Replies

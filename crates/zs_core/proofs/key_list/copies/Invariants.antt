@@ -1,5 +1,0 @@
-use Rattle.std.proofs.Common.{◌≡◌, take}
-use Rattle.zs_core.proofs.key_list.copies.Given as goal
-
-abbrev pub invariant-copies : goal.invariant-copies
-invariant-copies l = l.copies.items ≡ take l.key-index l.keys

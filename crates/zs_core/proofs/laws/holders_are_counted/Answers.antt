@@ -1,8 +1,0 @@
-use Rattle.zs_core.specs.Past.{past_of}
-use Rattle.zs_core.specs.Stands.{world_after}
-use Rattle.zs_core.proofs.DeclaredKeys.{count_is}
-use Rattle.zs_core.proofs.Stands.{standing}
-use Rattle.zs_core.proofs.laws.holders_are_counted.Goals as goal
-
-pub returns : goal.returns
-returns c = λ s h n. count_is (world_after s h) (past_of s h) n (standing s h).known

@@ -1,5 +1,0 @@
-use Rattle.zs_core.proofs.Stands.{standing}
-use Rattle.zs_core.proofs.laws.tokens_are_live.Goals as goal
-
-pub returns : goal.returns
-returns c = λ s h. (standing s h).live.tokens.table

@@ -1,8 +1,0 @@
-use Rattle.std.proofs.Common.{◌≡◌, ◌++◌, length, map}
-use Rattle.zs_core.specs.LivelinessEffects.{hand_told}
-use Rattle.zs_core.proofs.state.liveliness.hand_keys.Given as goal
-
-abbrev pub invariant-loop-key : goal.invariant-loop-key
-invariant-loop-key l =
-    (l.effects ++ map (hand_told l.id) l.key-iterator.rest.items ≡ l.fn.effects ++ map (hand_told l.id) l.initial.key-iterator.rest.items)
-    × (l.key-iterator.rest.len ≡ length l.key-iterator.rest.items)

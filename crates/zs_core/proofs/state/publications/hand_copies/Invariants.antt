@@ -1,6 +1,0 @@
-use Rattle.std.proofs.Common.{◌≡◌, ◌++◌, take}
-use Rattle.zs_core.specs.Publications.{hands_to}
-use Rattle.zs_core.proofs.state.publications.hand_copies.Given as goal
-
-abbrev pub invariant-loop-id : goal.invariant-loop-id
-invariant-loop-id l = l.effects ≡ l.fn.effects ++ hands_to l.sample (take l.id-index l.ids)

@@ -1,6 +1,0 @@
-use Rattle.std.proofs.Common.{◌≡◌, ◌++◌, take}
-use Rattle.zs_core.specs.Queryables.{queryable_ends}
-use Rattle.zs_core.proofs.state.queryables.push_queryable_ends.Given as goal
-
-abbrev pub invariant-loop-row : goal.invariant-loop-row
-invariant-loop-row l = l.effects ≡ l.fn.effects ++ queryable_ends (take l.row-index l.rows)

@@ -1,6 +1,0 @@
-use Rattle.std.proofs.Common.{◌≡◌, ◌++◌, take, map}
-use Rattle.zs_core.specs.LivelinessEffects.{hand_sample}
-use Rattle.zs_core.proofs.state.tokens.hand_copies.Given as goal
-
-abbrev pub invariant-loop-id : goal.invariant-loop-id
-invariant-loop-id l = l.effects ≡ l.fn.effects ++ map (hand_sample l.sample) (take l.id-index l.ids)

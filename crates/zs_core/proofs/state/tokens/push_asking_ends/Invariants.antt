@@ -1,6 +1,0 @@
-use Rattle.std.proofs.Common.{◌≡◌, ◌++◌, take, map}
-use Rattle.zs_core.specs.LivelinessEffects.{end_asking}
-use Rattle.zs_core.proofs.state.tokens.push_asking_ends.Given as goal
-
-abbrev pub invariant-loop-number : goal.invariant-loop-number
-invariant-loop-number l = l.effects ≡ l.fn.effects ++ map end_asking (take l.number-index l.numbers)

@@ -1,0 +1,5 @@
+pub mod Answered
+pub mod Asking
+pub mod Ended
+pub mod Listening
+pub mod Replies

@@ -1,0 +1,175 @@
+//! Queryables in the making.
+ghost use Rattle.std.specs.Prelude.{◌≡◌, None, Some, option_map, is_some, true, false, IfOk, IfErr};
+ghost use Rattle.std.specs.Arc.{arc_value};
+ghost use Rattle.zs_turns.specs.Gates.{takes_handler};
+ghost use Rattle.zs_held.specs.Numbers.{numbered_at};
+ghost use Rattle.zs_cell.specs.Steps.{Accepts, Stops};
+ghost use Rattle.zs_entities.specs.Builders.{new_queryable, queryable_event};
+
+use crate::background::BackgroundBuilder;
+use crate::queryable::Queryable;
+use std::alloc::AllocError;
+use std::marker::Model;
+use std::sync::{Arc, Wait};
+use zs_calls::key_arg;
+use zs_cell::{Books, Caller, Item, NotSubmitted, Session, SessionError};
+use zs_declaring::{declare, queryable};
+use zs_events::Event;
+use zs_handlers::Handler;
+use zs_keys::KeyExpr;
+use zs_sample::Locality;
+
+/// A queryable in the making. Contracts see its fields.
+#[must_use = "nothing is declared before `wait`"]
+#[derive(Drop)]
+pub struct QueryableBuilder<'a, H, B: Books> {
+    session: &'a Session<H, B>,
+    key: KeyExpr<'a>,
+    origin: Locality,
+    complete: bool,
+    handler: Option<Arc<H>>,
+}
+
+impl<'a, H, B: Books> Model for QueryableBuilder<'a, H, B> {
+    ghost use Rattle.std.specs.Prelude.{option_map};
+    ghost use Rattle.std.specs.Arc.{arc_value};
+    ghost use Rattle.zs_entities.specs.Builders.{QueryableMade};
+
+    ghost Value = { QueryableMade H };
+
+    ghost view = { λ b. record { session = b.session.now; key = b.key; origin = b.origin; complete = b.complete; handler = option_map arc_value b.handler } };
+}
+
+impl<'a, H, B: Books> QueryableBuilder<'a, H, B> {
+    // A queryable of which nothing else is said.
+    pub(crate) fn of(session: &'a Session<H, B>, key: KeyExpr<'a>) -> QueryableBuilder<'a, H, B>
+        ensures { result ≡ new_queryable session.now key.entry }
+    {
+        QueryableBuilder {
+            session,
+            key,
+            origin: Locality::Any,
+            complete: false,
+            handler: None,
+        }
+    }
+
+    /// Whose requests it is handed: by itself all.
+    pub fn allowed_origin(mut self, origin: Locality) -> QueryableBuilder<'a, H, B>
+        ensures { result ≡ record self.entry { origin = origin } }
+    {
+        self.origin = origin;
+        self
+    }
+
+    /// Whether it knows all values of its key: by itself it doesn't, and some gets ask only such queryables.
+    pub fn complete(mut self, complete: bool) -> QueryableBuilder<'a, H, B>
+        ensures { result ≡ record self.entry { complete = complete } }
+    {
+        self.complete = complete;
+        self
+    }
+
+    /// With that handler for the queries. Without one nobody is called.
+    pub fn with(mut self, handler: Arc<H>) -> QueryableBuilder<'a, H, B>
+        requires { self.handler ≡ None }
+        ensures { result ≡ record self.entry { handler = Some (arc_value handler) } }
+    {
+        match self.handler.replace(handler) {
+            None => self,
+            Some(_before) => unreachable!(),
+        }
+    }
+
+    /// The same, left to itself from the first: it lives until the session is closed, and can't be named.
+    pub fn background(self) -> BackgroundBuilder<QueryableBuilder<'a, H, B>>
+        ensures { result ≡ self.entry }
+    {
+        BackgroundBuilder::of(self)
+    }
+}
+
+impl<'a, H: Drop, B: Books> QueryableBuilder<'a, H, B> {
+    // The event that declares it.
+    fn event(&self) -> Result<Event, AllocError>
+        ensures event { IfOk result (λ event. event ≡ queryable_event self.now) }
+        ensures number { IfOk result (λ event. numbered_at event ≡ true) }
+        ensures handler { IfOk result (λ event. takes_handler event ≡ true) }
+    {
+        let session = self.session;
+        let key = key_arg(session.alloc(), session.tag(), &self.key)?;
+        Ok(queryable(self.origin, self.complete, key))
+    }
+
+    // The queryable, once it was declared under that number.
+    fn into_queryable(self, id: u32) -> Queryable<'a, H, B>
+        ensures { result ≡ record { session = self.entry.session; id = id; key = self.entry.key } }
+    {
+        let QueryableBuilder {
+            session,
+            key,
+            origin: _,
+            complete: _,
+            handler,
+        } = self;
+        drop(handler);
+        Queryable::of(session, id, key)
+    }
+}
+
+impl<'a, H: Handler<Item> + Drop, B: Books> QueryableBuilder<'a, H, B> {
+    // Declares it: its number.
+    fn declare<R: Wait>(&mut self, rt: &R, caller: &mut Caller<B>) -> Result<u32, NotSubmitted<H>>
+        ensures ok { IfOk result (λ id. Accepts caller.old caller.new (queryable_event self.old) (is_some self.old.handler) (Some id)) }
+        ensures err { IfErr result (λ back. Stops caller.old caller.new (queryable_event self.old) (is_some self.old.handler) back.why) }
+        ensures handler { IfErr result (λ back. option_map arc_value back.handler ≡ self.old.handler) }
+        ensures rest { self.new ≡ record self.old { handler = None } }
+    {
+        let session = self.session;
+        let handler = self.handler.take();
+        match self.event() {
+            Ok(event) => declare(session, rt, event, handler, caller),
+            Err(_) => Err(NotSubmitted {
+                why: SessionError::NoMemory,
+                handler,
+            }),
+        }
+    }
+
+    /// Declares it.
+    ///
+    /// # Errors
+    ///
+    /// `Refused` where the session took the event and refused it, else `NoMemory`. The handler comes back.
+    pub fn wait<R: Wait>(
+        mut self,
+        rt: &R,
+        caller: &mut Caller<B>,
+    ) -> Result<Queryable<'a, H, B>, NotSubmitted<H>>
+        ensures ok { IfOk result (λ made. Accepts caller.old caller.new (queryable_event self.entry) (is_some self.entry.handler) (Some made.id)) }
+        ensures made { IfOk result (λ made. made ≡ record { session = self.entry.session; id = made.id; key = self.entry.key }) }
+        ensures err { IfErr result (λ back. Stops caller.old caller.new (queryable_event self.entry) (is_some self.entry.handler) back.why) }
+        ensures handler { IfErr result (λ back. option_map arc_value back.handler ≡ self.entry.handler) }
+    {
+        match self.declare(rt, caller) {
+            Ok(id) => Ok(self.into_queryable(id)),
+            Err(back) => Err(back),
+        }
+    }
+}
+
+impl<'a, H: Handler<Item> + Drop, B: Books> BackgroundBuilder<QueryableBuilder<'a, H, B>> {
+    /// Declares the queryable: its number.
+    ///
+    /// # Errors
+    ///
+    /// `Refused` where the session took the event and refused it, else `NoMemory`. The handler comes back.
+    pub fn wait<R: Wait>(self, rt: &R, caller: &mut Caller<B>) -> Result<u32, NotSubmitted<H>>
+        ensures ok { IfOk result (λ id. Accepts caller.old caller.new (queryable_event self.entry) (is_some self.entry.handler) (Some id)) }
+        ensures err { IfErr result (λ back. Stops caller.old caller.new (queryable_event self.entry) (is_some self.entry.handler) back.why) }
+        ensures handler { IfErr result (λ back. option_map arc_value back.handler ≡ self.entry.handler) }
+    {
+        let mut builder = self.into_builder();
+        builder.declare(rt, caller)
+    }
+}

@@ -1,0 +1,61 @@
+//! The calls of a session that give builders of entities.
+ghost use Rattle.std.specs.Prelude.{◌≡◌};
+ghost use Rattle.zs_entities.specs.Builders.{new_subscriber, new_publisher, new_queryable, new_querier};
+
+use crate::liveliness::Liveliness;
+use crate::publisher_builder::PublisherBuilder;
+use crate::querier_builder::QuerierBuilder;
+use crate::queryable_builder::QueryableBuilder;
+use crate::subscriber_builder::SubscriberBuilder;
+use zs_cell::{Books, Session};
+use zs_keys::KeyExpr;
+
+/// What is declared in a session. Nothing happens before the builder's `wait`.
+pub trait SessionEntities<H, B: Books> {
+    /// A subscriber to what is published on keys that meet this one.
+    fn declare_subscriber<'a>(&'a self, key: KeyExpr<'a>) -> SubscriberBuilder<'a, H, B>;
+
+    /// A publisher on a key.
+    fn declare_publisher<'a>(&'a self, key: KeyExpr<'a>) -> PublisherBuilder<'a, H, B>;
+
+    /// A queryable, which answers queries on keys that meet this one.
+    fn declare_queryable<'a>(&'a self, key: KeyExpr<'a>) -> QueryableBuilder<'a, H, B>;
+
+    /// A querier on a key.
+    fn declare_querier<'a>(&'a self, key: KeyExpr<'a>) -> QuerierBuilder<'a, H, B>;
+
+    /// Its liveliness: tokens on keys, and who wants to know of them.
+    fn liveliness<'a>(&'a self) -> Liveliness<'a, H, B>;
+}
+
+impl<H, B: Books> SessionEntities<H, B> for Session<H, B> {
+    fn declare_subscriber<'a>(&'a self, key: KeyExpr<'a>) -> SubscriberBuilder<'a, H, B>
+        ensures { result ≡ new_subscriber self.now key.entry }
+    {
+        SubscriberBuilder::of(self, key)
+    }
+
+    fn declare_publisher<'a>(&'a self, key: KeyExpr<'a>) -> PublisherBuilder<'a, H, B>
+        ensures { result ≡ new_publisher self.now key.entry }
+    {
+        PublisherBuilder::of(self, key)
+    }
+
+    fn declare_queryable<'a>(&'a self, key: KeyExpr<'a>) -> QueryableBuilder<'a, H, B>
+        ensures { result ≡ new_queryable self.now key.entry }
+    {
+        QueryableBuilder::of(self, key)
+    }
+
+    fn declare_querier<'a>(&'a self, key: KeyExpr<'a>) -> QuerierBuilder<'a, H, B>
+        ensures { result ≡ new_querier self.now key.entry }
+    {
+        QuerierBuilder::of(self, key)
+    }
+
+    fn liveliness<'a>(&'a self) -> Liveliness<'a, H, B>
+        ensures { result ≡ self.now }
+    {
+        Liveliness::of(self)
+    }
+}

@@ -1,0 +1,10 @@
+use Rattle.zs_tables.proofs.Moving.{queryable_comes}
+use Rattle.zs_world.proofs.Hearing.{heard_between}
+use Rattle.zs_hearing.proofs.listeners.hear_queryable.Goals as goal
+
+pub returns : goal.returns
+returns c =
+    let s = c.world.inside in
+    let moves = queryable_comes s.tables.rows s.queryables s.matching.told c.args.row.now in
+    let heard = heard_between _ _ _ _ s.matching.listeners moves c.world.invariant.counted in
+    rw (← c.world.view_is) (rw (c.listeners.ensures, c.own_queryable.ensures, heard) at c.push_heard.ensures)

@@ -1,0 +1,316 @@
+//! What listeners hear of a change.
+
+ghost use Rattle.std.specs.Prelude.{◌≡◌, ◌++◌, ◌∷◌, [], ◌==◌, map, filter, OnOk};
+ghost use Rattle.zs_tables.specs.Matching.{own_sub, own_queryable, told_sub, told_queryable, seen_if, recounts, is_heard};
+ghost use Rattle.zs_world.specs.Turns.{listener_effects_at};
+ghost use Rattle.zs_world.specs.Changes.{Fits, with_change};
+ghost use Rattle.zs_world.specs.MatchingChanges.{MatchingFits};
+ghost use Rattle.zs_world.specs.MatchingTables.{heard_effect};
+ghost use Rattle.zs_model.specs.Listeners.{listener_ends};
+
+use std::alloc::AllocError;
+use zs_events::{Effect, Effects, Kind};
+use zs_tables::{
+    Candidate, ListenerRow, ListenerTable, QueryableRow, Recount, SubRow, ToldQueryable, ToldSub,
+};
+use zs_world::{
+    Change, EntityChange, MatchingChange, SessionTables, own_queryable_of, own_sub_of,
+    told_queryable_of, told_sub_of,
+};
+
+/// What a change means to listeners: those that it ends are called no more, and those hear of it for which it changes
+/// whether anyone matches. It looks at those alone whose key meets that of who comes or goes.
+pub fn hear(world: &SessionTables, change: &Change, effects: &mut Effects) -> Result<(), AllocError>
+    requires { Fits world.now change.now }
+    ensures { OnOk result (effects.new ≡ effects.old ++ listener_effects_at world.now (with_change change.now world.now)) }
+{
+    match change {
+        Change::OfEntities(change) => hear_entities(world, change, effects),
+        Change::OfMatching(change) => hear_matching(world, change, effects),
+        Change::Shut => push_ends(world.matching.listeners().rows(), effects),
+        Change::Nothing => Ok(()),
+        Change::OfKeys(_) => Ok(()),
+        Change::OfNetwork(_) => Ok(()),
+        Change::OfGets(_) => Ok(()),
+        Change::OfLiveliness(_) => Ok(()),
+        Change::OfValues(_) => Ok(()),
+        Change::OfCancellation(_) => Ok(()),
+    }
+}
+
+/// Of entities.
+fn hear_entities(
+    world: &SessionTables,
+    change: &EntityChange,
+    effects: &mut Effects,
+) -> Result<(), AllocError>
+    ensures { OnOk result (effects.new ≡ effects.old ++ listener_effects_at world.now (with_change (Change.OfEntities change.now) world.now)) }
+{
+    match change {
+        EntityChange::AddSub { row } => hear_sub(world, row, effects),
+        EntityChange::EndSub { id } => hear_sub_end(world, *id, effects),
+        EntityChange::AddQueryable { row } => hear_queryable(world, row, effects),
+        EntityChange::EndQueryable { id } => hear_queryable_end(world, *id, effects),
+        EntityChange::EndPub { id } => hear_pub_end(world, *id, effects),
+        EntityChange::EndQuerier { id } => hear_querier_end(world, *id, effects),
+        EntityChange::AddPub { .. } => Ok(()),
+        EntityChange::AddQuerier { .. } => Ok(()),
+        EntityChange::LeaveSub { .. } => Ok(()),
+        EntityChange::LeaveQueryable { .. } => Ok(()),
+    }
+}
+
+/// Of listeners, and of whom the network tells.
+fn hear_matching(
+    world: &SessionTables,
+    change: &MatchingChange,
+    effects: &mut Effects,
+) -> Result<(), AllocError>
+    requires { MatchingFits world.now.counters.entity change.now }
+    ensures { OnOk result (effects.new ≡ effects.old ++ listener_effects_at world.now (with_change (Change.OfMatching change.now) world.now)) }
+{
+    match change {
+        MatchingChange::AddListener { row } => hear_first(world, row, effects),
+        MatchingChange::EndListener { id } => hear_listener_end(world, *id, effects),
+        MatchingChange::LeaveListener { .. } => Ok(()),
+        MatchingChange::TellSub { row } => hear_told_sub(world, row, effects),
+        MatchingChange::ForgetSub { number } => hear_told_sub_end(world, *number, effects),
+        MatchingChange::TellQueryable { row } => hear_told_queryable(world, row, effects),
+        MatchingChange::ForgetQueryable { number } => {
+            hear_told_queryable_end(world, *number, effects)
+        }
+    }
+}
+
+/// A subscriber comes.
+fn hear_sub(world: &SessionTables, row: &SubRow, effects: &mut Effects) -> Result<(), AllocError>
+    ensures { OnOk result (effects.new ≡ effects.old
+        ++ listener_effects_at world.now (with_change (Change.OfEntities (EntityChange.AddSub row.now)) world.now)) }
+{
+    let comes = Some(Candidate::own_sub(row));
+    push_heard(world.matching.listeners(), None, comes, effects)
+}
+
+/// A subscriber goes.
+fn hear_sub_end(world: &SessionTables, id: u32, effects: &mut Effects) -> Result<(), AllocError>
+    ensures { OnOk result (effects.new ≡ effects.old
+        ++ listener_effects_at world.now (with_change (Change.OfEntities (EntityChange.EndSub id)) world.now)) }
+{
+    let _ascending = world.tables.rows();
+    let goes = own_sub_of(&world.tables, id);
+    push_heard(world.matching.listeners(), goes, None, effects)
+}
+
+/// A queryable comes.
+fn hear_queryable(
+    world: &SessionTables,
+    row: &QueryableRow,
+    effects: &mut Effects,
+) -> Result<(), AllocError>
+    ensures { OnOk result (effects.new ≡ effects.old
+        ++ listener_effects_at world.now (with_change (Change.OfEntities (EntityChange.AddQueryable row.now)) world.now)) }
+{
+    let comes = Some(Candidate::own_queryable(row));
+    push_heard(world.matching.listeners(), None, comes, effects)
+}
+
+/// A queryable goes.
+fn hear_queryable_end(
+    world: &SessionTables,
+    id: u32,
+    effects: &mut Effects,
+) -> Result<(), AllocError>
+    ensures { OnOk result (effects.new ≡ effects.old
+        ++ listener_effects_at world.now (with_change (Change.OfEntities (EntityChange.EndQueryable id)) world.now)) }
+{
+    let _ascending = world.queryables.rows();
+    let goes = own_queryable_of(&world.queryables, id);
+    push_heard(world.matching.listeners(), goes, None, effects)
+}
+
+/// A publisher ends, and with it those that listen to it.
+fn hear_pub_end(world: &SessionTables, id: u32, effects: &mut Effects) -> Result<(), AllocError>
+    ensures { OnOk result (effects.new ≡ effects.old
+        ++ listener_effects_at world.now (with_change (Change.OfEntities (EntityChange.EndPub id)) world.now)) }
+{
+    push_ends_of(world.matching.listeners().rows(), id, effects)
+}
+
+/// A querier ends, and with it those that listen to it.
+fn hear_querier_end(world: &SessionTables, id: u32, effects: &mut Effects) -> Result<(), AllocError>
+    ensures { OnOk result (effects.new ≡ effects.old
+        ++ listener_effects_at world.now (with_change (Change.OfEntities (EntityChange.EndQuerier id)) world.now)) }
+{
+    push_ends_of(world.matching.listeners().rows(), id, effects)
+}
+
+/// A new listener hears at once where anyone matches.
+fn hear_first(
+    world: &SessionTables,
+    row: &ListenerRow,
+    effects: &mut Effects,
+) -> Result<(), AllocError>
+    requires { MatchingFits world.now.counters.entity (MatchingChange.AddListener row.now) }
+    ensures { OnOk result (effects.new ≡ effects.old
+        ++ listener_effects_at world.now (with_change (Change.OfMatching (MatchingChange.AddListener row.now)) world.now)) }
+{
+    let count = world.present().count(world.alloc, row)?;
+    if count == 0 {
+        return Ok(());
+    }
+    effects.push(Effect::Matching {
+        id: row.id,
+        matching: true,
+    })
+}
+
+/// A listener ends.
+fn hear_listener_end(
+    world: &SessionTables,
+    id: u32,
+    effects: &mut Effects,
+) -> Result<(), AllocError>
+    ensures { OnOk result (effects.new ≡ effects.old
+        ++ listener_effects_at world.now (with_change (Change.OfMatching (MatchingChange.EndListener id)) world.now)) }
+{
+    let _ascending = world.matching.listeners().rows();
+    push_end(world.matching.listeners(), id, effects)
+}
+
+/// The network tells a subscriber, in place of the one of its number.
+fn hear_told_sub(
+    world: &SessionTables,
+    row: &ToldSub,
+    effects: &mut Effects,
+) -> Result<(), AllocError>
+    ensures { OnOk result (effects.new ≡ effects.old
+        ++ listener_effects_at world.now (with_change (Change.OfMatching (MatchingChange.TellSub row.now)) world.now)) }
+{
+    let _ascending = world.matching.told().subs();
+    let goes = told_sub_of(world.matching.told(), row.number);
+    let comes = Some(Candidate::told_sub(row));
+    push_heard(world.matching.listeners(), goes, comes, effects)
+}
+
+/// The network ends a subscriber.
+fn hear_told_sub_end(
+    world: &SessionTables,
+    number: u32,
+    effects: &mut Effects,
+) -> Result<(), AllocError>
+    ensures { OnOk result (effects.new ≡ effects.old
+        ++ listener_effects_at world.now (with_change (Change.OfMatching (MatchingChange.ForgetSub number)) world.now)) }
+{
+    let _ascending = world.matching.told().subs();
+    let goes = told_sub_of(world.matching.told(), number);
+    push_heard(world.matching.listeners(), goes, None, effects)
+}
+
+/// The network tells a queryable, in place of the one of its number.
+fn hear_told_queryable(
+    world: &SessionTables,
+    row: &ToldQueryable,
+    effects: &mut Effects,
+) -> Result<(), AllocError>
+    ensures { OnOk result (effects.new ≡ effects.old
+        ++ listener_effects_at world.now (with_change (Change.OfMatching (MatchingChange.TellQueryable row.now)) world.now)) }
+{
+    let _ascending = world.matching.told().queryables();
+    let goes = told_queryable_of(world.matching.told(), row.number);
+    let comes = Some(Candidate::told_queryable(row));
+    push_heard(world.matching.listeners(), goes, comes, effects)
+}
+
+/// The network ends a queryable.
+fn hear_told_queryable_end(
+    world: &SessionTables,
+    number: u32,
+    effects: &mut Effects,
+) -> Result<(), AllocError>
+    ensures { OnOk result (effects.new ≡ effects.old
+        ++ listener_effects_at world.now (with_change (Change.OfMatching (MatchingChange.ForgetQueryable number)) world.now)) }
+{
+    let _ascending = world.matching.told().queryables();
+    let goes = told_queryable_of(world.matching.told(), number);
+    push_heard(world.matching.listeners(), goes, None, effects)
+}
+
+/// Those listeners hear whose status changes where one candidate goes and another one comes.
+fn push_heard(
+    listeners: &ListenerTable,
+    goes: Option<Candidate<'_>>,
+    comes: Option<Candidate<'_>>,
+    effects: &mut Effects,
+) -> Result<(), AllocError>
+    ensures { OnOk result (effects.new ≡ effects.old ++ map heard_effect (filter is_heard (recounts (seen_if goes.entry) (seen_if comes.entry) listeners.now))) }
+{
+    let all = listeners.recounts(goes, comes)?;
+    for one in &all {
+        push_one(one, effects)?;
+    }
+    Ok(())
+}
+
+fn push_one(one: &Recount, effects: &mut Effects) -> Result<(), AllocError>
+    ensures { OnOk result (effects.new ≡ effects.old ++ map heard_effect (filter is_heard (one.now ∷ []))) }
+{
+    if !one.is_heard() {
+        return Ok(());
+    }
+    effects.push(Effect::Matching {
+        id: one.id,
+        matching: one.is > 0,
+    })
+}
+
+/// These listeners are called no more.
+fn push_ends(rows: &[ListenerRow], effects: &mut Effects) -> Result<(), AllocError>
+    ensures { OnOk result (effects.new ≡ effects.old ++ listener_ends rows.now) }
+{
+    for row in rows {
+        effects.push(end_of(row))?;
+    }
+    Ok(())
+}
+
+/// Nor are those of a publisher or querier.
+fn push_ends_of(rows: &[ListenerRow], parent: u32, effects: &mut Effects) -> Result<(), AllocError>
+    ensures { OnOk result (effects.new ≡ effects.old ++ listener_ends (filter (λ row. row.parent == parent) rows.now)) }
+{
+    for row in rows {
+        push_end_if(row, row.parent == parent, effects)?;
+    }
+    Ok(())
+}
+
+/// Nor is that of a number, if it is there.
+fn push_end(listeners: &ListenerTable, id: u32, effects: &mut Effects) -> Result<(), AllocError>
+    ensures { OnOk result (effects.new ≡ effects.old ++ listener_ends (filter (λ row. row.id == id) (map (λ l. l.row) listeners.now))) }
+{
+    let _ascending = listeners.rows();
+    if !listeners.has(id) {
+        return Ok(());
+    }
+    effects.push(Effect::End {
+        kind: Kind::Listener,
+        id,
+    })
+}
+
+fn push_end_if(row: &ListenerRow, ends: bool, effects: &mut Effects) -> Result<(), AllocError>
+    ensures { OnOk result (effects.new ≡ effects.old ++ listener_ends (filter (λ r. ends) (row.now ∷ []))) }
+{
+    if !ends {
+        return Ok(());
+    }
+    effects.push(end_of(row))
+}
+
+fn end_of(row: &ListenerRow) -> Effect
+    ensures { result ∷ [] ≡ listener_ends (row.now ∷ []) }
+{
+    Effect::End {
+        kind: Kind::Listener,
+        id: row.id,
+    }
+}

@@ -1,0 +1,196 @@
+//! The session and what it keeps.
+
+ghost use Rattle.std.specs.Prelude.{◌≡◌, ◌≤◌, ◌<◌, [], ◌++◌, length, take, drop, min, None, IsTrue, IfOk, OnOk, OnErr, IfErr};
+ghost use Rattle.zs_core.specs.Changes.{Fits, with_change};
+ghost use Rattle.zs_core.specs.Settings.{is_valid};
+ghost use Rattle.zs_events.specs.declared.event.Event.TheVariants.{Close};
+ghost use Rattle.zs_line_session.specs.declared.session.LineFault.TheVariants.{NoMemory};
+ghost use Rattle.zs_line_session.specs.Lined.{opened, session_event, Takes, TakesLine, IsCause};
+ghost use Rattle.zs_script.specs.Grammar.{event_of};
+ghost use Rattle.zs_script.specs.Printing.{turn_text};
+
+use crate::kept::KeptText;
+use std::alloc::{AllocError, Global};
+use std::marker::Model;
+use thiserror::Error;
+use zs_core::{Change, Event, SessionState, Settings, Turn};
+use zs_events::ScriptEvent;
+use zs_script::{Line, append_turn, parse_event};
+
+/// Why a line was not taken.
+#[derive(Clone, Copy, Debug, PartialEq, Eq, Error)]
+pub enum LineFault {
+    /// It is longer than the settings allow.
+    #[error("the line is too long")]
+    TooLong,
+    /// It is no event of the session: not UTF-8, of no form of the language, or the read of a channel, which this session doesn't have.
+    #[error("the line is no event")]
+    NoEvent,
+    /// Want of memory.
+    #[error("no memory")]
+    NoMemory,
+}
+
+/// A session that takes lines and keeps the text of its turns.
+///
+/// Contracts see the tables of its session, the text that was not read yet, and the longest line that it takes.
+#[derive(Drop)]
+pub struct LineSession {
+    alloc: Global,
+    state: SessionState,
+    line_max: u32,
+    /// Where each turn's text is printed; its memory outlives the turns.
+    printed: String,
+    kept: KeptText,
+}
+
+impl Model for LineSession {
+    ghost use Rattle.zs_line_session.specs.Lined.{Lined};
+
+    ghost Value = { Lined };
+
+    ghost view = { λ s. record { world = s.state; text = s.kept; line_max = s.line_max } };
+}
+
+impl LineSession {
+    /// An open session in which nothing is declared, with no text. It keeps the allocator.
+    pub fn open(alloc: Global, settings: &Settings) -> Result<LineSession, AllocError>
+        requires { IsTrue (is_valid settings.now) }
+        ensures { IfOk result (λ made. made ≡ opened settings.now) }
+    {
+        let state = SessionState::new(alloc, settings)?;
+        Ok(LineSession {
+            alloc,
+            state,
+            line_max: settings.line_max,
+            printed: String::new(alloc),
+            kept: KeptText::new(alloc),
+        })
+    }
+
+    /// Takes a line, and keeps the text of its turn, whose lines begin with `number`, behind what was kept.
+    ///
+    /// # Errors
+    ///
+    /// Those of `LineFault`. The session and what it keeps are then as they were.
+    pub fn take_line(&mut self, number: u64, line: &[u8]) -> Result<(), LineFault>
+        ensures ok { OnOk result (TakesLine self.old self.new number line.now) }
+        ensures err { OnErr result (self.new ≡ self.old) }
+        ensures cause { IfErr result (λ fault. IsCause fault self.old line.now) }
+    {
+        if line.len() > self.line_max as usize {
+            return Err(LineFault::TooLong);
+        }
+        match read_event(self.alloc, number, line) {
+            Ok(Some(event)) => self.take_own(event, number),
+            Ok(None) => Err(LineFault::NoEvent),
+            Err(_) => Err(LineFault::NoMemory),
+        }
+    }
+
+    /// It is `take_event` of an event that is let go then.
+    fn take_own(&mut self, event: Event, number: u64) -> Result<(), LineFault>
+        ensures ok { OnOk result (Takes self.old self.new number event) }
+        ensures err { OnErr result (self.new ≡ self.old) }
+        ensures cause { IfErr result (λ fault. fault ≡ NoMemory) }
+    {
+        let taken = self.take_event(number, &event);
+        drop(event);
+        match taken {
+            Ok(()) => Ok(()),
+            Err(_) => Err(LineFault::NoMemory),
+        }
+    }
+
+    /// Closes the session, as a line does that says so.
+    pub fn close(&mut self, number: u64) -> Result<(), AllocError>
+        ensures ok { OnOk result (Takes self.old self.new number Close) }
+        ensures err { OnErr result (self.new ≡ self.old) }
+    {
+        self.take_event(number, &Event::Close)
+    }
+
+    /// Takes an event, and keeps the text of its turn, whose lines begin with `number`, behind what was kept. At an `Err` the
+    /// session and what it keeps are as they were.
+    pub fn take_event(&mut self, number: u64, event: &Event) -> Result<(), AllocError>
+        ensures ok { OnOk result (Takes self.old self.new number event.now) }
+        ensures err { OnErr result (self.new ≡ self.old) }
+    {
+        let waiting = self.kept.len();
+        let made = self.state.plan(event)?;
+        let (turn, change) = made.into_parts();
+        let told = self.keep(number, &turn);
+        drop(turn);
+        match told {
+            Ok(()) => self.apply(change, waiting),
+            Err(_) => {
+                drop(change);
+                Err(AllocError)
+            }
+        }
+    }
+
+    /// Keeps the text of a turn.
+    fn keep(&mut self, number: u64, turn: &Turn) -> Result<(), AllocError>
+        ensures ok { OnOk result (self.new ≡ record { world = self.old.world; text = self.old.text ++ turn_text number turn.now; line_max = self.old.line_max }) }
+        ensures err { OnErr result (self.new ≡ self.old) }
+    {
+        self.printed.clear();
+        append_turn(&mut self.printed, number, turn)?;
+        self.kept.add(self.printed.as_bytes())
+    }
+
+    /// Makes a change that fits. For want of memory it lets go of the text behind the first `waiting` bytes.
+    fn apply(&mut self, change: Change, waiting: usize) -> Result<(), AllocError>
+        requires fits { Fits self.old.world change }
+        requires waiting { waiting ≤ length self.old.text }
+        ensures ok { OnOk result (self.new ≡ record { world = with_change change self.old.world; text = self.old.text; line_max = self.old.line_max }) }
+        ensures err { OnErr result (self.new ≡ record { world = self.old.world; text = take waiting self.old.text; line_max = self.old.line_max }) }
+    {
+        match self.state.apply(change) {
+            Ok(()) => Ok(()),
+            Err(_) => {
+                self.kept.truncate(waiting);
+                Err(AllocError)
+            }
+        }
+    }
+
+    /// How many bytes of text wait to be read.
+    pub fn waiting(&self) -> usize
+        ensures { result ≡ length self.now.text }
+    {
+        self.kept.len()
+    }
+
+    /// Moves as many bytes of the text as there are and fit to the front of `out`, and returns how many. The rest waits.
+    pub fn read_text(&mut self, out: &mut [u8]) -> usize
+        ensures count { result ≡ min (length out.old) (length self.old.text) }
+        ensures written { out.new ≡ take result self.old.text ++ drop result out.old }
+        ensures left { self.new ≡ record { world = self.old.world; text = drop result self.old.text; line_max = self.old.line_max } }
+    {
+        self.kept.read(out)
+    }
+}
+
+/// The session's event that a line is, if it is one.
+fn read_event(alloc: Global, number: u64, line: &[u8]) -> Result<Option<Event>, AllocError>
+    ensures { IfOk result (λ found. found ≡ session_event (event_of line.now)) }
+{
+    let bytes = Vec::from_slice(alloc, line)?;
+    let said = parse_event(alloc, &Line { number, bytes })?;
+    Ok(own_event(said))
+}
+
+/// The event of the session, where what a line says is one.
+fn own_event(said: Option<ScriptEvent>) -> Option<Event>
+    ensures { result ≡ session_event said }
+{
+    match said {
+        Some(ScriptEvent::Core(event)) => Some(event),
+        other => {
+            drop(other);
+            None
+        }
+    }
+}

@@ -1,0 +1,21 @@
+//! Ends of queryables, as effects.
+
+ghost use Rattle.std.specs.Prelude.{◌≡◌, ◌++◌, OnOk};
+ghost use Rattle.zs_model.specs.Queryables.{queryable_ends};
+
+use std::alloc::AllocError;
+use zs_events::{Effect, Effects, Kind};
+use zs_tables::QueryableRow;
+
+/// Adds that these queryables are asked no more.
+pub fn push_queryable_ends(effects: &mut Effects, rows: &[QueryableRow]) -> Result<(), AllocError>
+    ensures { OnOk result (effects.new ≡ effects.old ++ queryable_ends rows.now) }
+{
+    for row in rows {
+        effects.push(Effect::End {
+            kind: Kind::Queryable,
+            id: row.id,
+        })?;
+    }
+    Ok(())
+}

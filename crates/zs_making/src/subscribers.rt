@@ -1,0 +1,21 @@
+//! Ends of subscribers, as effects.
+
+ghost use Rattle.std.specs.Prelude.{◌≡◌, ◌++◌, OnOk};
+ghost use Rattle.zs_model.specs.Subscribers.{sub_ends};
+
+use std::alloc::AllocError;
+use zs_events::{Effect, Effects, Kind};
+use zs_tables::SubRow;
+
+/// Adds that these subscribers are called no more.
+pub fn push_ends(effects: &mut Effects, rows: &[SubRow]) -> Result<(), AllocError>
+    ensures { OnOk result (effects.new ≡ effects.old ++ sub_ends rows.now) }
+{
+    for row in rows {
+        effects.push(Effect::End {
+            kind: Kind::Subscriber,
+            id: row.id,
+        })?;
+    }
+    Ok(())
+}

@@ -1,0 +1,13 @@
+pub mod Cancelling
+pub mod DistinctNumbers
+pub mod EndedGets
+pub mod Entities
+pub mod Filters
+pub mod Gets
+pub mod Groups
+pub mod Placing
+pub mod Publications
+pub mod Queriers
+pub mod Sharing
+pub mod Tokens
+pub mod Values

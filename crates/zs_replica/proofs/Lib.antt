@@ -1,0 +1,4 @@
+pub mod Rows
+mod Steps
+mod Own
+mod Owing

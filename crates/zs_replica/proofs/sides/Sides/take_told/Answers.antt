@@ -1,0 +1,18 @@
+use Rattle.std.proofs.Common.{subst}
+use Rattle.zs_events.specs.declared.turn.Turn.{Turn}
+use Rattle.zs_replica_lines.specs.Shown.{ends_text}
+use Rattle.zs_replica.specs.Told.{letter, with_text}
+use Rattle.zs_replica.specs.Sides.{Becomes}
+use Rattle.zs_replica.proofs.Steps.{takes_then, on_ok}
+use Rattle.zs_replica.proofs.sides.Sides.take_told.Goals as goal
+
+pub returns : goal.returns
+returns c =
+    let number = c.args.number in
+    let side = c.args.side in
+    let mid = c.take.new.self in
+    let new = c.tell_ends-told.new.self in
+    on_ok c.tell_ends-told.result (Becomes (λ s t. with_text (ends_text number (letter side) c.get.result.now.effects) t) mid new) _
+    (λ told. takes_then side c.args.event.now (λ s turn t. with_text (ends_text number (letter side) turn.effects) t) c.args.self.now mid new c.in_ok-turn.turn
+    c.in_ok-turn.ensures (subst (λ (turn : Turn). Becomes (λ s t. with_text (ends_text number (letter side) turn.effects) t) mid new) c.get.ensures told))
+    c.tell_ends-told.ensures

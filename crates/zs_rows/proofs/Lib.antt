@@ -1,0 +1,9 @@
+pub mod Ascending
+pub mod Finding
+pub mod Marking
+pub mod Numbered
+pub mod Indexing
+pub mod Ending
+pub mod Listing
+pub mod Following
+pub mod Numbering

@@ -1,0 +1,5 @@
+pub mod Ascending
+pub mod Behind
+pub mod Index
+pub mod Numbers
+pub mod Rows

@@ -1,0 +1,6 @@
+/// That a number stands under a key.
+#[derive(Debug, Clone, Copy, PartialEq, Eq, PartialOrd, Ord, Drop)]
+pub struct Mark {
+    pub key: u64,
+    pub number: u32,
+}

@@ -1,0 +1,5 @@
+pub mod Bounds
+pub mod Counted
+pub mod Hearing
+pub mod HolderCounts
+pub mod Publishers

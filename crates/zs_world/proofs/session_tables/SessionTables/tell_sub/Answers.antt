@@ -1,0 +1,22 @@
+use Rattle.std.proofs.Common.{◌∙◌}
+use Rattle.zs_tables.proofs.Moving.{told_sub_comes}
+use Rattle.zs_world.proofs.Counted.{below_told, counted_told}
+use Rattle.zs_world.proofs.session_tables.SessionTables.tell_sub.Goals as goal
+
+pub invariant_of-self-2 : goal.invariant_of-self-2
+invariant_of-self-2 c =
+    let s = c.self.inside in
+    let moves = told_sub_comes s.tables.rows s.queryables s.matching.told c.args.row (rw c.told.ensures at c.subs-ascending.ensures.ascending) in
+    let all = rw (c.told_sub_of-goes.ensures, c.told-2.ensures, c.told_sub.ensures, c.listeners.ensures) at c.in_ok-recounts.ensures.all in
+    let seen = rw c.listeners.ensures at c.recounts_of.ensures.ascending in
+    record {
+      subs = c.self.invariant.subs;
+      pubs = c.self.invariant.pubs;
+      queryables = c.self.invariant.queryables;
+      queriers = c.self.invariant.queriers;
+      sub_groups = c.self.invariant.sub_groups;
+      pub_groups = c.self.invariant.pub_groups;
+      querier_groups = c.self.invariant.querier_groups;
+      listening = below_told s.next_entity _ c.deref.result.now s.matching _ _ c.in_ok-tell_sub.ensures.ok c.recount.ensures.kept c.self.invariant.listening;
+      counted = counted_told s.tables.rows s.queryables _ _ _ _ s.matching _ _ c.in_ok-tell_sub.ensures.ok c.recount.ensures.kept (c.deref.ensures.value ∙ all) seen moves c.self.invariant.counted;
+    }

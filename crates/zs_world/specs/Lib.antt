@@ -1,0 +1,11 @@
+pub mod World
+pub mod Keys
+pub mod DeclaredKeys
+pub mod HolderCounts
+pub mod MatchingTables
+pub mod Bounds
+pub mod Changes
+pub mod LivelinessChanges
+pub mod MatchingChanges
+pub mod CancellationChanges
+pub mod Turns

@@ -1,0 +1,153 @@
+//! The part of a session that knows tokens: its own, those of others, and who watches them.
+
+ghost use Rattle.std.specs.Prelude.{◌≡◌, ◌≤◌, ◌==◌, OnOk, OnErr};
+ghost use Rattle.std.specs.List.{list_any};
+ghost use Rattle.zs_model.specs.Liveliness.{no_liveliness, shut_liveliness};
+ghost use Rattle.zs_world.specs.LivelinessChanges.{liveliness_after, next_behind, LivelinessFits};
+ghost use Rattle.zs_tables.specs.LivelinessGets.{waiting_at, without_token};
+
+use crate::change::LivelinessChange;
+use crate::id_set::IdSet;
+use std::alloc::{AllocError, Global};
+use std::marker::Model;
+use zs_tables::{LivelinessGets, LivelinessSubs, ToldTokens};
+
+/// What a session knows of liveliness. No call that answers want of memory has changed anything.
+#[derive(Drop)]
+pub struct Liveliness {
+    /// This session's tokens.
+    tokens: IdSet,
+    subs: LivelinessSubs,
+    left: IdSet,
+    told: ToldTokens,
+    gets: LivelinessGets,
+}
+
+impl Model for Liveliness {
+    ghost use Rattle.zs_model.specs.Liveliness.{Liveliness};
+
+    ghost Value = { Liveliness };
+
+    ghost view = { λ l. record { tokens = l.tokens; subs = l.subs; left = l.left; told = l.told; gets = l.gets } };
+}
+
+impl Liveliness {
+    pub fn new(alloc: Global) -> Liveliness
+        ensures { result ≡ no_liveliness }
+    {
+        Liveliness {
+            tokens: IdSet::new(alloc),
+            subs: LivelinessSubs::new(alloc),
+            left: IdSet::new(alloc),
+            told: ToldTokens::new(alloc),
+            gets: LivelinessGets::new(alloc),
+        }
+    }
+
+    /// Whether there is a token of this session of that number.
+    pub fn has_token(&self, id: u32) -> bool
+        ensures { result ≡ list_any (λ other. other == id) self.now.tokens }
+    {
+        self.tokens.contains(id)
+    }
+
+    /// The live subscribers.
+    pub fn subs(&self) -> &LivelinessSubs
+        ensures { result.now ≡ self.now.subs }
+    {
+        &self.subs
+    }
+
+    /// The numbers of the subscribers that were left to themselves.
+    pub fn left(&self) -> &IdSet
+        ensures { result.now ≡ self.now.left }
+    {
+        &self.left
+    }
+
+    /// The tokens that the network told.
+    pub fn told(&self) -> &ToldTokens
+        ensures { result.now ≡ self.now.told }
+    {
+        &self.told
+    }
+
+    /// The open gets of tokens.
+    pub fn gets(&self) -> &LivelinessGets
+        ensures { result.now ≡ self.now.gets }
+    {
+        &self.gets
+    }
+
+    /// Makes a change. At an `Err` all is as it was.
+    pub fn change(&mut self, change: LivelinessChange) -> Result<(), AllocError>
+        ensures ok { OnOk result (self.new ≡ liveliness_after change self.old) }
+        ensures err { OnErr result (self.new ≡ self.old) }
+    {
+        match change {
+            LivelinessChange::DeclareToken { id } => self.tokens.insert(id),
+            LivelinessChange::EndToken { id } => {
+                self.tokens.remove(id);
+                Ok(())
+            }
+            LivelinessChange::AddLsub { row } => self.subs.put(row),
+            LivelinessChange::EndLsub { id } => {
+                self.subs.remove(id);
+                Ok(())
+            }
+            LivelinessChange::LeaveLsub { id } => self.left.insert(id),
+            LivelinessChange::AskTokens { row } => self.gets.open(row),
+            LivelinessChange::EndAsking { number } => {
+                self.gets.end(number);
+                Ok(())
+            }
+            LivelinessChange::RecordToken { token } => self.told.record(token),
+            LivelinessChange::ForgetToken { number } => {
+                self.told.forget(number);
+                Ok(())
+            }
+        }
+    }
+
+    /// Ends the gets whose deadline is reached.
+    pub fn advance(&mut self, moment: u64)
+        ensures { self.new ≡ record self.old { gets = waiting_at moment self.old.gets } }
+    {
+        self.gets.advance(moment);
+    }
+
+    /// Ends the gets that have a cancellation token.
+    pub fn end_token(&mut self, token: u32)
+        ensures { self.new ≡ record self.old { gets = without_token token self.old.gets } }
+    {
+        self.gets.end_token(token);
+    }
+
+    /// Nothing that the application declared or asked lives any more.
+    pub fn shut(&mut self)
+        ensures { self.new ≡ shut_liveliness self.old }
+    {
+        self.tokens.clear();
+        self.subs.clear();
+        self.gets.clear();
+    }
+}
+
+/// The next entity number behind a change.
+pub fn next_behind(change: &LivelinessChange, next: u32) -> u32
+    requires { LivelinessFits next change.now }
+    ensures number { result ≡ next_behind change.now next }
+    ensures up { next ≤ result }
+{
+    match change {
+        LivelinessChange::DeclareToken { .. }
+        | LivelinessChange::AddLsub { .. }
+        | LivelinessChange::AskTokens { .. } => next + 1,
+        LivelinessChange::EndToken { .. }
+        | LivelinessChange::EndLsub { .. }
+        | LivelinessChange::LeaveLsub { .. }
+        | LivelinessChange::EndAsking { .. }
+        | LivelinessChange::RecordToken { .. }
+        | LivelinessChange::ForgetToken { .. } => next,
+    }
+}

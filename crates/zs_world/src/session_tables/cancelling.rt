@@ -1,0 +1,38 @@
+//! Cancellation tokens: of each the session keeps no more than whether it was taken.
+
+ghost use Rattle.std.specs.Prelude.{◌≡◌, OnOk, OnErr};
+ghost use Rattle.zs_world.specs.Changes.{CancellationFits, with_change};
+
+use super::SessionTables;
+use crate::change::{CancellationChange, Change};
+use std::alloc::AllocError;
+
+impl SessionTables {
+    pub(super) fn change_cancellation(
+        &mut self,
+        change: CancellationChange,
+    ) -> Result<(), AllocError>
+        requires { CancellationFits self.old change }
+        ensures ok { OnOk result (self.new ≡ with_change (Change.OfCancellation change) self.old) }
+        ensures err { OnErr result (self.new ≡ self.old) }
+    {
+        match change {
+            CancellationChange::Draw => {
+                self.next_cancellation_token += 1;
+                Ok(())
+            }
+            CancellationChange::Take { token } => self.take_cancellation_token(token),
+        }
+    }
+
+    /// A token is taken, and its gets end, those of tokens too.
+    fn take_cancellation_token(&mut self, token: u32) -> Result<(), AllocError>
+        ensures ok { OnOk result (self.new ≡ with_change (Change.OfCancellation (CancellationChange.Take token)) self.old) }
+        ensures err { OnErr result (self.new ≡ self.old) }
+    {
+        self.taken_cancellation_tokens.insert(token)?;
+        self.asking.end_token(token);
+        self.liveliness.end_token(token);
+        Ok(())
+    }
+}

@@ -1,0 +1,107 @@
+//! Matching: listeners, whether anyone matches, and whom the network tells.
+
+ghost use Rattle.std.specs.Prelude.{◌≡◌, Some, OnOk, OnErr};
+ghost use Rattle.zs_tables.specs.Matching.{candidates};
+ghost use Rattle.zs_world.specs.World.{present_at};
+ghost use Rattle.zs_world.specs.Changes.{with_change};
+ghost use Rattle.zs_world.specs.MatchingChanges.{MatchingFits};
+
+use super::SessionTables;
+use super::candidates::{recounts_of, told_queryable_of, told_sub_of};
+use crate::change::{Change, MatchingChange};
+use std::alloc::AllocError;
+use zs_tables::{Candidate, ListenerRow, Present, ToldQueryable, ToldSub};
+
+impl SessionTables {
+    /// Those whom a listener may listen for.
+    pub fn present(&self) -> Present<'_>
+        ensures { candidates result.tables.now.rows result.queryables.now result.told.now ≡ present_at self.now }
+    {
+        Present {
+            tables: &self.tables,
+            queryables: &self.queryables,
+            told: self.matching.told(),
+        }
+    }
+
+    pub(super) fn change_matching(&mut self, change: MatchingChange) -> Result<(), AllocError>
+        requires { MatchingFits self.old.counters.entity change }
+        ensures ok { OnOk result (self.new ≡ with_change (Change.OfMatching change) self.old) }
+        ensures err { OnErr result (self.new ≡ self.old) }
+    {
+        match change {
+            MatchingChange::AddListener { row } => self.add_listener(row),
+            MatchingChange::EndListener { id } => {
+                self.matching.end(id);
+                Ok(())
+            }
+            MatchingChange::LeaveListener { id } => self.matching.leave(id),
+            MatchingChange::TellSub { row } => self.tell_sub(row),
+            MatchingChange::ForgetSub { number } => self.forget_sub(number),
+            MatchingChange::TellQueryable { row } => self.tell_queryable(row),
+            MatchingChange::ForgetQueryable { number } => self.forget_queryable(number),
+        }
+    }
+
+    /// A listener with the next number is live.
+    fn add_listener(&mut self, row: ListenerRow) -> Result<(), AllocError>
+        requires { MatchingFits self.old.counters.entity (MatchingChange.AddListener row) }
+        ensures ok { OnOk result (self.new ≡ with_change (Change.OfMatching (MatchingChange.AddListener row)) self.old) }
+        ensures err { OnErr result (self.new ≡ self.old) }
+    {
+        let count = self.present().count(self.alloc, &row)?;
+        self.matching.add(row, count)?;
+        self.next_entity += 1;
+        Ok(())
+    }
+
+    fn tell_sub(&mut self, row: ToldSub) -> Result<(), AllocError>
+        ensures ok { OnOk result (self.new ≡ with_change (Change.OfMatching (MatchingChange.TellSub row)) self.old) }
+        ensures err { OnErr result (self.new ≡ self.old) }
+    {
+        let _ascending = self.matching.told().subs();
+        let goes = told_sub_of(self.matching.told(), row.number);
+        let comes = Some(Candidate::told_sub(&row));
+        let recounts = recounts_of(self.matching.listeners(), goes, comes)?;
+        self.matching.tell_sub(row)?;
+        self.matching.recount(&recounts);
+        Ok(())
+    }
+
+    fn forget_sub(&mut self, number: u32) -> Result<(), AllocError>
+        ensures ok { OnOk result (self.new ≡ with_change (Change.OfMatching (MatchingChange.ForgetSub number)) self.old) }
+        ensures err { OnErr result (self.new ≡ self.old) }
+    {
+        let _ascending = self.matching.told().subs();
+        let goes = told_sub_of(self.matching.told(), number);
+        let recounts = recounts_of(self.matching.listeners(), goes, None)?;
+        self.matching.forget_sub(number);
+        self.matching.recount(&recounts);
+        Ok(())
+    }
+
+    fn tell_queryable(&mut self, row: ToldQueryable) -> Result<(), AllocError>
+        ensures ok { OnOk result (self.new ≡ with_change (Change.OfMatching (MatchingChange.TellQueryable row)) self.old) }
+        ensures err { OnErr result (self.new ≡ self.old) }
+    {
+        let _ascending = self.matching.told().queryables();
+        let goes = told_queryable_of(self.matching.told(), row.number);
+        let comes = Some(Candidate::told_queryable(&row));
+        let recounts = recounts_of(self.matching.listeners(), goes, comes)?;
+        self.matching.tell_queryable(row)?;
+        self.matching.recount(&recounts);
+        Ok(())
+    }
+
+    fn forget_queryable(&mut self, number: u32) -> Result<(), AllocError>
+        ensures ok { OnOk result (self.new ≡ with_change (Change.OfMatching (MatchingChange.ForgetQueryable number)) self.old) }
+        ensures err { OnErr result (self.new ≡ self.old) }
+    {
+        let _ascending = self.matching.told().queryables();
+        let goes = told_queryable_of(self.matching.told(), number);
+        let recounts = recounts_of(self.matching.listeners(), goes, None)?;
+        self.matching.forget_queryable(number);
+        self.matching.recount(&recounts);
+        Ok(())
+    }
+}

@@ -1,0 +1,42 @@
+//! Changes of the publishers.
+
+ghost use Rattle.std.specs.Prelude.{◌≡◌, OnOk, OnErr};
+ghost use Rattle.zs_world.specs.Changes.{EntitiesFit, with_change};
+
+use super::SessionTables;
+use super::groups::{add_to_group, leave_found};
+use crate::change::{Change, EntityChange};
+use std::alloc::AllocError;
+use zs_model::PubRow;
+use zs_tables::GroupKind;
+
+impl SessionTables {
+    /// A publisher with the next number is live.
+    pub(super) fn add_pub(&mut self, row: PubRow) -> Result<(), AllocError>
+        requires { EntitiesFit self.old (EntityChange.AddPub row) }
+        ensures ok { OnOk result (self.new ≡ with_change (Change.OfEntities (EntityChange.AddPub row)) self.old) }
+        ensures err { OnErr result (self.new ≡ self.old) }
+    {
+        let aggregates = &self.settings.aggregated_publishers;
+        add_to_group(
+            self.alloc,
+            &mut self.publishers,
+            &mut self.groups,
+            GroupKind::Publishers,
+            aggregates,
+            row,
+        )?;
+        self.next_entity += 1;
+        Ok(())
+    }
+
+    pub(super) fn end_pub(&mut self, id: u32)
+        ensures { self.new ≡ with_change (Change.OfEntities (EntityChange.EndPub id)) self.old }
+    {
+        let row = self.publishers.get(id);
+        let aggregates = &self.settings.aggregated_publishers;
+        leave_found(&mut self.groups, GroupKind::Publishers, aggregates, row);
+        self.publishers.remove(id);
+        self.matching.end_of(id);
+    }
+}

@@ -1,0 +1,119 @@
+//! Changes of the subscribers, and the dispatch of all changes of entities.
+
+ghost use Rattle.std.specs.Prelude.{◌≡◌, ◌≢◌, ◌<◌, ◌++◌, ◌∷◌, [], Some, None, All, OnOk, OnErr};
+ghost use Rattle.zs_world.specs.Changes.{EntitiesFit, with_change};
+ghost use Rattle.zs_tables.specs.Groups.{members_of};
+ghost use Rattle.zs_model.specs.Groups.{sub_shared, share_text, joined_by};
+
+use super::SessionTables;
+use super::candidates::{own_sub_of, recounts_of};
+use super::groups::{join_group, leave_found};
+use crate::change::{Change, EntityChange};
+use std::alloc::{AllocError, Global};
+use zs_model::{KeyList, copy_of, has_network};
+use zs_tables::{Candidate, GroupKind, Groups, SubRow, Tables};
+
+impl SessionTables {
+    pub(super) fn change_entities(&mut self, change: EntityChange) -> Result<(), AllocError>
+        requires { EntitiesFit self.old change }
+        ensures ok { OnOk result (self.new ≡ with_change (Change.OfEntities change) self.old) }
+        ensures err { OnErr result (self.new ≡ self.old) }
+    {
+        match change {
+            EntityChange::AddSub { row } => self.add_sub(row),
+            EntityChange::EndSub { id } => self.end_sub(id),
+            EntityChange::AddPub { row } => self.add_pub(row),
+            EntityChange::EndPub { id } => {
+                self.end_pub(id);
+                Ok(())
+            }
+            EntityChange::AddQueryable { row } => self.add_queryable(row),
+            EntityChange::EndQueryable { id } => self.end_queryable(id),
+            EntityChange::AddQuerier { row } => self.add_querier(row),
+            EntityChange::EndQuerier { id } => {
+                self.end_querier(id);
+                Ok(())
+            }
+            EntityChange::LeaveSub { id } => self.leave_sub(id),
+            EntityChange::LeaveQueryable { id } => self.leave_queryable(id),
+        }
+    }
+
+    /// A subscriber with the next number is live.
+    fn add_sub(&mut self, row: SubRow) -> Result<(), AllocError>
+        requires { EntitiesFit self.old (EntityChange.AddSub row) }
+        ensures ok { OnOk result (self.new ≡ with_change (Change.OfEntities (EntityChange.AddSub row)) self.old) }
+        ensures err { OnErr result (self.new ≡ self.old) }
+    {
+        let comes = Some(Candidate::own_sub(&row));
+        let recounts = recounts_of(self.matching.listeners(), None, comes)?;
+        let aggregates = &self.settings.aggregated_subscribers;
+        add_to_group(
+            self.alloc,
+            &mut self.tables,
+            &mut self.groups,
+            aggregates,
+            row,
+        )?;
+        self.matching.recount(&recounts);
+        self.next_entity += 1;
+        Ok(())
+    }
+
+    fn end_sub(&mut self, id: u32) -> Result<(), AllocError>
+        ensures ok { OnOk result (self.new ≡ with_change (Change.OfEntities (EntityChange.EndSub id)) self.old) }
+        ensures err { OnErr result (self.new ≡ self.old) }
+    {
+        let _ascending = self.tables.rows();
+        let goes = own_sub_of(&self.tables, id);
+        let recounts = recounts_of(self.matching.listeners(), goes, None)?;
+        let row = self.tables.row(id);
+        let aggregates = &self.settings.aggregated_subscribers;
+        leave_found(&mut self.groups, GroupKind::Subscribers, aggregates, row);
+        self.tables.remove(id);
+        self.matching.recount(&recounts);
+        Ok(())
+    }
+
+    /// Nothing that the application declared lives any more.
+    pub(super) fn shut(&mut self)
+        ensures { self.new ≡ with_change Change.Shut self.old }
+    {
+        self.closed = true;
+        self.tables.clear();
+        self.holders.clear();
+        self.publishers.clear();
+        self.queryables.clear();
+        self.queriers.clear();
+        self.groups = Groups::new(self.alloc);
+        self.asking.close();
+        self.liveliness.shut();
+        self.matching.shut();
+    }
+}
+
+/// A subscriber is there, and in the group of its text.
+fn add_to_group(
+    alloc: Global,
+    tables: &mut Tables,
+    groups: &mut Groups,
+    aggregates: &KeyList,
+    row: SubRow,
+) -> Result<(), AllocError>
+    requires below { All (λ other. other.id < row.id) tables.old.rows }
+    requires new { All (λ member. member ≢ row.id) (members_of (share_text aggregates.now row.key.text) groups.old.subscribers) }
+    ensures tables { OnOk result (tables.new ≡ record tables.old { rows = tables.old.rows ++ row ∷ [] }) }
+    ensures groups { OnOk result (groups.new ≡ record groups.old { subscribers = joined_by aggregates.now (sub_shared row) groups.old.subscribers }) }
+    ensures same_tables { OnErr result (tables.new ≡ tables.old) }
+    ensures same_groups { OnErr result (groups.new ≡ groups.old) }
+{
+    let id = row.id;
+    let told = has_network(row.origin);
+    let key = copy_of(alloc, &row.key)?;
+    tables.add(row)?;
+    if let Err(error) = join_group(groups, GroupKind::Subscribers, aggregates, told, &key, id) {
+        tables.remove(id);
+        return Err(error);
+    }
+    Ok(())
+}
