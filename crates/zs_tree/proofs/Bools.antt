@@ -1,5 +1,5 @@
 -- Small facts about truth values.
-use Rattle.std.proofs.Common.{◌≡◌, Bool, true, false, not, ◌&&◌, ◌||◌, refl}
+use Rattle.std.proofs.Common.{◌≡◌, Bool, true, false, not, ◌&&◌, ◌||◌, Result, Ok, Err, OnOk, OnErr, refl}
 
 -- by the two values of a test
 pub split : {P : Type 0} (b : Bool) → (b ≡ true → P) → (b ≡ false → P) → P
@@ -24,3 +24,12 @@ and_second false b h = cc
 
 pub both : (a b : Bool) → a ≡ true → b ≡ true → (a && b) ≡ true
 both a b h k = rw (h, k) refl
+
+-- what follows where a call succeeds, and where it fails
+pub on_ok : {T E P Q : Type 0} (result : Result T E) → (P → Q) → OnOk result P → OnOk result Q
+on_ok (Ok t) f p = f p
+on_ok (Err e) f p = tt
+
+pub on_err : {T E P Q : Type 0} (result : Result T E) → (P → Q) → OnErr result P → OnErr result Q
+on_err (Ok t) f p = tt
+on_err (Err e) f p = f p

@@ -27,16 +27,16 @@ use Rattle.zs_tree.proofs.Codes.{decoded}
 use Rattle.zs_tree.proofs.Numbers.{IsNew, number_insert, number_remove, filter_all, all_number, all_unnumber, any_number}
 
 -- a code with a number
-abbrev Place : Type 0
+abbrev pub Place : Type 0
 Place = List ℕ × ℕ
 
-abbrev place_cmp : Place → Place → Ordering
+abbrev pub place_cmp : Place → Place → Ordering
 place_cmp a b = ordering_then (code_cmp a.0 b.0) (nat_cmp a.1 b.1)
 
-place_total : IsTotalOrder place_cmp
+pub place_total : IsTotalOrder place_cmp
 place_total = then_total (on_total (λ (p : Place). p.0) nat_list_cmp_total) (on_total (λ (p : Place). p.1) nat_cmp_total)
 
-abbrev place : Entry → Place
+abbrev pub place : Entry → Place
 place e = (e.code.items, e.id)
 
 turned : (o p : Ordering) → o ≡ ordering_reverse p → is_gt p ≡ false → is_lt o ≡ false

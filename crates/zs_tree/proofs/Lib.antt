@@ -12,3 +12,7 @@ pub mod Numbers
 pub mod Sorted
 pub mod EditLemmas
 pub mod MatchLemmas
+pub mod Blocks
+pub mod Placing
+pub mod Skipping
+pub mod Putting

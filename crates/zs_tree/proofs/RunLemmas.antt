@@ -75,7 +75,7 @@ within_down Closed m [] up h = nil_up m up
 within_down Closed m (x ∷ r) up h = absurd (cc)
 
 -- what stands between two codes that lie there lies there
-lies_between : (path : List ℕ) (bound : Bound) (a b d : List ℕ) → lies path bound a ≡ true → UpTo a b → UpTo b d
+pub lies_between : (path : List ℕ) (bound : Bound) (a b d : List ℕ) → lies path bound a ≡ true → UpTo a b → UpTo b d
     → lies path bound d ≡ true → lies path bound b ≡ true
 lies_between path bound a b d h low high k =
     let (ra, a_is, a_in) = lies-parts path a bound h in

@@ -2,26 +2,30 @@
 
 ghost use Rattle.std.specs.Prelude.{◌≡◌, ◌≤◌, None, map};
 ghost use Rattle.zs_tree.specs.Rows.{first_above, matches};
+ghost use Rattle.zs_tree.specs.Blocks.{flat, AreFilled};
 ghost use Rattle.zs_tree.specs.Entries.{AreInOrder, AllAscend, row_of, by_number, lesser};
 
+use crate::block::Block;
 use crate::entry::Entry;
+use crate::left::Left;
 use crate::search::next_run;
 use std::sync::ledger::Ledger;
 use zs_keys::Steps;
 
 /// The least number above the last one of those entries that hit.
 pub(crate) fn least_id<L: Ledger>(
-    entries: &[Entry],
+    blocks: &[Block],
     asked: &str,
     after: Option<u32>,
     steps: &mut Steps<L>,
 ) -> Option<u32>
-    requires { AreInOrder entries.now }
-    ensures least { result ≡ first_above after (matches asked.now (by_number (map row_of entries.now))) }
+    requires order { AreInOrder (flat blocks.now) }
+    requires filled { AreFilled blocks.now }
+    ensures least { result ≡ first_above after (matches asked.now (by_number (map row_of (flat blocks.now)))) }
     ensures counted { steps.old ≤ steps.new }
 {
     let mut least = None;
-    let mut rest = entries;
+    let mut rest = Left::of(blocks);
     while let Some((run, behind)) = next_run(rest, asked) {
         steps.tick();
         least = lesser(least, first_of_run(run, after));

@@ -2,12 +2,14 @@
 //! testing all.
 #![tactic(auto)]
 
+mod block;
 mod chunks;
 mod code;
 mod edits;
 mod entry;
 mod gap;
 mod least;
+mod left;
 mod matching;
 mod runs;
 mod search;

@@ -4,7 +4,8 @@ ghost use Rattle.std.specs.Prelude.{◌≡◌, ◌≢◌, ◌≤◌, ◌==◌, [
 ghost use Rattle.std.specs.List.{list_any};
 ghost use Rattle.zs_tree.specs.Rows.{placed, is_row, matches, first_above};
 
-use crate::edits::place_of;
+use crate::block::Block;
+use crate::edits::{put_in, take_out};
 use crate::entry::Entry;
 use crate::least::least_id;
 use crate::matching::push_hits;
@@ -14,24 +15,26 @@ use std::sync::ledger::Ledger;
 use zs_keys::{KeyExpr, Steps};
 
 /// Key expressions, each with a number. A look-up tests the keys that begin like the asked one, and leaves out the
-/// others by binary search; it takes no memory but for its answer, and no stack for long keys. Contracts see a row for
-/// each number, in ascending order.
+/// others by binary search; it takes no memory but for its answer, and no stack for long keys. The keys lie in blocks of
+/// a few hundred, so that one that comes or goes moves no others than those of its block. Contracts see a row for each
+/// number, in ascending order.
 #[derive(Drop)]
 pub struct KeyTree {
     alloc: Global,
-    entries: Vec<Entry>,
+    blocks: Vec<Block>,
 }
 
 impl Model for KeyTree {
     ghost use Rattle.std.specs.Prelude.{List, map};
     ghost use Rattle.zs_tree.specs.Rows.{Row};
+    ghost use Rattle.zs_tree.specs.Blocks.{flat, AreFilled};
     ghost use Rattle.zs_tree.specs.Entries.{row_of, by_number, AreInOrder, AreApart};
 
     ghost Value = { List Row };
 
-    ghost view = { λ t. by_number (map row_of t.entries.items) };
+    ghost view = { λ t. by_number (map row_of (flat t.blocks.items)) };
 
-    ghost invariant = { λ t. AreInOrder t.entries.items × AreApart t.entries.items };
+    ghost invariant = { λ t. AreInOrder (flat t.blocks.items) × AreApart (flat t.blocks.items) × AreFilled t.blocks.items };
 }
 
 impl KeyTree {
@@ -41,7 +44,7 @@ impl KeyTree {
     {
         KeyTree {
             alloc,
-            entries: Vec::new(alloc),
+            blocks: Vec::new(alloc),
         }
     }
 
@@ -56,10 +59,7 @@ impl KeyTree {
         ensures err { OnErr result (self.new ≡ self.old) }
     {
         let entry = Entry::new(self.alloc, id, key.as_str())?;
-        match place_of(&self.entries, key.as_str(), id) {
-            Ok(_) => unreachable!(),
-            Err(at) => Ok(self.entries.insert(at, entry)?),
-        }
+        put_in(self.alloc, &mut self.blocks, key.as_str(), entry)
     }
 
     /// Takes out a number with its key, and says whether the two were there.
@@ -67,18 +67,14 @@ impl KeyTree {
         ensures answer { result ≡ list_any (is_row id key.now.text) self.old }
         ensures rows { self.new ≡ filter (λ row. not (is_row id key.now.text row)) self.old }
     {
-        let Ok(at) = place_of(&self.entries, key.as_str(), id) else {
-            return false;
-        };
-        let _ = self.entries.remove(at);
-        true
+        take_out(&mut self.blocks, key.as_str(), id)
     }
 
     /// Takes out all.
     pub fn clear(&mut self)
         ensures { self.new ≡ [] }
     {
-        self.entries.clear();
+        self.blocks.clear();
     }
 
     /// The least number above the last one, if there was one, whose key has a key in common with the given one. It
@@ -92,7 +88,7 @@ impl KeyTree {
         ensures least { result ≡ first_above after (matches key.now.text self.now) }
         ensures counted { steps.old ≤ steps.new }
     {
-        least_id(&self.entries, key.as_str(), after, steps)
+        least_id(&self.blocks, key.as_str(), after, steps)
     }
 
     /// Makes a list the ascending numbers of all keys that have a key in common with the given one.
@@ -105,7 +101,7 @@ impl KeyTree {
         ensures err { OnErr result (into.new.items ≡ into.old.items) }
     {
         let held = into.len();
-        if let Err(error) = push_hits(&self.entries, key.as_str(), into) {
+        if let Err(error) = push_hits(&self.blocks, key.as_str(), into) {
             into.truncate(held);
             return Err(error);
         }

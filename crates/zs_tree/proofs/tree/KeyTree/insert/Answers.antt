@@ -1,34 +1,28 @@
-use Rattle.std.proofs.Common.{sym, ◌∙◌}
-use Rattle.zs_tree.specs.Code.{code_of}
-use Rattle.zs_tree.proofs.EditLemmas.{has_not, never_found, placed_in_order, placed_apart, placed_seen}
+use Rattle.zs_tree.specs.Blocks.{flat}
+use Rattle.zs_tree.proofs.EditLemmas.{has_not}
+use Rattle.zs_tree.proofs.Putting.{put_order, put_apart, put_seen, put_same, none_of}
 use Rattle.zs_tree.proofs.tree.KeyTree.insert.Goals as goal
 
-pub unreachable-requires : goal.unreachable-requires
-unreachable-requires c =
-    let es = c.self.inside.entries.items in
-    let none = has_not c.args.id es (rw (← c.self.view_is) at c.requires) in
-    let found = rw c.deref.ensures.value at c.in-Ok.ensures in
-    never_found (code_of c.as_str-2.result.now) c.args.id es c.in-Ok.field-0 c.in_ok-entry.entry none found.0 (found.1 c.in_ok-entry.entry)
+pub put_in-requires-clause-unused : goal.put_in-requires-clause-unused
+put_in-requires-clause-unused c = none_of c.in_ok-entry.entry c.args.id _ (flat c.self.inside.blocks.items) c.in_ok-entry.ensures (has_not c.args.id (flat c.self.inside.blocks.items) (rw (← c.self.view_is) at c.requires))
 
-pub invariant_of-self-in-Err : goal.invariant_of-self-in-Err
-invariant_of-self-in-Err c =
-    let es = c.self.inside.entries.items in
-    let new = c.in_ok-entry.entry in
-    let text = c.args.key.now.text in
-    let is = rw c.as_str.ensures.text at c.in_ok-entry.ensures in
-    let none = has_not c.args.id es (rw (← c.self.view_is) at c.requires) in
-    let there = rw (c.deref.ensures.value, c.as_str-2.ensures.text) at c.in-Err.ensures in
-    rw c.in_ok-insert-in-Err.ensures.items (
-      placed_in_order new text c.args.id es c.in-Err.at is c.self.invariant.0 there,
-      placed_apart new text c.args.id es c.in-Err.at is none c.self.invariant.1,
+pub invariant_of-self : goal.invariant_of-self
+invariant_of-self c =
+    let es = flat c.self.inside.blocks.items in
+    let entry = c.in_ok-entry.entry in
+    let none = none_of entry c.args.id _ es c.in_ok-entry.ensures (has_not c.args.id es (rw (← c.self.view_is) at c.requires)) in (
+      put_order c.put_in.result entry es (flat c.put_in.new.blocks.items) c.put_in.ensures.ok c.put_in.ensures.err c.self.invariant.0,
+      put_apart c.put_in.result entry es (flat c.put_in.new.blocks.items) c.put_in.ensures.ok c.put_in.ensures.err none c.self.invariant.1,
+      c.put_in.ensures.filled,
     )
 
 pub returns-clause-ok : goal.returns-clause-ok
 returns-clause-ok c =
-    let es = c.self.inside.entries.items in
-    let new = c.in_ok-entry.entry in
-    let text = c.args.key.now.text in
+    let es = flat c.self.inside.blocks.items in
+    let entry = c.in_ok-entry.entry in
     let is = rw c.as_str.ensures.text at c.in_ok-entry.ensures in
-    let none = has_not c.args.id es (rw (← c.self.view_is) at c.requires) in
-    let there = rw c.deref.ensures.value at c.in-Err.ensures in
-    rw (c.in_ok-insert-in-Err.ensures.items, ← c.self.view_is) (placed_seen new text c.args.id es c.in-Err.at is none there.0)
+    let none = none_of entry c.args.id c.args.key.now.text es is (has_not c.args.id es (rw (← c.self.view_is) at c.requires)) in
+    rw (← c.self.view_is) (put_seen c.put_in.result entry (record { id = c.args.id; text = c.args.key.now.text }) es (flat c.put_in.new.blocks.items) is c.put_in.ensures.ok none)
+
+pub returns-clause-err : goal.returns-clause-err
+returns-clause-err c = rw (← c.self.view_is) (put_same c.put_in.result (flat c.self.inside.blocks.items) (flat c.put_in.new.blocks.items) c.put_in.ensures.err)

@@ -1,11 +1,12 @@
 use Rattle.std.proofs.Common.{◌∙◌, arith}
+use Rattle.zs_tree.specs.Blocks.{flat}
 use Rattle.zs_tree.specs.Entries.{hit_ids}
 use Rattle.zs_tree.proofs.MatchLemmas.{turned, matches_of_sorted}
 use Rattle.zs_tree.proofs.tree.KeyTree.matches_into.Goals as goal
 
 pub returns-clause-ok : goal.returns-clause-ok
 returns-clause-ok c =
-    let es = c.self.inside.entries.items in
+    let es = flat c.self.inside.blocks.items in
     let text = c.args.key.now.text in
     let pushed = rw (c.deref.ensures.value, c.as_str.ensures.text) at c.in_default.ensures.ok in
     let ids = c.truncate-2.ensures.items ∙ rw c.rotate_left.ensures.items (turned c.args.into.now.items (hit_ids text es) c.push_hits.new.into.items c.len-held.result c.len.result pushed

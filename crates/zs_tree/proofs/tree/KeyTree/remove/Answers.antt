@@ -1,36 +1,20 @@
-use Rattle.std.proofs.Common.{sym, ◌∙◌}
-use Rattle.zs_tree.specs.Rows.{is_row}
-use Rattle.zs_tree.proofs.Numbers.{any_number}
-use Rattle.zs_tree.proofs.EditLemmas.{removes_none, found_at, seen_remove, order_remove, apart_remove}
+use Rattle.zs_tree.specs.Code.{code_of}
+use Rattle.zs_tree.specs.Blocks.{flat}
+use Rattle.zs_tree.proofs.Putting.{taken_order, taken_apart, taken_answer, taken_seen}
 use Rattle.zs_tree.proofs.tree.KeyTree.remove.Goals as goal
-
-pub returns-in_default-clause-answer : goal.returns-in_default-clause-answer
-returns-in_default-clause-answer c =
-    let there = rw (c.deref.ensures.value, c.as_str.ensures.text) at c.in_default.ensures in
-    rw (← c.self.view_is) (sym (removes_none c.args.key.now.text c.args.id c.self.inside.entries.items c.in_default.field-0 there).0)
-
-pub returns-in_default-clause-rows : goal.returns-in_default-clause-rows
-returns-in_default-clause-rows c =
-    let there = rw (c.deref.ensures.value, c.as_str.ensures.text) at c.in_default.ensures in
-    rw (← c.self.view_is) (sym (removes_none c.args.key.now.text c.args.id c.self.inside.entries.items c.in_default.field-0 there).1)
 
 pub invariant_of-self : goal.invariant_of-self
 invariant_of-self c =
-    let es = c.self.inside.entries.items in
-    rw c.remove.ensures.items (order_remove es c.in-Ok.at c.self.invariant.0, apart_remove es c.in-Ok.at c.self.invariant.1)
+    let es = flat c.self.inside.blocks.items in (
+      taken_order (code_of c.as_str.result.now) c.args.id es (flat c.take_out.new.blocks.items) c.take_out.result c.take_out.ensures.entries c.self.invariant.0,
+      taken_apart (code_of c.as_str.result.now) c.args.id es (flat c.take_out.new.blocks.items) c.take_out.result c.take_out.ensures.entries c.self.invariant.1,
+      c.take_out.ensures.filled,
+    )
 
 pub returns-clause-answer : goal.returns-clause-answer
 returns-clause-answer c =
-    let there = rw (c.deref.ensures.value, c.as_str.ensures.text) at c.in-Ok.ensures in
-    let es = c.self.inside.entries.items in
-    let text = c.args.key.now.text in
-    let d = c.remove.result in
-    rw (← c.self.view_is)
-    (sym (any_number (is_row c.args.id text) _ ∙ found_at text c.args.id es c.in-Ok.at d there.0 (there.1 d)))
+    rw (← c.self.view_is) (rw c.as_str.ensures.text at (taken_answer c.as_str.result.now c.args.id (flat c.self.inside.blocks.items) (flat c.take_out.new.blocks.items) c.take_out.result c.take_out.ensures.entries))
 
 pub returns-clause-rows : goal.returns-clause-rows
 returns-clause-rows c =
-    let there = rw (c.deref.ensures.value, c.as_str.ensures.text) at c.in-Ok.ensures in
-    let es = c.self.inside.entries.items in
-    let d = c.remove.result in
-    rw (c.remove.ensures.items, ← c.self.view_is) (seen_remove c.args.key.now.text c.args.id es c.in-Ok.at d c.self.invariant.1 there.0 (there.1 d))
+    rw (← c.self.view_is) (rw c.as_str.ensures.text at (taken_seen c.as_str.result.now c.args.id (flat c.self.inside.blocks.items) (flat c.take_out.new.blocks.items) c.take_out.result c.take_out.ensures.entries c.self.invariant.1))

@@ -1,0 +1,20 @@
+use Rattle.std.proofs.Common.{◌≡◌, List, [], Ok, sym, ap, ◌∙◌, subst, OnOk, OnErr}
+use Rattle.zs_tree.specs.declared.entry.Entry.{Entry}
+use Rattle.zs_tree.specs.Blocks.{flat, front, far, IsPutIn}
+use Rattle.zs_tree.specs.Code.{code_of}
+use Rattle.zs_tree.specs.Entries.{AreInOrder}
+use Rattle.zs_tree.proofs.EditLemmas.{HasNot, never_found}
+use Rattle.zs_tree.proofs.Placing.{place_is}
+use Rattle.zs_tree.proofs.edits.put_in.Goals as goal
+
+pub unreachable-requires : goal.unreachable-requires
+unreachable-requires c =
+    let bs = c.split_full.new.blocks.items in
+    let same = c.in_ok-split_full.ensures.same in
+    let bound = rw c.deref-2.ensures.value at c.block_of-at.ensures.bound in
+    let block = rw c.deref-2.ensures.value at c.block_of-at.ensures.block in
+    let there = rw c.deref-3.ensures.value at c.in-Ok.ensures in
+    let order : AreInOrder (flat bs) = subst AreInOrder (sym same) c.requires.order in
+    let none : HasNot c.args.entry.id (flat bs) = subst (HasNot c.args.entry.id) (sym same) c.requires.unused in
+    let found = place_is (code_of c.args.text.now) c.args.entry.id c.block_of-at.result [] bs (Ok c.in-Ok.field-0) bound order c.in_ok-split_full.ensures.filled block (there []) in
+    never_found (code_of c.args.text.now) c.args.entry.id (flat bs) (far (front c.block_of-at.result bs) c.in-Ok.field-0) c.args.entry none found.0 (found.1 c.args.entry)
