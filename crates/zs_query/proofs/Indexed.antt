@@ -3,21 +3,21 @@ use Rattle.std.proofs.Common.{◌≡◌, ℕ, ◌≤◌, Bool, false, true, List
 use Rattle.std.specs.Prelude.{◌==◌, nat_le, not, filter, map, is_some, option_map, MatchOption, if◌then◌else◌}
 use Rattle.std.specs.List.{AllByRecursion}
 use Rattle.zs_rows.specs.Ascending.{Ascend, placed}
-use Rattle.zs_rows.specs.Rows.{row_at, without_row, with_row, placed_row, Updates, AreNumbered, rows_of, numbers_of, first_of, EndsOne}
-use Rattle.zs_rows.specs.Index.{is_marked, is_marked_up_to, Forgets}
+use Rattle.zs_rows.specs.Rows.{row_at, without_row, with_row, placed_row, Updates, AreNumbered, rows_of, numbers_of, first_of, row_named, EndsOne}
+use Rattle.zs_rows.specs.Index.{is_marked, is_marked_up_to, under, Forgets, IsIndexOf}
 use Rattle.zs_rows.specs.Numbers.{is_in}
 use Rattle.zs_rows.specs.declared.mark.Mark.{Mark}
 use Rattle.zs_rows.proofs.Ending.{number_found, ascend_with, all_found, rows_changed, row_rewritten, due_ends, under_ends}
 use Rattle.zs_rows.proofs.Finding.{rewritten}
 use Rattle.zs_rows.proofs.Indexing.{index_none, index_more, index_less, index_kept, index_same, index_as, index_free, undone}
 use Rattle.zs_rows.proofs.Numbered.{row_of_number, rows_filtered, numbers_filtered, rows_placed, rows_without, rows_ascend, numbered_without, numbered_placed, numbered_with}
-use Rattle.zs_rows.proofs.Listing.{due_numbers}
+use Rattle.zs_rows.proofs.Listing.{due_numbers, next_named}
 use Rattle.zs_rows.proofs.Ascending.{all_filter}
 use Rattle.zs_query.specs.declared.open_get.OpenGet.{OpenGet}
 use Rattle.zs_query.specs.declared.get_marks.GetKeys.{GetKeys}
 use Rattle.zs_query.specs.declared.get_marks.GetMarks.{GetMarks}
 use Rattle.zs_query.specs.Gets.{get_at, without_get, with_get, is_behind, is_due, names, first_row, end_of, end_at, ends_from, ends_at}
-use Rattle.zs_query.specs.GetRows.{deadline_of, token_of, querier_of, keys_of, NotesAll, ForgetsAll, AreSame, IsFree, AreIndexed}
+use Rattle.zs_query.specs.GetRows.{deadline_of, token_of, querier_of, keys_of, NotesAll, ForgetsAll, AreSame, IsFree, AreIndexed, row_of_get}
 
 abbrev number_of : OpenGet → ℕ
 number_of g = g.row.number
@@ -199,3 +199,14 @@ pub next_row : (after : Option ℕ) (rows : List (ℕ × OpenGet)) (marks : GetM
 next_row after rows marks gets is same r found =
     first_is r (filter (λ (e : ℕ × OpenGet). is_behind after e.0) rows) found
     ∙ (ap first_row (gets_behind after rows marks is) ∙ ap (λ (gs : List OpenGet). first_row (filter (λ (g : OpenGet). is_behind after g.row.number) gs)) same)
+
+-- and the row that a walk over those of a token or of a querier comes to next
+row_is : (r : Option OpenGet) (gets : List OpenGet) → r ≡ first_of gets → row_of_get r ≡ first_row gets
+row_is r [] is = ap row_of_get is
+row_is r (g ∷ gets) is = ap row_of_get is
+
+pub next_of_key : (key_of : OpenGet → Option ℕ) (key : ℕ) (after : Option ℕ) (rows : List (ℕ × OpenGet)) (keys : List Mark) (gets : List OpenGet) (n : Option ℕ) → AreNumbered number_of rows → Ascend (λ (e : ℕ × OpenGet). e.0) rows → IsIndexOf key_of rows keys → Ascend (λ m. m) (under key keys) → rows_of rows ≡ gets → n ≡ first_of (filter (λ m. is_behind after m) (under key keys)) → row_of_get (row_named n rows) ≡ first_row (filter (λ (g : OpenGet). is_behind after g.row.number) (filter (λ (g : OpenGet). names key (key_of g)) gets))
+next_of_key key_of key after rows keys gets n are up is rise same found =
+    row_is (row_named n rows) (filter (λ (g : OpenGet). is_behind after g.row.number) (filter (λ (g : OpenGet). names key (key_of g)) (rows_of rows)))
+    (ap (λ (o : Option ℕ). row_named o rows) found ∙ next_named number_of key_of key after rows keys are up is rise)
+    ∙ ap (λ (gs : List OpenGet). first_row (filter (λ (g : OpenGet). is_behind after g.row.number) (filter (λ (g : OpenGet). names key (key_of g)) gs))) same

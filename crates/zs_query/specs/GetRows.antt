@@ -1,5 +1,5 @@
 -- The open gets with the indexes that find them by their deadline, their token and their querier.
-use Rattle.std.specs.Prelude.{◌≡◌, ℕ, false, List, Option, Some}
+use Rattle.std.specs.Prelude.{◌≡◌, ℕ, false, List, Option, Some, None}
 use Rattle.zs_rows.specs.Ascending.{Ascend}
 use Rattle.zs_rows.specs.Index.{is_marked, Notes, Forgets, IsSame, IsIndexOf}
 use Rattle.zs_rows.specs.Rows.{AreNumbered}
@@ -52,3 +52,8 @@ pub record AreIndexed (rows : List (ℕ × OpenGet)) (marks : GetMarks) : Type 0
   pub deadlines : IsIndexOf deadline_of rows marks.deadlines
   pub tokens : IsIndexOf token_of rows marks.tokens
   pub queriers : IsIndexOf querier_of rows marks.queriers
+
+-- the row of a get, if there is one
+abbrev pub row_of_get : Option OpenGet → Option GetRow
+row_of_get None = None
+row_of_get (Some g) = Some g.row

@@ -3,7 +3,8 @@
 ghost use Rattle.std.specs.Prelude.{◌≡◌, ◌==◌, [], ◌∷◌, false, not, filter, map, nat_le, is_some, IsOk, IfOk, OnOk, OnErr};
 ghost use Rattle.std.specs.Option.{option_copied};
 ghost use Rattle.zs_rows.specs.Ascending.{Ascend, placed};
-ghost use Rattle.zs_rows.specs.Rows.{EndsOne, is_behind, numbers_of};
+ghost use Rattle.zs_rows.specs.Rows.{EndsOne, is_behind, numbers_of, row_named};
+ghost use Rattle.zs_query.specs.GetRows.{row_of_get};
 ghost use Rattle.zs_query.specs.Gets.{get_at, without_get, with_get, peek_at, named, replied, less_final, is_due, ends_at, first_row, names};
 
 use crate::ends::Ends;
@@ -162,6 +163,24 @@ impl GetRows {
         }
     }
 
+    /// The same of those gets that have the token.
+    pub(crate) fn next_of_token(&self, token: u32, after: Option<u32>) -> Option<&GetRow>
+        ensures next { option_copied result ≡ first_row (filter (λ g. is_behind after g.row.number) (filter (λ g. names token g.row.token) self.now)) }
+        ensures ascending { Ascend (λ g. g.row.number) self.now }
+    {
+        let number = self.marks.tokens.next_of(u64::from(token), after);
+        row_of(&self.rows, number)
+    }
+
+    /// The same of those gets that the querier asked.
+    pub(crate) fn next_of_querier(&self, id: u32, after: Option<u32>) -> Option<&GetRow>
+        ensures next { option_copied result ≡ first_row (filter (λ g. is_behind after g.row.number) (filter (λ g. names id g.row.querier) self.now)) }
+        ensures ascending { Ascend (λ g. g.row.number) self.now }
+    {
+        let number = self.marks.queriers.next_of(u64::from(id), after);
+        row_of(&self.rows, number)
+    }
+
     /// The numbers of the gets.
     pub(crate) fn numbers(&self, alloc: Global) -> Result<Vec<u32>, AllocError>
         ensures { IfOk result (λ numbers. numbers.items ≡ map (λ g. g.row.number) self.now) }
@@ -186,4 +205,12 @@ fn numbers_of(alloc: Global, rows: &Rows<OpenGet>) -> Result<Vec<u32>, AllocErro
         numbers.push(*number)?;
     }
     Ok(numbers)
+}
+
+/// The row of the get of that number, if there is one.
+fn row_of(rows: &Rows<OpenGet>, number: Option<u32>) -> Option<&GetRow>
+    ensures { option_copied result ≡ row_of_get (row_named number rows.now) }
+{
+    let get = rows.find(number?)?;
+    Some(&get.row)
 }

@@ -218,6 +218,24 @@ impl Gets {
         self.gets.next_behind(after)
     }
 
+    /// The row of the open get that has the cancellation token, with the least number above that one, or with the least
+    /// of all. It looks at no other gets.
+    pub fn next_of_token(&self, token: u32, after: Option<u32>) -> Option<&GetRow>
+        ensures next { option_copied result ≡ first_row (filter (λ g. is_behind after g.row.number) (filter (λ g. names token g.row.token) self.now)) }
+        ensures ascending { Ascend (λ g. g.row.number) self.now }
+    {
+        self.gets.next_of_token(token, after)
+    }
+
+    /// The row of the open get that the querier asked, with the least number above that one, or with the least of all.
+    /// It looks at no other gets.
+    pub fn next_of_querier(&self, id: u32, after: Option<u32>) -> Option<&GetRow>
+        ensures next { option_copied result ≡ first_row (filter (λ g. is_behind after g.row.number) (filter (λ g. names id g.row.querier) self.now)) }
+        ensures ascending { Ascend (λ g. g.row.number) self.now }
+    {
+        self.gets.next_of_querier(id, after)
+    }
+
     /// How many replies the end of a get by its finals would hand out, 0 where it isn't open.
     pub fn kept(&self, number: u32) -> usize
         ensures { result ≡ length (kept_at (get_at number self.now)) }

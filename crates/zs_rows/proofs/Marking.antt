@@ -13,6 +13,7 @@ use Rattle.std.proofs.lemmas.Map.Keys.{sorted_head, sorted_tail}
 use Rattle.std.proofs.lemmas.Bool.Decides.{nat_tests}
 use Rattle.std.proofs.lemmas.List.Elements.{recursion_from_All}
 use Rattle.zs_rows.specs.declared.mark.Mark.{Mark}
+use Rattle.zs_rows.specs.Ascending.{Ascend}
 use Rattle.zs_rows.specs.Numbers.{is_in}
 use Rattle.zs_rows.specs.Index.{is_mark, is_marked, is_marked_up_to, names, under, Notes, Forgets}
 use Rattle.zs_rows.specs.Rows.{first_of}
@@ -204,3 +205,32 @@ under_least key (x ∷ marks) sorted = go (under_least key marks (sorted_tail by
         first m true same marked = grind (arith, nat_tests, same)
         first m false apart marked = none_less key m x marks key_is above (sym (ap (λ b. (true && b) || is_marked key m marks) apart) ∙ marked)
     go more above false is = rw is more
+
+-- the numbers under a key ascend
+all_over : (key : ℕ) (x : Mark) (marks : List Mark) → x.key ≡ key → AllByRecursion (λ y. by_parts x y ≡ Less) marks → AllByRecursion (λ n. x.number < n) (under key marks)
+all_over key x [] same all = tt
+all_over key x (y ∷ marks) same all = go (y.key == key) refl (all_over key x marks same all.1)
+  where
+    go : (b : Bool) → (y.key == key) ≡ b → AllByRecursion (λ n. x.number < n) (under key marks) → AllByRecursion (λ n. x.number < n) (under key (y ∷ marks))
+    go true is more = rw is (grind (arith, nat_tests, same, is, all.0), more)
+    go false is more = rw is more
+
+pub under_ascends : (key : ℕ) (marks : List Mark) → IsStrictlySortedBy by_parts marks → Ascend (λ n. n) (under key marks)
+under_ascends key [] sorted = tt
+under_ascends key (x ∷ marks) sorted = go (x.key == key) refl (under_ascends key marks (sorted_tail by_parts x marks sorted))
+  where
+    key_is : (x.key == key) ≡ true → x.key ≡ key
+    key_is is = grind (arith, nat_tests, is)
+
+    go : (b : Bool) → (x.key == key) ≡ b → Ascend (λ n. n) (under key marks) → Ascend (λ n. n) (under key (x ∷ marks))
+    go true is more = rw is (all_over key x marks (key_is is) (sorted_head by_parts x marks sorted), more)
+    go false is more = rw is more
+
+-- a number is under a key where it has a mark there
+pub in_under : (key n : ℕ) (marks : List Mark) → is_in n (under key marks) ≡ is_marked key n marks
+in_under key n [] = refl
+in_under key n (x ∷ marks) = go (x.key == key) refl (in_under key n marks)
+  where
+    go : (b : Bool) → (x.key == key) ≡ b → is_in n (under key marks) ≡ is_marked key n marks → is_in n (under key (x ∷ marks)) ≡ is_marked key n (x ∷ marks)
+    go true is more = rw (is, more) refl
+    go false is more = rw (is, more) refl

@@ -63,3 +63,8 @@ is_between first end n = not (nat_lt n first) && nat_lt n end
 -- no row has one of these numbers
 abbrev pub AreFree : {X : Type 0} → ℕ → ℕ → List (ℕ × X) → Type 0
 AreFree first end rows = AllByRecursion (λ e. is_between first end e.0 ≡ false) rows
+
+-- the row of a number, if there is a number
+abbrev pub row_named : {X : Type 0} → Option ℕ → List (ℕ × X) → Option X
+row_named None rows = None
+row_named (Some n) rows = row_at n rows

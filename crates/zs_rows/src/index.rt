@@ -2,7 +2,8 @@ ghost use Rattle.std.specs.Prelude.{◌≡◌, ◌<◌, ◌≤◌, ◌||◌, nat
 ghost use Rattle.std.specs.List.{list_any};
 ghost use Rattle.zs_rows.specs.Index.{is_marked, is_marked_up_to, under, Notes, Forgets};
 ghost use Rattle.zs_rows.specs.Numbers.{is_in};
-ghost use Rattle.zs_rows.specs.Rows.{first_of};
+ghost use Rattle.zs_rows.specs.Ascending.{Ascend};
+ghost use Rattle.zs_rows.specs.Rows.{first_of, is_behind};
 
 use crate::mark::Mark;
 use crate::numbers::Numbers;
@@ -95,6 +96,18 @@ impl Index {
         {
             Some(mark) => number_if(mark, key),
             None => None,
+        }
+    }
+
+    /// The least number under the key that is above that one, or the least of all.
+    pub fn next_of(&self, key: u64, after: Option<u32>) -> Option<u32>
+        ensures next { result ≡ first_of (filter (λ n. is_behind after n) (under key self.now)) }
+        ensures ascending { Ascend (λ n. n) (under key self.now) }
+    {
+        let _in_order = self.marks.len();
+        match after {
+            Some(after) => self.next_under(key, after),
+            None => self.first_under(key),
         }
     }
 
