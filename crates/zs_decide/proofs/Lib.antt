@@ -1,5 +1,4 @@
 pub mod Answered
 pub mod Asking
 pub mod Ended
-pub mod Listening
 pub mod Replies

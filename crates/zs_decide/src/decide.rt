@@ -5,46 +5,32 @@ ghost use Rattle.zs_world.specs.Turns.{decision_of, decision, open_decision, clo
 ghost use Rattle.zs_model.specs.Exchanges.{is_exchange};
 
 use answers::{decide_error_to, decide_reply_to};
-use backgrounds::{decide_background_queryable, decide_background_sub};
 use cancelling::{decide_cancel, decide_cancel_token};
-use declared_keys::{decide_key, decide_undeclare_key};
 use gets::{decide_get, decide_querier_get, decide_tick};
 use liveliness::{
     decide_background_lsub, decide_liveliness_get, decide_lsub, decide_token,
     decide_undeclare_lsub, decide_undeclare_token,
 };
-use matching::{
-    decide_background_listener, decide_listen, decide_status, decide_undeclare_listener,
-};
 use messages::decide_message;
-use publications::decide_publish;
-use publishers::{decide_pub, decide_published, decide_undeclare_pub};
-use queriers::{decide_querier, decide_undeclare_querier};
-use queryables::{decide_queryable, decide_undeclare_queryable};
 use std::alloc::{AllocError, Global};
-use subscribers::{decide_close, decide_sub, decide_undeclare_sub};
 use values::{decide_finish, decide_share};
+use zs_announcing::{
+    decide_background_listener, decide_background_queryable, decide_background_sub, decide_close,
+    decide_key, decide_listen, decide_pub, decide_publish, decide_published, decide_querier,
+    decide_queryable, decide_status, decide_sub, decide_undeclare_key, decide_undeclare_listener,
+    decide_undeclare_pub, decide_undeclare_querier, decide_undeclare_queryable,
+    decide_undeclare_sub,
+};
 use zs_events::{BackgroundKind, EntityKind, Event, Refusal};
 use zs_world::{Change, Decision, SessionTables};
 
 mod answers;
-mod backgrounds;
 mod cancelling;
-mod declared_keys;
 mod gets;
-mod groups;
-mod keys;
 mod liveliness;
-mod matching;
 mod messages;
-mod publications;
-mod publishers;
-mod queriers;
-mod queryables;
-mod subscribers;
 mod tokens;
 mod values;
-mod wires;
 
 /// What a session makes of an event: its turn and its change, without what that means to listeners.
 pub fn decide_alone(world: &SessionTables, event: &Event) -> Result<Decision, AllocError>

@@ -13,9 +13,8 @@ ghost use Rattle.zs_world.specs.Keys.{key_of};
 ghost use Rattle.zs_model.specs.Questions.{sent_value};
 ghost use Rattle.zs_events.specs.Updates.{body_of};
 
-use super::keys::resolve;
-use super::wires::{declared_by, wire_form};
 use std::alloc::{AllocError, Global};
+use zs_announcing::{declared_by, resolve, wire_form};
 use zs_events::{Effects, KeyArg, Refusal, ReplyQuality, Update};
 use zs_keys::KeyExpr;
 use zs_making::answers::{error_effects, is_refused_on, quality_of, response_by};

@@ -9,9 +9,8 @@ ghost use Rattle.zs_model.specs.LivelinessEffects.{history_hands};
 ghost use Rattle.zs_events.specs.declared.turn.Effect.{Effect};
 
 use super::cancelling::{is_drawn, was_cancelled};
-use super::keys::resolve;
-use super::wires::{declared_by, wire_form};
 use std::alloc::AllocError;
+use zs_announcing::{declared_by, resolve, wire_form};
 use zs_events::{BackgroundKind, Effect, Effects, EntityKind, Event, KeyArg, Kind, Refusal};
 use zs_keys::KeyExpr;
 use zs_making::liveliness::{hand_keys, lsub_mode};

@@ -4,14 +4,13 @@ ghost use Rattle.std.specs.Prelude.{◌≡◌, IfOk};
 ghost use Rattle.zs_world.specs.Turns.{open_decision};
 
 use super::gets::{decide_response, decide_response_final};
-use super::keys::resolve_wire;
-use super::matching::{
-    decide_ended_queryable, decide_ended_sub, decide_told_queryable, decide_told_sub,
-};
-use super::publications::decide_incoming;
 use super::tokens::{decide_answered, decide_ended_token, decide_told_token};
 use super::values::decide_request;
 use std::alloc::AllocError;
+use zs_announcing::{
+    decide_ended_queryable, decide_ended_sub, decide_incoming, decide_told_queryable,
+    decide_told_sub, resolve_wire,
+};
 use zs_events::{Event, Refusal};
 use zs_making::content::incoming_content;
 use zs_model::into_owned;

@@ -7,8 +7,8 @@ ghost use Rattle.zs_world.specs.Turns.{watch_at, open_decision, decision_of, tol
 ghost use Rattle.zs_model.specs.Tokens.{answers};
 ghost use Rattle.zs_model.specs.LivelinessEffects.{token_sample, end_asking, token_hands, told_hands};
 
-use super::keys::resolve_wire;
 use std::alloc::AllocError;
+use zs_announcing::resolve_wire;
 use zs_events::{Effects, Event, Refusal, Shared};
 use zs_keys::KeyExpr;
 use zs_making::keys::is_blank;

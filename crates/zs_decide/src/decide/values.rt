@@ -10,8 +10,8 @@ ghost use Rattle.zs_model.specs.Values.{wants_complete, met_by_request, network_
 ghost use Rattle.zs_model.specs.ValueEffects.{requested_effects, finish_effects};
 ghost use Rattle.zs_query.specs.declared.requests.Finished.{Finished};
 
-use super::keys::resolve_wire;
 use std::alloc::AllocError;
+use zs_announcing::resolve_wire;
 use zs_events::{Effects, Event, Refusal, Shared};
 use zs_keys::KeyExpr;
 use zs_making::get_effects::final_effects;
