@@ -1,6 +1,6 @@
 -- Each subscriber and queryable that a session declared to the network is readable for a receiver of what was sent before it.
-use Rattle.std.proofs.Common.{◌≡◌, ◌⊎◌, inl, inr, ℕ, List, [], ◌∷◌, Bool, true, false, Option, Some, None, refl, sym, ◌∙◌, ap, subst}
-use Rattle.std.specs.Prelude.{IsUtf8, filter, option_map, unwrap_or, cond, find}
+use Rattle.std.proofs.Common.{◌≡◌, inl, inr, ℕ, List, [], ◌∷◌, Bool, true, false, Option, Some, None, sym, subst}
+use Rattle.std.specs.Prelude.{filter, option_map, unwrap_or, cond, find}
 use Rattle.std.specs.Option.{IfSome}
 use Rattle.std.specs.List.{AllByRecursion}
 use Rattle.zs_keys.specs.Key.{Key}
@@ -8,11 +8,10 @@ use Rattle.zs_keys.specs.Text.{is_canonical}
 use Rattle.zs_keys.specs.Matching.{includes}
 use Rattle.zs_wire.specs.declared.message.Message.{Message}
 use Rattle.zs_wire.specs.declared.message.Message.TheVariants.{DeclareSubscriber, DeclareQueryable, Interest}
-use Rattle.zs_wire.specs.declared.wire_expr.WireExpr.{WireExpr}
 use Rattle.zs_events.specs.declared.event.Event.{Event}
 use Rattle.zs_core.specs.Types.{Settings}
 use Rattle.zs_core.specs.Entry.{is_closed}
-use Rattle.zs_core.specs.Groups.{aggregate_of, share_text}
+use Rattle.zs_core.specs.Groups.{share_text}
 use Rattle.zs_core.specs.Causes.{refusal_of}
 use Rattle.zs_core.specs.Past.{entry_of, past_of}
 use Rattle.zs_core.specs.Effects.{effects_behind, effects}
@@ -21,7 +20,7 @@ use Rattle.zs_core.specs.Laws.{WireFormsAreRead}
 use Rattle.zs_laws.specs.Origins.{IsTested, HasOrigin, MessagesHaveOrigins}
 use Rattle.zs_delivery.specs.Linked.{is_event}
 use Rattle.zs_delivery.specs.Told.{AreCanonical}
-use Rattle.zs_delivery.proofs.Known.{IsReadable, readable_still}
+use Rattle.zs_delivery.proofs.Known.{readable_still}
 use Rattle.zs_delivery.proofs.Made.{readable_by, utf8_before, utf8_or_silent}
 use Rattle.zs_delivery.proofs.Telling.{IsDeclared, AreDeclared}
 

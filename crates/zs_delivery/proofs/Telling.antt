@@ -1,6 +1,6 @@
 -- What an open session was told of its network's subscribers and queryables, from what came in.
-use Rattle.std.proofs.Common.{◌≡◌, ℕ, List, [], ◌∷◌, ◌++◌, Bool, true, false, Option, Some, None, refl, sym, ◌∙◌, ap, subst, cond}
-use Rattle.std.specs.Prelude.{◌==◌, ◌||◌, not, option_map, filter, if◌then◌else◌}
+use Rattle.std.proofs.Common.{◌≡◌, ℕ, List, [], ◌∷◌, Bool, true, false, Option, Some, None, refl, sym, ◌∙◌, ap, subst, cond}
+use Rattle.std.specs.Prelude.{◌==◌, ◌||◌, not, option_map, filter}
 use Rattle.std.specs.List.{list_any}
 use Rattle.std.proofs.lemmas.Bool.{eqb-true}
 use Rattle.zs_keys.specs.Key.{undeclared}
@@ -13,7 +13,6 @@ use Rattle.zs_tables.specs.declared.told_row.ToldQueryable.{ToldQueryable}
 use Rattle.zs_events.specs.declared.event.Event.{Event}
 use Rattle.zs_events.specs.declared.event.Event.TheVariants.{Net}
 use Rattle.zs_events.specs.declared.turn.Refusal.{Refusal}
-use Rattle.zs_events.specs.declared.turn.Refusal.TheVariants.{Ignored}
 use Rattle.zs_events.specs.Kinds.{ToMatching, TellsSub, TellsQueryable, Row, row_of}
 use Rattle.zs_core.specs.Types.{Settings}
 use Rattle.zs_core.specs.Entry.{Entry, is_closed}
@@ -22,13 +21,11 @@ use Rattle.zs_core.specs.Live.{appended}
 use Rattle.zs_core.specs.Matching.{told_sub_row, renews_sub, told_queryable_row, renews_queryable, told_subs, told_queryables}
 use Rattle.zs_core.specs.Causes.{holds, in_order, first_that, refusal_of}
 use Rattle.zs_core.specs.Past.{entry_of, with_entry, past_with, past_of}
-use Rattle.zs_core.specs.Received.{read_as}
-use Rattle.zs_core.specs.Seen.{Sight}
 use Rattle.zs_delivery.specs.Links.{given}
 use Rattle.zs_delivery.specs.Told.{declared_sub, declared_queryable, WasTold}
 use Rattle.zs_delivery.proofs.Accepting.{sight_of, first_cause}
 use Rattle.zs_delivery.proofs.Known.{IsReadable, AreSound, Knows, wire_known, known_after, open_before}
-use Rattle.zs_delivery.proofs.Renewed.{under, without, under_without, under_renewed, all_kept, none_under}
+use Rattle.zs_delivery.proofs.Renewed.{under, under_without, under_renewed, all_kept, none_under}
 
 -- the declarations among messages are readable for whoever was given those before them
 abbrev pub IsDeclared : List Message → Message → Type 0

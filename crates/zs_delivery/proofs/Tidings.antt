@@ -3,7 +3,7 @@ use Rattle.std.proofs.Common.{◌≡◌, ℕ, List, [], ◌∷◌, Option, refl,
 use Rattle.std.specs.Prelude.{◌==◌, option_map, filter, None}
 use Rattle.zs_keys.specs.Key.{undeclared}
 use Rattle.zs_wire.specs.declared.message.Message.{Message}
-use Rattle.zs_wire.specs.declared.message.Message.TheVariants.{DeclareSubscriber, UndeclareSubscriber, DeclareQueryable, UndeclareQueryable, Interest}
+use Rattle.zs_wire.specs.declared.message.Message.TheVariants.{DeclareSubscriber, UndeclareSubscriber, DeclareQueryable, UndeclareQueryable}
 use Rattle.zs_tables.specs.declared.told_row.ToldSub.{ToldSub}
 use Rattle.zs_tables.specs.declared.told_row.ToldQueryable.{ToldQueryable}
 use Rattle.zs_core.specs.Types.{Settings}

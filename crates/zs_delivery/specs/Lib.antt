@@ -2,3 +2,4 @@ pub mod Linked
 pub mod Links
 pub mod Delivery
 pub mod Told
+pub mod Tokens

@@ -1,5 +1,5 @@
 -- What each of two linked sessions was told of the other: its subscribers and its queryables.
-use Rattle.std.specs.Prelude.{◌≡◌, ℕ, true, false, ◌==◌, List, [], ◌∷◌, Option, Some, None, option_map, find, if◌then◌else◌}
+use Rattle.std.specs.Prelude.{◌≡◌, ℕ, true, false, ◌==◌, List, [], ◌∷◌, Option, None, option_map, find, if◌then◌else◌}
 use Rattle.std.specs.List.{AllByRecursion}
 use Rattle.zs_keys.specs.Key.{undeclared}
 use Rattle.zs_keys.specs.Text.{is_canonical}

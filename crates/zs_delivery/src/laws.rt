@@ -3,6 +3,7 @@
 ghost use Rattle.zs_delivery.specs.Links.{LinksAreInOrder};
 ghost use Rattle.zs_delivery.specs.Delivery.{DeliveredAreHanded};
 ghost use Rattle.zs_delivery.specs.Told.{ToldAreDeclared};
+ghost use Rattle.zs_delivery.specs.Tokens.{ToldTokensAreDeclared};
 
 use zs_laws::{
     messages_have_origins, sent_keys_are_spelled, spelled_texts_are_utf8, wire_forms_are_read,
@@ -32,6 +33,18 @@ pub fn delivered_are_handed()
 /// the key that it means.
 pub fn told_are_declared()
     ensures { ToldAreDeclared }
+{
+    wire_forms_are_read();
+    messages_have_origins();
+    spelled_texts_are_utf8();
+    sent_keys_are_spelled();
+}
+
+/// And it was told of exactly those liveliness tokens that the side declared to the network and did not end, each once, in
+/// ascending order of their numbers: those that the side's accepted events declared and no later one ended. No token is told as
+/// the answer to an interest, since a session answers none.
+pub fn told_tokens_are_declared()
+    ensures { ToldTokensAreDeclared }
 {
     wire_forms_are_read();
     messages_have_origins();

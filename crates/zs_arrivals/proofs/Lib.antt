@@ -1,0 +1,4 @@
+mod Mute
+mod Following
+mod Reading
+mod Arriving
