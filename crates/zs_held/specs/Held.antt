@@ -1,5 +1,5 @@
 -- A session with its three books.
-use Rattle.std.specs.Prelude.{◌≡◌, ℕ, ◌+◌, ◌≤◌, Bool, true, length, drop}
+use Rattle.std.specs.Prelude.{◌≡◌, ℕ, ◌+◌, ◌≤◌, Bool, true, length, drop, None}
 use Rattle.zs_events.specs.declared.event.Event.{Event}
 use Rattle.zs_events.specs.declared.turn.Turn.{Turn}
 use Rattle.zs_core.specs.Types.{Settings}
@@ -31,7 +31,7 @@ module _ {H : Type 0} where
 
 -- the receipt for an event, given how many entries the journal had and how many events the caller had counted
 abbrev pub receipt_of : Event → Bool → Turn → ℕ → ℕ → ReceiptSeen
-receipt_of event came turn entries count = record { place = entries + 1; count = count + 1; event = event; came = came; turn = turn }
+receipt_of event came turn entries count = record { place = entries + 1; count = count + 1; event = event; came = came; turn = turn; asked = None }
 
 -- the books with one event more
 abbrev pub counted : Turn → AccountsSeen → AccountsSeen

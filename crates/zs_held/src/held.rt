@@ -12,8 +12,10 @@ ghost use Rattle.zs_exchange.specs.Ends.{IsIdle, GivesOut, AreOf};
 ghost use Rattle.zs_session_cell.specs.Journals.{Advances, Follows, IsOverdrawn, closed_in, taken_in, handler_back};
 ghost use Rattle.zs_books.specs.Callers.{all_parts, new_caller};
 ghost use Rattle.zs_held.specs.Messages.{turn_messages};
+ghost use Rattle.zs_held.specs.Receipts.{asked_of};
 ghost use Rattle.zs_held.specs.Held.{held_with, receipt_of, entered, counted, drained_by};
 
+use crate::asked::Asked;
 use crate::entries::Entries;
 use crate::messages::{count_messages, count_of};
 pub use receipt::Receipt;
@@ -67,7 +69,7 @@ fn enter<H: Drop, B: Books>(
 ) -> Receipt<B>
     requires { accounts.old.entries + 1 ≡ length cell.now.journal }
     ensures accounts { accounts.new ≡ record accounts.old { entries = accounts.old.entries + 1; sent = accounts.old.sent + length (turn_messages turn) } }
-    ensures receipt { result ≡ record { place = length cell.now.journal; count = caller.old.count + 1; event = event; came = came; turn = turn } }
+    ensures receipt { result ≡ record { place = length cell.now.journal; count = caller.old.count + 1; event = event; came = came; turn = turn; asked = None } }
     ensures caller { caller.new ≡ entered turn caller.old }
 {
     accounts.add_entry(caller, count_messages(turn.get()));
@@ -78,6 +80,7 @@ fn enter<H: Drop, B: Books>(
         event,
         came,
         turn,
+        asked: None,
         of: PhantomData,
     }
 }
@@ -113,7 +116,7 @@ fn receive<H: Drop, B: Books, D: Drop>(
     requires entries { accounts.old.entries + 1 ≡ length cell.now.journal }
     requires spare { handing.old.spare ≡ Some handing.old.turn }
     ensures accounts { accounts.new ≡ counted handing.old.turn accounts.old }
-    ensures receipt { result ≡ record { place = length cell.now.journal; count = caller.old.count + 1; event = event; came = came; turn = handing.old.turn } }
+    ensures receipt { result ≡ record { place = length cell.now.journal; count = caller.old.count + 1; event = event; came = came; turn = handing.old.turn; asked = None } }
     ensures caller { caller.new ≡ entered handing.old.turn caller.old }
     ensures handing { handing.new ≡ record handing.old { spare = None } }
 {
@@ -364,6 +367,19 @@ impl<H: Drop, B: Books> Held<H, B> {
         ensures posts { self.new ≡ held_with (taken_out key self.old.session.exchange.posts) self.old }
     {
         self.cell.drain_of(key)
+    }
+
+    /// The same, with a receipt, which tells of it from then on.
+    pub fn drain_for(&mut self, key: Key, receipt: &mut Receipt<B>) -> Option<Closing<H>>
+        ensures some { IfSome result (λ closing. AreOf (held_at key self.old.session.exchange.posts) (option_map arc_value closing.handler) closing.draining.gate) }
+        ensures none { (result ≡ None) ↔ (held_at key self.old.session.exchange.posts ≡ None) }
+        ensures posts { self.new ≡ held_with (taken_out key self.old.session.exchange.posts) self.old }
+        ensures receipt { receipt.new ≡ record receipt.old { asked = asked_of (Some key) (is_some result) } }
+    {
+        let closing = self.drain_of(key);
+        let held = closing.is_some();
+        receipt.asked = Some(Asked { key, held });
+        closing
     }
 
     /// Whether the gate of a key is held: from the event that opens it until it is given out.

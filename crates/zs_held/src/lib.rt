@@ -1,10 +1,12 @@
 //! A session's cell with the books of its three ledgers, and the receipts that it gives for the events that it takes.
 #![tactic(auto)]
 
+pub use asked::Asked;
 pub use entries::Entries;
 pub use held::{Held, Receipt};
 pub use law::numbers_are_told;
 
+mod asked;
 mod entries;
 mod held;
 mod law;

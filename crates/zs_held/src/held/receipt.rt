@@ -1,5 +1,6 @@
 ghost use Rattle.std.specs.Prelude.{◌≡◌};
 
+use crate::asked::Asked;
 use std::marker::{Model, PhantomData};
 use zs_books::Books;
 use zs_events::{Event, Turn};
@@ -13,6 +14,7 @@ pub struct Receipt<B: Books> {
     pub(super) event: Shared<Event>,
     pub(super) came: bool,
     pub(super) turn: Shared<Turn>,
+    pub(super) asked: Option<Asked>,
     pub(super) of: PhantomData<B>,
 }
 
@@ -21,7 +23,7 @@ impl<B: Books> Model for Receipt<B> {
 
     ghost Value = { ReceiptSeen };
 
-    ghost view = { λ r. record { place = r.place; count = r.count; event = r.event; came = r.came; turn = r.turn } };
+    ghost view = { λ r. record { place = r.place; count = r.count; event = r.event; came = r.came; turn = r.turn; asked = r.asked } };
 }
 
 impl<B: Books> Receipt<B> {
@@ -58,5 +60,12 @@ impl<B: Books> Receipt<B> {
         ensures { result.now ≡ self.now.turn }
     {
         self.turn.get()
+    }
+
+    /// The gate that the session was asked for as it took the event, if it was asked for one.
+    pub fn asked(&self) -> Option<Asked>
+        ensures { result ≡ self.now.asked }
+    {
+        self.asked
     }
 }
