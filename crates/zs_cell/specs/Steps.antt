@@ -1,13 +1,15 @@
 -- What a call that steps a session makes of its caller.
-use Rattle.std.specs.Prelude.{◌≡◌, ℕ, Bool, Option, Some, is_some}
+use Rattle.std.specs.Prelude.{◌≡◌, ℕ, Bool, Option, Some, is_some, option_and_then}
 use Rattle.zs_events.specs.declared.event.Event.{Event}
 use Rattle.zs_events.specs.declared.turn.Answer.{Answer}
 use Rattle.zs_events.specs.declared.turn.Answer.TheVariants.{Ok as accepted, Refused as refused}
 use Rattle.zs_events.specs.declared.turn.Turn.{Turn}
+use Rattle.zs_posts.specs.declared.key.Key.{Key}
 use Rattle.zs_books.specs.Callers.{CallerSeen}
+use Rattle.zs_held.specs.declared.asked.Asked.{Asked}
 use Rattle.zs_held.specs.Held.{entered, receipt_of}
 use Rattle.zs_held.specs.Numbers.{numbered_at}
-use Rattle.zs_held.specs.Receipts.{ReceiptSeen}
+use Rattle.zs_held.specs.Receipts.{ReceiptSeen, asked_of}
 use Rattle.zs_cell.specs.declared.error.SessionError.{SessionError}
 use Rattle.zs_cell.specs.declared.error.SessionError.TheVariants.{Refused, OtherSession, NoMemory}
 
@@ -15,7 +17,8 @@ use Rattle.zs_cell.specs.declared.error.SessionError.TheVariants.{Refused, Other
 -- messages of its turn, and has the receipt for it
 pub record Took (old : CallerSeen ReceiptSeen) (event : Event) (came : Bool) (turn : Turn) (new : CallerSeen ReceiptSeen) : Type 0 where
   pub entries : ℕ
-  pub caller_is : new ≡ record (entered turn old) { last = Some (receipt_of event came turn entries old.count) }
+  pub asked : Option Asked
+  pub caller_is : new ≡ record (entered turn old) { last = Some (record (receipt_of event came turn entries old.count) { asked = asked }) }
 
 -- the same, by what the event was answered
 pub record Steps (old : CallerSeen ReceiptSeen) (event : Event) (came : Bool) (answer : Answer) (new : CallerSeen ReceiptSeen) : Type 0 where
@@ -49,3 +52,12 @@ abbrev pub StopsOr : CallerSeen ReceiptSeen → CallerSeen ReceiptSeen → Event
 StopsOr old new event came (Refused refusal) = Steps old event came (refused refusal) new
 StopsOr old new event came NoMemory = new ≡ old
 StopsOr old new event came OtherSession = new ≡ old
+
+-- the last receipt says that the session was asked for the gate of that key, if there is one, and whether it still held it
+abbrev pub Asks : CallerSeen ReceiptSeen → Option Key → Bool → Type 0
+Asks caller key held = option_and_then (λ r. r.asked) caller.last ≡ asked_of key held
+
+-- it says so of the gate of that key, whether or not the session still held it
+pub record AsksFor (caller : CallerSeen ReceiptSeen) (key : Key) : Type 0 where
+  pub held : Bool
+  pub asks : Asks caller (Some key) held

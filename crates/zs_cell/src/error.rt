@@ -3,6 +3,7 @@
 use std::sync::Arc;
 use thiserror::Error;
 use zs_events::Refusal;
+use zs_keys::KeyExpr;
 
 /// Why a call did not do what it was asked.
 #[derive(Clone, Copy, Debug, PartialEq, Eq, Hash, Error)]
@@ -23,4 +24,11 @@ pub enum SessionError {
 pub struct NotSubmitted<H> {
     pub why: SessionError,
     pub handler: Option<Arc<H>>,
+}
+
+/// Why a key was not given back, with the key.
+#[derive(Drop)]
+pub struct KeyBack<'a> {
+    pub why: SessionError,
+    pub key: KeyExpr<'a>,
 }

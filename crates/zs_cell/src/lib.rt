@@ -3,20 +3,23 @@
 #![tactic(auto)]
 
 pub use clock::Clock;
-pub use error::{NotSubmitted, SessionError};
+pub use error::{KeyBack, NotSubmitted, SessionError};
+pub use key_args::key_arg;
 pub use session::Session;
 pub use token::SessionToken;
 pub use zs_books::{Books, EntryLedger, Three};
 pub use zs_gate::Drained;
 pub use zs_hands::{Closing, Ending, Handed, Ran};
-pub use zs_held::{Entries, Held, Receipt, numbers_are_told};
+pub use zs_held::{Asked, Entries, Held, Receipt, numbers_are_told};
 pub use zs_posts::Key;
 pub use zs_session_cell::{Entry, Handing, NoHandler, NotTaken, SessionCell};
 pub use zs_shared::Shared;
 pub use zs_turns::{Item, Query};
 
 mod clock;
+mod ending;
 mod error;
+mod key_args;
 mod session;
 mod taking;
 mod token;

@@ -1,12 +1,12 @@
 //! One event, taken into a session that is held.
-ghost use Rattle.std.specs.Prelude.{◌≡◌, None, Some, true, false, is_some, option_map, map, IfOk, IfErr, OnErr, if◌then◌else◌};
+ghost use Rattle.std.specs.Prelude.{◌≡◌, None, Some, true, false, not, is_some, option_map, map, IfOk, IfErr, OnErr, if◌then◌else◌};
 ghost use Rattle.std.specs.Arc.{arc_value};
 ghost use Rattle.zs_turns.specs.Gates.{takes_handler};
 ghost use Rattle.zs_events.specs.Turn.{was_refused};
 ghost use Rattle.zs_posts.specs.Calls.{call_seen, all_lents};
 ghost use Rattle.zs_hands.specs.Answers.{AreOfRoom};
-ghost use Rattle.zs_cell.specs.Steps.{Steps, IsNumbered};
-ghost use Rattle.zs_cell.specs.Works.{back_at};
+ghost use Rattle.zs_cell.specs.Steps.{Steps, Asks, IsNumbered};
+ghost use Rattle.zs_cell.specs.Works.{asked_at, back_at};
 
 use crate::work::Work;
 use std::sync::Arc;
@@ -41,18 +41,26 @@ fn not_now<H>(refused: NotTaken<H>) -> NotNow<H>
     NotNow { why, handler }
 }
 
-// Gives out the gate of a key, where the event was taken and accepted.
+// Gives out the gate of a key, where the event was taken and accepted, and says so in its receipt.
 fn drain_if<H: Drop, B: Books>(
     held: &mut Held<H, B>,
     accepted: bool,
     key: Option<Key>,
+    receipt: &mut Receipt<B>,
 ) -> Option<Closing<H>>
     ensures none { key ≡ None → result ≡ None }
     ensures refused { accepted ≡ false → result ≡ None }
+    ensures asked { receipt.new ≡ record receipt.old { asked = asked_at accepted key (is_some result) receipt.old.asked } }
     ensures room { held.new.session.exchange.posts.room ≡ held.old.session.exchange.posts.room }
 {
     match key {
-        Some(key) => { if accepted { held.drain_of(key) } else { None } }
+        Some(key) => {
+            if accepted {
+                held.drain_for(key, receipt)
+            } else {
+                None
+            }
+        }
         None => None,
     }
 }
@@ -63,16 +71,18 @@ fn work_of<H: Drop, D: Drop, B: Books>(
     held: &mut Held<H, B>,
     handing: Handing<H, D>,
     key: Option<Key>,
+    receipt: &mut Receipt<B>,
 ) -> Work<H, D>
     ensures answer { result.answer ≡ handing.turn.answer }
     ensures back { result.back ≡ handing.back }
     ensures lents { result.lents ≡ all_lents (map call_seen handing.calls) }
     ensures none { key ≡ None → result.waits ≡ false }
     ensures refused { was_refused handing.turn.answer ≡ true → result.waits ≡ false }
+    ensures asked { receipt.new ≡ record receipt.old { asked = asked_at (not (was_refused handing.turn.answer)) key result.waits receipt.old.asked } }
     ensures room { held.new.session.exchange.posts.room ≡ held.old.session.exchange.posts.room }
 {
     let accepted = !handing.turn().is_refused();
-    let closing = drain_if(held, accepted, key);
+    let closing = drain_if(held, accepted, key, receipt);
     Work::of(handing, closing)
 }
 
@@ -90,11 +100,12 @@ fn receive<H: Drop, D: Drop, B: Books>(
     ensures none { key ≡ None → result.waits ≡ false }
     ensures refused { was_refused given.0.turn.answer ≡ true → result.waits ≡ false }
     ensures room { held.new.session.exchange.posts.room ≡ held.old.session.exchange.posts.room }
-    ensures caller { caller.new ≡ record caller.old { last = Some given.1 } }
+    ensures caller { caller.new ≡ record caller.old { last = Some (record given.1 { asked = asked_at (not (was_refused given.0.turn.answer)) key result.waits given.1.asked }) } }
 {
-    let (handing, receipt) = given;
+    let (handing, mut receipt) = given;
+    let work = work_of(held, handing, key, &mut receipt);
     caller.keep(receipt);
-    work_of(held, handing, key)
+    work
 }
 
 /// Takes an event, with the receipt for the caller, and gives out the gate of a key, if the event is accepted.
@@ -113,6 +124,7 @@ pub(crate) fn take_held<H: Drop, D: Drop, B: Books>(
     ensures lents { IfOk result (λ work. AreOfRoom held.old.session.exchange.posts.room work.lents) }
     ensures none { key ≡ None → IfOk result (λ work. work.waits ≡ false) }
     ensures closing { IfOk result (λ work. was_refused work.answer ≡ true → work.waits ≡ false) }
+    ensures asked { IfOk result (λ work. was_refused work.answer ≡ false → Asks caller.new key work.waits) }
     ensures room { held.new.session.exchange.posts.room ≡ held.old.session.exchange.posts.room }
     ensures handler { IfErr result (λ refused. refused.handler ≡ handler) }
     ensures err { OnErr result (caller.new ≡ caller.old) }

@@ -1,7 +1,8 @@
 //! Cancellation tokens of a session.
 ghost use Rattle.std.specs.Prelude.{◌≡◌, None, false, IfErr, OnOk};
 ghost use Rattle.zs_events.specs.declared.event.Event.TheVariants.{Cancel};
-ghost use Rattle.zs_cell.specs.Steps.{Accepts, Stops};
+ghost use Rattle.zs_posts.specs.declared.key.Key.{Key};
+ghost use Rattle.zs_cell.specs.Steps.{Accepts, AsksFor, Stops};
 
 use crate::error::SessionError;
 use crate::session::Session;
@@ -67,16 +68,11 @@ impl<H: Handler<Item> + Drop, B: Books> SessionToken<H, B> {
     /// `Refused` where the event was taken and refused, else `NoMemory`.
     pub fn cancel<R: Wait>(&self, rt: &R, caller: &mut Caller<B>) -> Result<(), SessionError>
         ensures ok { OnOk result (Accepts caller.old caller.new (Cancel self.now.number) false None) }
+        ensures waits { OnOk result (AsksFor caller.new (Key.CancelToken self.now.number)) }
         ensures err { IfErr result (λ why. Stops caller.old caller.new (Cancel self.now.number) false why) }
     {
         let event = Event::Cancel { token: self.number };
-        let key = Some(Key::CancelToken(self.number));
-        match self.session.tell_and_drain(rt, event, key, caller) {
-            Ok(closing) => {
-                self.session.wait_for(rt, closing);
-                Ok(())
-            }
-            Err(why) => Err(why),
-        }
+        self.session
+            .tell_and_wait(rt, event, Key::CancelToken(self.number), caller)
     }
 }

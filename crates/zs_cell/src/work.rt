@@ -32,33 +32,34 @@ impl<H, D> Model for Work<H, D> {
     ghost view = { λ w. record { answer = w.handing.turn.answer; back = w.handing.back; lents = all_lents (map call_seen w.handing.calls); waits = is_some w.closing } };
 }
 
-/// Calls that were made, with the passes that go back. Contracts see the passes.
+/// Calls that were made, with the passes that go back. Contracts see the passes, and the queries that came back.
 pub(crate) struct Worked<D> {
     ran: Ran<Item, D>,
 }
 
 impl<D> Model for Worked<D> {
-    ghost use Rattle.std.specs.Prelude.{List};
-    ghost use Rattle.zs_posts.specs.Passes.{LentSeen};
-    ghost use Rattle.zs_hands.specs.Answers.{ran_lents};
+    ghost use Rattle.zs_hands.specs.Answers.{ran_lents, reports_of};
+    ghost use Rattle.zs_cell.specs.Works.{WorkedSeen, returned};
 
-    ghost Value = { List LentSeen };
+    ghost Value = { WorkedSeen };
 
-    ghost view = { λ w. ran_lents w.ran.ran.items };
+    ghost view = { λ w. record { lents = ran_lents w.ran.ran.items; queries = returned (reports_of w.ran.ran.items) } };
 }
 
-/// What became of each item. Contracts see how many there are.
+/// What became of each item. Contracts see the queries that came back.
 #[derive(Drop)]
 pub(crate) struct Reports<D> {
     items: Vec<Handed<Item, D>>,
 }
 
 impl<D> Model for Reports<D> {
-    ghost use Rattle.std.specs.Prelude.{ℕ, length};
+    ghost use Rattle.std.specs.Prelude.{List};
+    ghost use Rattle.zs_turns.specs.Queries.{QuerySeen};
+    ghost use Rattle.zs_cell.specs.Works.{returned};
 
-    ghost Value = { ℕ };
+    ghost Value = { List QuerySeen };
 
-    ghost view = { λ r. length r.items.items };
+    ghost view = { λ r. returned r.items.items };
 }
 
 impl<H: Drop, D: Drop> Work<H, D> {
@@ -90,7 +91,7 @@ impl<H: Drop, D: Drop> Work<H, D> {
     pub(crate) fn run<R: Wait>(self, rt: &R) -> (Worked<D>, Option<Closing<H>>)
     where
         H: Handler<Item, Done = D>,
-        ensures room { (room : TableId) → AreOfRoom room self.lents → AreOfRoom room result.0 }
+        ensures room { (room : TableId) → AreOfRoom room self.lents → AreOfRoom room result.0.lents }
         ensures closing { is_some result.1 ≡ self.waits }
     {
         let Work { handing, closing } = self;
@@ -103,8 +104,9 @@ impl<D: Drop> Worked<D> {
     // Gives the passes back: what became of each item.
     #[tactic(none)]
     pub(crate) fn give_back<H: Drop, B: Books>(self, held: &mut Held<H, B>) -> Reports<D>
-        requires { AreOfRoom held.old.session.exchange.posts.room self }
-        ensures { held.new.session.exchange.posts.room ≡ held.old.session.exchange.posts.room }
+        requires { AreOfRoom held.old.session.exchange.posts.room self.lents }
+        ensures queries { result ≡ self.queries }
+        ensures room { held.new.session.exchange.posts.room ≡ held.old.session.exchange.posts.room }
     {
         let Worked { ran } = self;
         let items = held.give_back(ran);

@@ -2,9 +2,10 @@
 ghost use Rattle.std.specs.Prelude.{◌≡◌, None, Some, option_map, is_some, true, false, IfOk, IfErr, OnOk};
 ghost use Rattle.std.specs.Arc.{arc_value};
 ghost use Rattle.zs_events.specs.declared.event.Event.TheVariants.{Tick, Net, Close, CancelToken};
+ghost use Rattle.zs_posts.specs.declared.key.Key.{Key};
 ghost use Rattle.zs_turns.specs.Gates.{takes_handler};
 ghost use Rattle.zs_held.specs.Numbers.{numbered_at};
-ghost use Rattle.zs_cell.specs.Steps.{Accepts, Stops};
+ghost use Rattle.zs_cell.specs.Steps.{Accepts, Asks, AsksFor, Stops};
 
 use crate::error::{NotSubmitted, SessionError};
 use crate::session::Session;
@@ -43,6 +44,7 @@ impl<H: Handler<Item> + Drop, B: Books> Session<H, B> {
         requires { is_some handler ≡ true → takes_handler event ≡ true }
         ensures ok { IfOk result (λ number. Accepts caller.old caller.new event (is_some handler) number) }
         ensures numbered { IfOk result (λ number. is_some number ≡ numbered_at event) }
+        ensures asked { OnOk result (Asks caller.new None false) }
         ensures err { IfErr result (λ back. Stops caller.old caller.new event (is_some handler) back.why) }
         ensures handler { IfErr result (λ back. option_map arc_value back.handler ≡ option_map arc_value handler) }
     {
@@ -67,6 +69,7 @@ impl<H: Handler<Item> + Drop, B: Books> Session<H, B> {
     ) -> Result<Option<Closing<H>>, SessionError>
         requires { numbered_at event ≡ false }
         ensures ok { OnOk result (Accepts caller.old caller.new event false None) }
+        ensures asked { IfOk result (λ closing. Asks caller.new key (is_some closing)) }
         ensures err { IfErr result (λ why. Stops caller.old caller.new event false why) }
     {
         match self.step(rt, event, None, key, caller) {
@@ -96,6 +99,7 @@ impl<H: Handler<Item> + Drop, B: Books> Session<H, B> {
     ) -> Result<(), SessionError>
         requires { numbered_at event ≡ false }
         ensures ok { OnOk result (Accepts caller.old caller.new event false None) }
+        ensures asked { OnOk result (Asks caller.new None false) }
         ensures err { IfErr result (λ why. Stops caller.old caller.new event false why) }
     {
         match self.submit(rt, event, None, caller) {
@@ -138,6 +142,27 @@ impl<H: Handler<Item> + Drop, B: Books> Session<H, B> {
         }
     }
 
+    // Steps the session by an event that is answered a number, without a handler.
+    pub(crate) fn ask_alone<R: Wait>(
+        &self,
+        rt: &R,
+        event: Event,
+        caller: &mut Caller<B>,
+    ) -> Result<u32, SessionError>
+        requires { numbered_at event ≡ true }
+        ensures ok { IfOk result (λ number. Accepts caller.old caller.new event false (Some number)) }
+        ensures err { IfErr result (λ why. Stops caller.old caller.new event false why) }
+    {
+        match self.ask(rt, event, None, caller) {
+            Ok(number) => Ok(number),
+            Err(back) => {
+                let NotSubmitted { why, handler } = back;
+                drop(handler);
+                Err(why)
+            }
+        }
+    }
+
     // Waits until no one is inside of a gate, and tells its handler, if it is a handler's.
     pub(crate) fn wait_for<R: Wait>(&self, rt: &R, closing: Option<Closing<H>>) {
         match closing {
@@ -147,6 +172,29 @@ impl<H: Handler<Item> + Drop, B: Books> Session<H, B> {
                 drop(done);
             }
             None => {}
+        }
+    }
+
+    // Steps the session by an event that is answered no number, and waits for the gate of a key, where the event is accepted and
+    // the session still held the gate.
+    pub(crate) fn tell_and_wait<R: Wait>(
+        &self,
+        rt: &R,
+        event: Event,
+        key: Key,
+        caller: &mut Caller<B>,
+    ) -> Result<(), SessionError>
+        requires { numbered_at event ≡ false }
+        ensures ok { OnOk result (Accepts caller.old caller.new event false None) }
+        ensures waits { OnOk result (AsksFor caller.new key) }
+        ensures err { IfErr result (λ why. Stops caller.old caller.new event false why) }
+    {
+        match self.tell_and_drain(rt, event, Some(key), caller) {
+            Ok(closing) => {
+                self.wait_for(rt, closing);
+                Ok(())
+            }
+            Err(why) => Err(why),
         }
     }
 
@@ -200,17 +248,14 @@ impl<H: Handler<Item> + Drop, B: Books> Session<H, B> {
         caller: &mut Caller<B>,
     ) -> Result<(), SessionError>
         ensures ok { OnOk result (Accepts caller.old caller.new Close false None) }
+        ensures waits { wait_callbacks ≡ true → OnOk result (AsksFor caller.new Key.Session) }
+        ensures at_once { wait_callbacks ≡ false → OnOk result (Asks caller.new None false) }
         ensures err { IfErr result (λ why. Stops caller.old caller.new Close false why) }
     {
-        if !wait_callbacks {
-            return self.tell(rt, Event::Close, caller);
-        }
-        match self.tell_and_drain(rt, Event::Close, Some(Key::Session), caller) {
-            Ok(closing) => {
-                self.wait_for(rt, closing);
-                Ok(())
-            }
-            Err(why) => Err(why),
+        if wait_callbacks {
+            self.tell_and_wait(rt, Event::Close, Key::Session, caller)
+        } else {
+            self.tell(rt, Event::Close, caller)
         }
     }
 
@@ -231,12 +276,10 @@ impl<H: Handler<Item> + Drop, B: Books> Session<H, B> {
         let Ok(session) = self.try_clone() else {
             return Err(SessionError::NoMemory);
         };
-        match self.ask(rt, Event::CancelToken, None, caller) {
+        match self.ask_alone(rt, Event::CancelToken, caller) {
             Ok(number) => Ok(SessionToken::of(session, number)),
-            Err(back) => {
+            Err(why) => {
                 drop(session);
-                let NotSubmitted { why, handler } = back;
-                drop(handler);
                 Err(why)
             }
         }

@@ -4,15 +4,16 @@ ghost use Rattle.std.specs.Arc.{arc_value};
 ghost use Rattle.zs_turns.specs.Gates.{takes_handler};
 ghost use Rattle.zs_hands.specs.Answers.{AreOfRoom};
 ghost use Rattle.zs_held.specs.Numbers.{numbered_at};
-ghost use Rattle.zs_cell.specs.Steps.{Steps, Accepts, Stops, IsNumbered, IsRefusal};
+ghost use Rattle.zs_cell.specs.Steps.{Steps, Accepts, Asks, Stops, IsNumbered, IsRefusal};
 ghost use Rattle.zs_cell.specs.Works.{back_at};
 ghost use Rattle.zs_events.specs.Turn.{was_refused};
 ghost use Rattle.zs_events.specs.declared.turn.Answer.TheVariants.{Ok as accepted};
 
+use crate::ending::{AllTold, next_ending};
 use crate::error::{NotSubmitted, SessionError};
 use crate::session::Session;
 use crate::taking::{NotNow, take_held};
-use crate::work::{Work, Worked};
+use crate::work::{Reports, Work, Worked};
 use std::sync::{Arc, Wait};
 use zs_books::Books;
 use zs_events::{Answer, Event};
@@ -51,6 +52,7 @@ impl<H: Handler<Item> + Drop, B: Books> Session<H, B> {
         ensures lents { IfOk result (λ work. AreOfRoom self.now.lock.key work.lents) }
         ensures none { key ≡ None → IfOk result (λ work. work.waits ≡ false) }
         ensures closing { IfOk result (λ work. was_refused work.answer ≡ true → work.waits ≡ false) }
+        ensures asked { IfOk result (λ work. was_refused work.answer ≡ false → Asks caller.new key work.waits) }
         ensures handler { IfErr result (λ refused. refused.handler ≡ handler) }
         ensures err { OnErr result (caller.new ≡ caller.old) }
     {
@@ -82,6 +84,7 @@ impl<H: Handler<Item> + Drop, B: Books> Session<H, B> {
         ensures lents { IfOk result (λ work. AreOfRoom self.now.lock.key work.lents) }
         ensures none { key ≡ None → IfOk result (λ work. work.waits ≡ false) }
         ensures closing { IfOk result (λ work. was_refused work.answer ≡ true → work.waits ≡ false) }
+        ensures asked { IfOk result (λ work. was_refused work.answer ≡ false → Asks caller.new key work.waits) }
         ensures handler { IfErr result (λ back. back ≡ handler) }
         ensures err { OnErr result (caller.new ≡ caller.old) }
     {
@@ -101,43 +104,44 @@ impl<H: Handler<Item> + Drop, B: Books> Session<H, B> {
         unreachable!()
     }
 
-    // Gives out one gate that was ended, and tells its handler outside of the lock. Whether there was one.
-    fn end_one<R: Wait>(&self, rt: &R) -> bool {
+    // Gives out one gate that was ended, and tells its handler outside of the lock. Whether there was none left.
+    fn end_one<R: Wait>(&self, rt: &R) -> Option<AllTold> {
         let (mut held, taken) = self.shared.lock.take(rt);
-        let ending = held.ending();
+        let next = next_ending(&mut held);
         taken.put(held);
-        match ending {
-            Some(ending) => {
+        match next {
+            Ok(ending) => {
                 let (drained, done) = ending.tell(rt);
                 drop(drained);
                 drop(done);
-                true
+                None
             }
-            None => false,
+            Err(told) => Some(told),
         }
     }
 
     // Tells all handlers that have ended so far.
-    fn end_all<R: Wait>(&self, rt: &R) {
+    fn end_all<R: Wait>(&self, rt: &R) -> AllTold {
         for _ in rt.forever() {
-            if !self.end_one(rt) {
-                return;
+            if let Some(told) = self.end_one(rt) {
+                return told;
             }
         }
         unreachable!()
     }
 
     // Gives the passes of calls that were made outside of the lock back in another hold of it, and tells the handlers that have
-    // ended.
+    // ended: what became of each item, with the queries that came back.
     #[tactic(none)]
-    fn finish<R: Wait>(&self, rt: &R, worked: Worked<H::Done>)
-        requires { AreOfRoom self.now.lock.key worked }
+    fn finish<R: Wait>(&self, rt: &R, worked: Worked<H::Done>) -> (Reports<H::Done>, AllTold)
+        requires { AreOfRoom self.now.lock.key worked.lents }
+        ensures { result.0 ≡ worked.queries }
     {
         let (mut held, taken) = self.shared.lock.take(rt);
         let reports = worked.give_back(&mut held);
         taken.put(held);
-        drop(reports);
-        self.end_all(rt);
+        let told = self.end_all(rt);
+        (reports, told)
     }
 
     // Makes the calls of an event that was taken: what it was answered.
@@ -153,7 +157,9 @@ impl<H: Handler<Item> + Drop, B: Books> Session<H, B> {
         let answer = work.answer();
         let handler = work.refused();
         let (worked, closing) = work.run(rt);
-        self.finish(rt, worked);
+        let (reports, told) = self.finish(rt, worked);
+        drop(reports);
+        drop(told);
         match answer {
             Answer::Ok(number) => {
                 drop(handler);
@@ -180,6 +186,7 @@ impl<H: Handler<Item> + Drop, B: Books> Session<H, B> {
         ensures ok { IfOk result (λ stepped. Accepts caller.old caller.new event.now (is_some handler) stepped.number) }
         ensures numbered { IfOk result (λ stepped. is_some stepped.number ≡ numbered_at event.now) }
         ensures none { key ≡ None → IfOk result (λ stepped. stepped.closing ≡ None) }
+        ensures asked { IfOk result (λ stepped. Asks caller.new key (is_some stepped.closing)) }
         ensures err { IfErr result (λ back. Stops caller.old caller.new event.now (is_some handler) back.why) }
         ensures handler { IfErr result (λ back. option_map arc_value back.handler ≡ option_map arc_value handler) }
     {
@@ -206,6 +213,7 @@ impl<H: Handler<Item> + Drop, B: Books> Session<H, B> {
         ensures ok { IfOk result (λ stepped. Accepts caller.old caller.new event (is_some handler) stepped.number) }
         ensures numbered { IfOk result (λ stepped. is_some stepped.number ≡ numbered_at event) }
         ensures none { key ≡ None → IfOk result (λ stepped. stepped.closing ≡ None) }
+        ensures asked { IfOk result (λ stepped. Asks caller.new key (is_some stepped.closing)) }
         ensures err { IfErr result (λ back. Stops caller.old caller.new event (is_some handler) back.why) }
         ensures handler { IfErr result (λ back. option_map arc_value back.handler ≡ option_map arc_value handler) }
     {

@@ -2,6 +2,6 @@ use Rattle.std.proofs.Common.{refl}
 use Rattle.zs_held.specs.Numbers.{numbered_at}
 use Rattle.zs_cell.proofs.session.Session.cancellation_token.Goals as goal
 
-pub ask-requires-clause-number : goal.ask-requires-clause-number
+pub ask_alone-requires : goal.ask_alone-requires
 unfolding numbered_at
-ask-requires-clause-number g c = refl
+ask_alone-requires g c = refl

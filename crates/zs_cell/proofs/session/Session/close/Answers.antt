@@ -6,6 +6,6 @@ pub tell-requires : goal.tell-requires
 unfolding numbered_at
 tell-requires g c = refl
 
-pub tell_and_drain-requires : goal.tell_and_drain-requires
+pub tell_and_wait-requires : goal.tell_and_wait-requires
 unfolding numbered_at
-tell_and_drain-requires g c = refl
+tell_and_wait-requires g c = refl

@@ -41,6 +41,9 @@ returns-clause-none g c = c.take_held-taking.ensures.none
 pub returns-clause-closing : goal.returns-clause-closing
 returns-clause-closing g c = c.take_held-taking.ensures.closing
 
+pub returns-clause-asked : goal.returns-clause-asked
+returns-clause-asked g c = c.take_held-taking.ensures.asked
+
 pub returns-clause-handler : goal.returns-clause-handler
 returns-clause-handler g c = c.take_held-taking.ensures.handler
 
