@@ -4,7 +4,7 @@ use crate::showing::show;
 use crate::trouble::Trouble;
 use std::io::Print;
 use std::sync::Wait;
-use zs_calls::{QueryCalls, SessionCalls, Unspent};
+use zs_calls::{QueryCalls, QueryValues, SessionCalls, Unspent};
 use zs_cell::{Books, Caller, Item, Query, Session};
 use zs_entities::SessionEntities;
 use zs_handlers::{FifoChannelHandler, FifoSender};

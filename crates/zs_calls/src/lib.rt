@@ -11,7 +11,7 @@ pub use publication::{
     PublisherDeleteBuilder, PublisherPutBuilder, SessionDeleteBuilder, SessionPutBuilder,
 };
 pub use querier_get::QuerierGetBuilder;
-pub use query_calls::QueryCalls;
+pub use query_calls::{QueryCalls, QueryValues};
 pub use reply::{ReplyBuilder, ReplyBuilderDelete, ReplyBuilderPut};
 pub use reply_err::ReplyErrBuilder;
 pub use reply_sample::ReplySample;

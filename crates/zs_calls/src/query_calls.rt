@@ -50,7 +50,10 @@ pub trait QueryCalls {
         session: &'a Session<H, B>,
         sample: Sample,
     ) -> ReplySample<'a, H, B>;
+}
 
+/// How a query is shared and given back.
+pub trait QueryValues {
     /// One more of the query, which is to be given back like the first.
     ///
     /// # Errors
@@ -118,7 +121,9 @@ impl QueryCalls for Query {
     {
         ReplySample::of(self, session, sample)
     }
+}
 
+impl QueryValues for Query {
     fn share<H: Handler<Item> + Drop, B: Books, R: Wait>(
         &self,
         session: &Session<H, B>,
