@@ -12,6 +12,8 @@ use zs_sample::{
     Sample, SampleFields, SampleKind, Timestamp,
 };
 
+/// A step of a script. The last part of most is what has to be found. A text is what is handed out, or a sign of what
+/// a reply or a final came to.
 enum Act {
     /// Opens get 0 on a key. It waits for the network's final, and for the local one too where that is said.
     Open(&'static str, ConsolidationMode, bool),

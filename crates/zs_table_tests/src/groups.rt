@@ -27,8 +27,9 @@ fn four_join(rt: &impl Abort, groups: &mut Groups) -> bool
     first && other && apart && !again
 }
 
+/// A step of a script. The last part of each is what has to be found.
 enum Act {
-    /// A member leaves: the group's number where it was the last one.
+    /// A member leaves. It is told the group's number where it was the last one.
     Leave(GroupKind, &'static str, u32, Option<u32>),
     Number(GroupKind, &'static str, Option<u32>),
     Members(GroupKind, &'static str, usize),

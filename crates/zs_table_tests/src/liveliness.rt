@@ -5,7 +5,9 @@ use std::alloc::Global;
 use zs_keys::KeyExpr;
 use zs_tables::{LivelinessGet, LivelinessGets, LivelinessSub, LivelinessSubs};
 
+/// A step of a script. A truth at the end of one is what has to be found.
 enum Act {
+    /// Puts in a subscriber: whether it asked for history, and its key.
     Put(u32, bool, &'static str),
     Remove(u32),
     Clear,
@@ -73,6 +75,7 @@ fn subscribers_hear_of_tokens(rt: HostRuntime) {
     assert_eq!(rt; first_wrong(rt.alloc(), &mut subs, &HEARERS), None);
 }
 
+/// A step of a script. Numbers in brackets, and a truth, are what has to be found.
 enum GetAct {
     /// Opens a get of a number, with a deadline and a token.
     Open(u32, u64, Option<u32>),

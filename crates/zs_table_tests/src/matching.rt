@@ -128,7 +128,21 @@ fn tell(told: &mut ToldTable, number: u32, text: &'static str) -> Result<(), Key
     Ok(())
 }
 
-/// How many of those that the other side told match a listener of that destination.
+fn tell_three(told: &mut ToldTable) -> Result<(), KeyError> {
+    tell(told, 9, "k")?;
+    tell(told, 8, "*")?;
+    tell(told, 9, "z")
+}
+
+/// How many of those that are present match a listener of that destination.
+fn counts(alloc: Global, present: &Present<'_>, destination: Locality) -> Result<usize, KeyError> {
+    let row = listener(3, destination, Sought::Subscribers, "k")?;
+    let answer = present.count(alloc, &row);
+    drop(row);
+    Ok(answer?)
+}
+
+/// The same of those that the other side told.
 fn count(alloc: Global, told: &ToldTable, destination: Locality) -> Result<usize, KeyError> {
     let tables = Tables::new(alloc);
     let queryables = QueryableTable::new(alloc);
@@ -137,16 +151,13 @@ fn count(alloc: Global, told: &ToldTable, destination: Locality) -> Result<usize
         queryables: &queryables,
         told,
     };
-    let row = listener(3, destination, Sought::Subscribers, "k")?;
-    Ok(present.count(alloc, &row)?)
+    counts(alloc, &present, destination)
 }
 
 #[test]
 fn those_present_are_counted(rt: HostRuntime) {
     let mut told = ToldTable::new(rt.alloc());
-    for (number, text) in [(9, "k"), (8, "*"), (9, "z")] {
-        assert_eq!(rt; tell(&mut told, number, text), Ok(()));
-    }
+    assert_eq!(rt; tell_three(&mut told), Ok(()));
     let near = count(rt.alloc(), &told, Locality::SessionLocal);
     assert_eq!(rt; near, Ok(0));
     let far = count(rt.alloc(), &told, Locality::Remote);

@@ -8,7 +8,9 @@ use zs_keys::KeyExpr;
 use zs_sample::Locality;
 use zs_tables::{QueryableRow, QueryableTable};
 
+/// A step of a script. A truth at the end of one, or numbers, are what has to be found.
 enum Act {
+    /// Adds a queryable: its origin, whether it is complete, and its key.
     Add(u32, Locality, bool, &'static str),
     Remove(u32, bool),
     Clear,

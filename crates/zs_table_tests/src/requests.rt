@@ -57,6 +57,7 @@ fn left_then(finishing: Finishing<'_>) -> Left {
     }
 }
 
+/// A step of a script by numbers that are given.
 enum Act {
     /// A request is handed to a queryable by a value.
     Hand(u32, u32),
@@ -127,6 +128,7 @@ fn query_values(rt: HostRuntime) {
     assert_eq!(rt; first_wrong(rt.alloc(), &mut requests, &VALUES), None);
 }
 
+/// A step of a script by numbers in turn.
 enum TurnAct {
     /// A request is handed to queryables.
     Hand(&'static [u32]),
@@ -239,13 +241,22 @@ fn empty_attachment(query: &mut QueryData) {
     }
 }
 
+/// Whether a query tells all that was asked, and lets its attachment be changed.
+fn tells_all(query: &mut QueryData) -> bool {
+    let before = attached(query) == Some(6);
+    empty_attachment(query);
+    let after = attached(query) == Some(0);
+    before && after && selects(query) && has_no_value(query) && has_qualities(query)
+}
+
+fn is_told_whole(alloc: Global) -> Result<bool, KeyError> {
+    let mut query = query(alloc)?;
+    let answer = tells_all(&mut query);
+    drop(query);
+    Ok(answer)
+}
+
 #[test]
 fn query_fields(rt: HostRuntime) {
-    let mut query = query(rt.alloc()).expect(&rt, "memory, and a key");
-    assert!(rt; selects(&query));
-    assert!(rt; has_no_value(&mut query));
-    assert!(rt; has_qualities(&query));
-    assert_eq!(rt; attached(&query), Some(6));
-    empty_attachment(&mut query);
-    assert_eq!(rt; attached(&query), Some(0));
+    assert_eq!(rt; is_told_whole(rt.alloc()), Ok(true));
 }

@@ -6,15 +6,17 @@ use std::alloc::Global;
 use zs_keys::KeyExpr;
 use zs_tables::{ToldQueryable, ToldSub, ToldTable, ToldToken, ToldTokens};
 
+/// A step of a script. A truth at the end of one is what has to be found.
 enum Act {
     SetSub(u32, &'static str),
     UnsetSub(u32, bool),
+    /// The other side declares a queryable: whether it is complete, and its key.
     SetQueryable(u32, bool, &'static str),
     UnsetQueryable(u32, bool),
     HasQueryable(u32, bool),
     /// Whether a subscriber's key has a key in common with this one.
     Subscribed(&'static str, bool),
-    /// Whether a queryable answers on this key; whether it has to be complete.
+    /// Whether a queryable answers on this key, and whether it has to be complete.
     Answered(&'static str, bool, bool),
 }
 
@@ -92,6 +94,7 @@ fn last_declarations_count(rt: HostRuntime) {
     assert_eq!(rt; first_wrong(rt.alloc(), &mut told, &DECLARATIONS), None);
 }
 
+/// A step of a script. A truth at the end of one is what has to be found.
 enum TokenAct {
     Record(u32, &'static str),
     Forget(u32),

@@ -9,6 +9,7 @@ use std::sync::ledger::{Blank, Ledger};
 use zs_keys::{KeyError, KeyExpr, Steps};
 use zs_tree::KeyTree;
 
+/// A step of a script. The last part of each is what has to be found.
 enum Act {
     /// Takes a number out of a key.
     Remove(&'static str, u32, bool),
@@ -35,13 +36,16 @@ fn tree_of(alloc: Global, keys: &[KeyExpr<'static>; 4]) -> Result<KeyTree, Alloc
     Ok(tree)
 }
 
+fn worked_keys() -> Result<[KeyExpr<'static>; 4], KeyError> {
+    let first = KeyExpr::new("a/**")?;
+    let second = KeyExpr::new("a/*")?;
+    let third = KeyExpr::new("**")?;
+    let fourth = KeyExpr::new("@v/a")?;
+    Ok([first, second, third, fourth])
+}
+
 fn worked_tree(alloc: Global) -> Result<KeyTree, KeyError> {
-    let keys = [
-        KeyExpr::new("a/**")?,
-        KeyExpr::new("a/*")?,
-        KeyExpr::new("**")?,
-        KeyExpr::new("@v/a")?,
-    ];
+    let keys = worked_keys()?;
     Ok(tree_of(alloc, &keys)?)
 }
 
