@@ -1,7 +1,6 @@
 //! Which keys meet and include which, and which texts are keys: the worked pairs and forms.
 
-use std::process::Abort;
-use std::test::Fail;
+use std::alloc::{AllocError, Global};
 use zs_keys::{KeyError, KeyExpr};
 
 /// Pairs of key expressions that have a key in common, a pair a line.
@@ -259,64 +258,108 @@ const BAD: [&str; 16] = [
     "a?b", "a*", "a$b", "$",
 ];
 
-/// Asserts that each pair of the table answers so, from both sides, and that there are as many.
-fn assert_pairs(rt: &impl Abort, table: &str, meet: bool, count: usize) -> Result<(), Fail> {
+/// The two keys of a line.
+fn pair(line: &str) -> Option<(KeyExpr<'_>, KeyExpr<'_>)> {
+    let (left, right) = line.split_once(' ')?;
+    match (KeyExpr::new(left), KeyExpr::new(right)) {
+        (Ok(left), Ok(right)) => Some((left, right)),
+        _ => None,
+    }
+}
+
+/// Whether the two keys of a line have a key in common, if both say the same of the other.
+fn meet(line: &str) -> Option<bool> {
+    let (left, right) = pair(line)?;
+    let answer = left.meets(&right);
+    if right.meets(&left) == answer {
+        Some(answer)
+    } else {
+        None
+    }
+}
+
+/// How many pairs of a table answer so, or the first one that doesn't.
+fn meeting(table: &'static str, answer: bool) -> Result<u64, &'static str> {
     let mut pairs = 0u64;
     for line in table.lines() {
-        let (left, right) = line.split_once(' ').ok_or("a line has two keys")?;
-        let left = KeyExpr::new(left)?;
-        let right = KeyExpr::new(right)?;
-        assert_eq!(rt; left.meets(&right), meet, "{line}");
-        assert_eq!(rt; right.meets(&left), meet, "{line}, turned");
+        if meet(line) != Some(answer) {
+            return Err(line);
+        }
         pairs = pairs.saturating_add(1);
     }
-    assert_eq!(rt; pairs, count as u64);
-    Ok(())
+    Ok(pairs)
 }
 
 #[test]
-fn pairs_of_keys(rt: HostRuntime) -> Result<(), Fail> {
-    assert_pairs(&rt, MEET, true, 55)?;
-    assert_pairs(&rt, APART, false, 42)
+fn pairs_of_keys(rt: HostRuntime) {
+    assert_eq!(rt; meeting(MEET, true), Ok(55));
+    assert_eq!(rt; meeting(APART, false), Ok(42));
 }
 
-#[test]
-fn inclusions(rt: HostRuntime) -> Result<(), Fail> {
+/// Whether the left key of a line includes the right one.
+fn includes(line: &str) -> Option<bool> {
+    let (left, right) = pair(line)?;
+    Some(left.includes(&right))
+}
+
+/// How many pairs of a table answer so, or the first one that doesn't.
+fn including(table: &'static str, answer: bool) -> Result<u64, &'static str> {
     let mut pairs = 0u64;
-    for (table, included) in [(INCLUDE, true), (EXCLUDE, false)] {
-        for line in table.lines() {
-            let (left, right) = line.split_once(' ').ok_or("a line has two keys")?;
-            let (left, right) = (KeyExpr::new(left)?, KeyExpr::new(right)?);
-            assert_eq!(rt; left.includes(&right), included, "{line}");
-            pairs = pairs.saturating_add(1);
+    for line in table.lines() {
+        if includes(line) != Some(answer) {
+            return Err(line);
         }
+        pairs = pairs.saturating_add(1);
     }
-    assert_eq!(rt; pairs, 86);
-    Ok(())
+    Ok(pairs)
 }
 
 #[test]
-fn canonical_forms(rt: HostRuntime) -> Result<(), Fail> {
+fn inclusions(rt: HostRuntime) {
+    assert_eq!(rt; including(INCLUDE, true), Ok(44));
+    assert_eq!(rt; including(EXCLUDE, false), Ok(42));
+}
+
+/// Whether a text becomes its form, or is refused where the form is no key.
+fn becomes(alloc: Global, text: &str, form: &str) -> Result<bool, AllocError> {
+    let text = String::from_str(alloc, text)?;
+    match KeyExpr::autocanonize(alloc, text) {
+        Ok(key) => Ok(key.as_str() == form),
+        Err(error) => Ok(error == KeyError::BadKeyExpr && KeyExpr::new(form).is_err()),
+    }
+}
+
+fn is_form(alloc: Global, line: &str) -> bool {
+    match line.split_once(' ') {
+        Some((text, form)) => becomes(alloc, text, form) == Ok(true),
+        None => false,
+    }
+}
+
+/// How many lines have a text and its form, or the first one that hasn't.
+fn forms(alloc: Global, table: &'static str) -> Result<u64, &'static str> {
     let mut lines = 0u64;
-    for line in FORMS.lines() {
-        let (text, form) = line.split_once(' ').ok_or("a line has two texts")?;
-        let text = String::from_str(rt.alloc(), text)?;
-        match KeyExpr::autocanonize(rt.alloc(), text) {
-            Ok(key) => assert_eq!(rt; key.as_str(), form, "{line}"),
-            Err(error) => {
-                assert_eq!(rt; error, KeyError::BadKeyExpr, "{line}");
-                assert!(rt; KeyExpr::new(form).is_err(), "{line}");
-            }
+    for line in table.lines() {
+        if !is_form(alloc, line) {
+            return Err(line);
         }
         lines = lines.saturating_add(1);
     }
-    assert_eq!(rt; lines, 46);
-    Ok(())
+    Ok(lines)
+}
+
+#[test]
+fn canonical_forms(rt: HostRuntime) {
+    assert_eq!(rt; forms(rt.alloc(), FORMS), Ok(46));
+}
+
+fn is_bad(text: &str) -> bool {
+    KeyExpr::new(text) == Err(KeyError::BadKeyExpr)
 }
 
 #[test]
 fn bad_texts(rt: HostRuntime) {
     for text in BAD {
-        assert_eq!(rt; KeyExpr::new(text), Err(KeyError::BadKeyExpr), "{text}");
+        assert!(rt; is_bad(text), "{text}");
     }
 }

@@ -1,4 +1,5 @@
-//! Tests of the lower crates by their public calls. They stand apart, so that no crate is proved twice for its tests.
+//! Tests of keys, payloads, messages and samples by their public calls. They stand apart, so that no crate is proved
+//! twice for its tests.
 #![tactic(auto)]
 
 #[cfg(test)]
@@ -6,16 +7,8 @@ mod key_calls;
 #[cfg(test)]
 mod keys;
 #[cfg(test)]
-mod matching;
-#[cfg(test)]
 mod payloads;
 #[cfg(test)]
-mod query;
-#[cfg(test)]
 mod sample;
-#[cfg(test)]
-mod tables;
-#[cfg(test)]
-mod tree;
 #[cfg(test)]
 mod wire;

@@ -3,8 +3,9 @@
 use bytes::Bytes;
 use std::alloc::{AllocError, Global};
 use std::io::{self, ErrorKind, Read, Seek, SeekFrom, Write};
-use std::test::Fail;
-use zs_bytes::{BeforeStart, ReadError, Text, TextError, ZBytes, ZBytesWriter, from_reader};
+use zs_bytes::{
+    BeforeStart, ReadError, Text, TextError, ZBytes, ZBytesReader, ZBytesWriter, from_reader,
+};
 use zs_keys::{MemorySource, SteadySource};
 
 /// Appends, and once more where it found no memory.
@@ -18,6 +19,12 @@ fn append(writer: &mut ZBytesWriter, value: ZBytes) -> Result<(), AllocError> {
     }
 }
 
+/// Appends a slice of a text.
+fn append_text(alloc: Global, writer: &mut ZBytesWriter, text: &str) -> Result<(), AllocError> {
+    let slice = ZBytes::from_str(alloc, text)?;
+    append(writer, slice)
+}
+
 /// Finishes, and once more where it found no memory.
 fn finish(writer: ZBytesWriter) -> Result<ZBytes, AllocError> {
     match writer.finish() {
@@ -29,12 +36,17 @@ fn finish(writer: ZBytesWriter) -> Result<ZBytes, AllocError> {
     }
 }
 
+fn append_all(alloc: Global, writer: &mut ZBytesWriter, slices: &[&str]) -> Result<(), AllocError> {
+    for slice in slices {
+        append_text(alloc, writer, slice)?;
+    }
+    Ok(())
+}
+
 /// A payload of these slices.
 fn sliced(alloc: Global, slices: &[&str]) -> Result<ZBytes, AllocError> {
     let mut writer = ZBytes::writer(alloc);
-    for slice in slices {
-        append(&mut writer, ZBytes::from_str(alloc, slice)?)?;
-    }
+    append_all(alloc, &mut writer, slices)?;
     finish(writer)
 }
 
@@ -50,174 +62,397 @@ fn shown(alloc: Global, value: &ZBytes) -> Result<Vec<u8>, AllocError> {
     Ok(text)
 }
 
-#[test]
-fn worked_example(rt: HostRuntime) -> Result<(), Fail> {
-    let mut writer = ZBytes::writer(rt.alloc());
-    assert_eq!(rt; writer.write(b"ab"), Ok(2));
-    append(&mut writer, ZBytes::from_str(rt.alloc(), "cd")?)?;
-    assert_eq!(rt; writer.write(b"e"), Ok(1));
+fn has_slices(alloc: Global, value: &ZBytes, slices: &str) -> Result<bool, AllocError> {
+    let text = shown(alloc, value)?;
+    Ok(text.as_slice() == slices.as_bytes())
+}
+
+fn has_bytes(alloc: Global, value: &ZBytes, bytes: &[u8]) -> Result<bool, AllocError> {
+    let whole = value.to_bytes(alloc)?;
+    Ok(whole.as_slice() == bytes)
+}
+
+/// Writes bytes, a slice and bytes.
+fn write_three(alloc: Global, writer: &mut ZBytesWriter) -> Result<bool, AllocError> {
+    let first = writer.write(b"ab")?;
+    append_text(alloc, writer, "cd")?;
+    let last = writer.write(b"e")?;
     writer.flush();
-    let value = finish(writer)?;
-    assert_eq!(rt;
-        shown(rt.alloc(), &value)?.as_slice(),
-        b"ab|cd|e".as_slice()
-    );
-    assert_eq!(rt; value.len(), 5);
-    assert!(rt; !value.is_empty());
-    assert_eq!(rt; value.to_bytes(rt.alloc())?.as_slice(), b"abcde".as_slice());
+    Ok(first == 2 && last == 1)
+}
+
+fn written(alloc: Global) -> Result<ZBytes, AllocError> {
+    let mut writer = ZBytes::writer(alloc);
+    if !write_three(alloc, &mut writer)? {
+        return Err(AllocError);
+    }
+    finish(writer)
+}
+
+fn is_written(alloc: Global, value: &ZBytes) -> Result<bool, AllocError> {
+    let cut = has_slices(alloc, value, "ab|cd|e")?;
+    let whole = has_bytes(alloc, value, b"abcde")?;
+    Ok(cut && whole && value.len() == 5 && !value.is_empty())
+}
+
+/// A step of a reader, and what it has to find.
+enum Act {
+    /// A read into two bytes: how many it gives, and what stands there then.
+    Read(usize, [u8; 2]),
+    Seek(SeekFrom, Result<u64, BeforeStart>),
+    Remaining(usize),
+}
+
+/// Takes a step of a reader, and answers whether it found what it had to find.
+fn reads(reader: &mut ZBytesReader<'_>, into: &mut [u8; 2], act: &Act) -> bool {
+    match act {
+        Act::Read(count, bytes) => reader.read(into) == *count && *into == *bytes,
+        Act::Seek(to, found) => reader.seek(*to) == *found,
+        Act::Remaining(count) => {
+            reader.remaining() == *count && reader.is_empty() == (*count == 0)
+        }
+    }
+}
+
+/// The place of the first step that doesn't find what it has to find.
+fn first_wrong(value: &ZBytes, script: &[Act]) -> Option<usize> {
     let mut reader = value.reader();
-    let mut two = [0; 2];
-    assert_eq!(rt; reader.read(&mut two), 2);
-    assert_eq!(rt; two, *b"ab");
-    assert_eq!(rt; reader.seek(SeekFrom::End(-1)), Ok(4));
-    assert_eq!(rt; reader.remaining(), 1);
-    assert_eq!(rt; reader.read(&mut two), 1);
-    assert_eq!(rt; two, *b"eb");
-    assert!(rt; reader.is_empty());
-    assert_eq!(rt; reader.seek(SeekFrom::Current(-6)), Err(BeforeStart));
-    assert_eq!(rt; reader.seek(SeekFrom::Start(9)), Ok(5));
-    let mut source = SteadySource::new(b"abc".to_vec(rt.alloc())?);
-    let read = from_reader(rt.alloc(), &mut source, 4)?;
-    assert_eq!(rt; read.to_bytes(rt.alloc())?.as_slice(), b"abc".as_slice());
-    Ok(())
+    let mut into = [0; 2];
+    for at in 0..script.len() {
+        if !reads(&mut reader, &mut into, &script[at]) {
+            return Some(at);
+        }
+    }
+    None
 }
 
+const READS: [Act; 8] = [
+    Act::Read(2, *b"ab"),
+    Act::Seek(SeekFrom::End(-1), Ok(4)),
+    Act::Remaining(1),
+    Act::Read(1, *b"eb"),
+    Act::Remaining(0),
+    Act::Seek(SeekFrom::Current(-6), Err(BeforeStart)),
+    Act::Seek(SeekFrom::Start(9), Ok(5)),
+    Act::Read(0, *b"eb"),
+];
+
 #[test]
-fn made_of_each(rt: HostRuntime) -> Result<(), Fail> {
-    let alloc = rt.alloc();
-    let made = [
-        ZBytes::from_vec(alloc, b"abcde".to_vec(alloc)?)?,
-        ZBytes::from_slice(alloc, b"abcde")?,
-        ZBytes::from_array(alloc, b"abcde")?,
-        ZBytes::from_string(alloc, String::from_str(alloc, "abcde")?)?,
-        ZBytes::from_str(alloc, "abcde")?,
-        ZBytes::from_bytes(alloc, Bytes::from_static(b"abcde"))?,
-        ZBytes::from_str(alloc, "abcde")?.try_clone(alloc)?,
-        sliced(alloc, &["a", "bcd", "e"])?.try_clone(alloc)?,
-    ];
-    for value in &made {
-        assert_eq!(rt; value.try_to_string(alloc)?.as_str(), "abcde");
-        assert!(rt; *value == made[0]);
+fn worked_example(rt: HostRuntime) {
+    let value = written(rt.alloc()).expect(&rt, "memory");
+    assert_eq!(rt; is_written(rt.alloc(), &value), Ok(true));
+    assert_eq!(rt; first_wrong(&value, &READS), None);
+}
+
+/// A way to make a payload.
+enum Way {
+    Vec,
+    Slice,
+    Array,
+    String,
+    Str,
+    Bytes,
+    Copy,
+    CopyOfSlices,
+}
+
+const WAYS: [Way; 8] = [
+    Way::Vec,
+    Way::Slice,
+    Way::Array,
+    Way::String,
+    Way::Str,
+    Way::Bytes,
+    Way::Copy,
+    Way::CopyOfSlices,
+];
+
+fn made(alloc: Global, way: &Way) -> Result<ZBytes, AllocError> {
+    match way {
+        Way::Vec => ZBytes::from_vec(alloc, b"abcde".to_vec(alloc)?),
+        Way::Slice => ZBytes::from_slice(alloc, b"abcde"),
+        Way::Array => ZBytes::from_array(alloc, b"abcde"),
+        Way::String => ZBytes::from_string(alloc, String::from_str(alloc, "abcde")?),
+        Way::Str => ZBytes::from_str(alloc, "abcde"),
+        Way::Bytes => ZBytes::from_bytes(alloc, Bytes::from_static(b"abcde")),
+        Way::Copy => copied(alloc, &["abcde"]),
+        Way::CopyOfSlices => copied(alloc, &["a", "bcd", "e"]),
     }
+}
+
+fn copied(alloc: Global, slices: &[&str]) -> Result<ZBytes, AllocError> {
+    let value = sliced(alloc, slices)?;
+    value.try_clone(alloc)
+}
+
+fn has_text(alloc: Global, value: &ZBytes, text: &str) -> Result<bool, TextError> {
+    let found = value.try_to_string(alloc)?;
+    Ok(found.as_str() == text)
+}
+
+fn is_whole(alloc: Global, way: &Way) -> Result<bool, TextError> {
+    let value = made(alloc, way)?;
+    let same = ZBytes::from_str(alloc, "abcde")?;
+    let other = ZBytes::from_array(alloc, b"\xff")?;
+    let told = has_text(alloc, &value, "abcde")?;
+    Ok(told && value == same && value != other)
+}
+
+fn is_no_text(alloc: Global) -> Result<bool, AllocError> {
     let wrong = ZBytes::from_array(alloc, b"\xff")?;
-    assert_eq!(rt; wrong.try_to_string(alloc).err(), Some(TextError::Utf8));
-    assert!(rt; wrong != made[0]);
-    for text in [Text::of(alloc, "äb")?, Text::fixed("äb")] {
-        assert_eq!(rt; text.as_str(), "äb");
-        assert_eq!(rt; text.try_clone(alloc)?.as_str(), "äb");
-        assert!(rt; !text.is_empty());
-    }
-    assert!(rt; Text::fixed("").is_empty());
-    Ok(())
+    Ok(has_text(alloc, &wrong, "") == Err(TextError::Utf8))
 }
 
 #[test]
-fn seams(rt: HostRuntime) -> Result<(), Fail> {
-    let alloc = rt.alloc();
+fn made_of_each(rt: HostRuntime) {
+    for way in &WAYS {
+        assert_eq!(rt; is_whole(rt.alloc(), way), Ok(true));
+    }
+    assert_eq!(rt; is_no_text(rt.alloc()), Ok(true));
+}
+
+fn is_text(alloc: Global, text: &Text, want: &str) -> Result<bool, AllocError> {
+    let copy = text.try_clone(alloc)?;
+    Ok(text.as_str() == want && copy.as_str() == want && text.is_empty() == want.is_empty())
+}
+
+fn are_texts(alloc: Global) -> Result<bool, AllocError> {
+    let made = Text::of(alloc, "äb")?;
+    let first = is_text(alloc, &made, "äb")?;
+    let second = is_text(alloc, &Text::fixed("äb"), "äb")?;
+    let empty = is_text(alloc, &Text::fixed(""), "")?;
+    Ok(first && second && empty)
+}
+
+#[test]
+fn texts(rt: HostRuntime) {
+    assert_eq!(rt; are_texts(rt.alloc()), Ok(true));
+}
+
+/// Whether a read of four bytes from a place gives what the whole has there.
+fn reads_from(value: &ZBytes, whole: &[u8], at: usize) -> bool {
+    let mut reader = value.reader();
+    let sought = reader.seek(SeekFrom::Start(at as u64)).is_ok();
+    let mut into = [0; 4];
+    let count = reader.read(&mut into);
+    let rest = &whole[whole.len().min(at)..];
+    sought && count <= 4 && into[..count] == rest[..rest.len().min(4)]
+}
+
+/// The first place from which a read gives something else than what the whole has there.
+fn first_wrong_place(value: &ZBytes, whole: &[u8]) -> Option<usize> {
+    for at in 0..7 {
+        if !reads_from(value, whole, at) {
+            return Some(at);
+        }
+    }
+    None
+}
+
+fn has_seams(alloc: Global, slices: &[&str], want: &str) -> Result<bool, AllocError> {
+    let value = sliced(alloc, slices)?;
+    let cut = has_slices(alloc, &value, want)?;
+    let whole = value.to_bytes(alloc)?;
+    Ok(cut && first_wrong_place(&value, &whole).is_none())
+}
+
+#[test]
+fn seams(rt: HostRuntime) {
     assert!(rt; ZBytes::new().slices().next().is_none());
-    let table = [
+    for (slices, want) in [
         (["", "", ""], ""),
         (["ab", "cd", "e"], "ab|cd|e"),
         (["", "a", "bcde"], "a|bcde"),
         (["abcd", "", "e"], "abcd|e"),
         (["", "abcde", ""], "abcde"),
-    ];
-    for (slices, want) in table {
-        let value = sliced(alloc, &slices)?;
-        assert_eq!(rt;
-            shown(alloc, &value)?.as_slice(),
-            want.as_bytes(),
-            "slices of {want}"
-        );
-        let whole = value.to_bytes(alloc)?;
-        for at in 0..7 {
-            let mut reader = value.reader();
-            assert!(rt; reader.seek(SeekFrom::Start(at)).is_ok());
-            let mut into = [0; 4];
-            let count = reader.read(&mut into);
-            let rest = &whole.as_slice()[whole.len().min(at as usize)..];
-            assert_eq!(rt;
-                &into[..count],
-                &rest[..rest.len().min(4)],
-                "from {at} of {want}"
-            );
-        }
+    ] {
+        let holds = has_seams(rt.alloc(), &slices, want);
+        assert_eq!(rt; holds, Ok(true), "slices of {want}");
     }
-    Ok(())
 }
 
-#[test]
-fn memory_is_shared(rt: HostRuntime) -> Result<(), Fail> {
-    let bytes = Bytes::from_vec(b"abc".to_vec(rt.alloc())?)?;
-    let value = ZBytes::from_bytes(rt.alloc(), bytes.clone()?)?;
-    let copy = value.try_clone(rt.alloc())?;
+/// A payload of two slices, the first of which is given.
+fn followed(alloc: Global, first: ZBytes, text: &str) -> Result<ZBytes, AllocError> {
+    let mut writer = ZBytes::writer(alloc);
+    append(&mut writer, first)?;
+    append_text(alloc, &mut writer, text)?;
+    finish(writer)
+}
+
+fn is_shared(alloc: Global, bytes: &Bytes) -> Result<bool, AllocError> {
+    let value = ZBytes::from_bytes(alloc, bytes.clone()?)?;
+    let copy = value.try_clone(alloc)?;
     drop(value);
-    assert!(rt; !bytes.is_unique());
-    let mut writer = ZBytes::writer(rt.alloc());
-    append(&mut writer, copy)?;
-    append(&mut writer, ZBytes::from_str(rt.alloc(), "d")?)?;
-    let both = finish(writer)?;
-    assert!(rt; !bytes.is_unique());
+    let by_the_copy = !bytes.is_unique();
+    let both = followed(alloc, copy, "d")?;
+    let by_both = !bytes.is_unique();
     drop(both);
-    assert!(rt; bytes.is_unique());
-    Ok(())
+    Ok(by_the_copy && by_both)
+}
+
+fn shares(alloc: Global) -> Result<bool, AllocError> {
+    let bytes = Bytes::from_vec(b"abc".to_vec(alloc)?)?;
+    let shared = is_shared(alloc, &bytes)?;
+    Ok(shared && bytes.is_unique())
 }
 
 #[test]
-fn std_traits(rt: HostRuntime) -> Result<(), Fail> {
-    let mut writer = ZBytes::writer(rt.alloc());
-    append(&mut writer, ZBytes::from_str(rt.alloc(), "ab")?)?;
+fn memory_is_shared(rt: HostRuntime) {
+    assert_eq!(rt; shares(rt.alloc()), Ok(true));
+}
+
+fn write_by_std(alloc: Global, writer: &mut ZBytesWriter) -> io::Result<()> {
+    append_text(alloc, writer, "ab")?;
     writer.write_all(b"cd")?;
-    io::Write::flush(&mut writer)?;
-    let value = finish(writer)?;
-    let mut reader = value.reader();
-    let mut bytes = Vec::new(rt.alloc());
-    assert_eq!(rt; reader.read_to_end(&mut bytes)?, 4);
-    assert_eq!(rt; bytes.as_slice(), b"abcd".as_slice());
-    assert_eq!(rt; reader.stream_position()?, 4);
+    io::Write::flush(writer)
+}
+
+fn written_by_std(alloc: Global) -> io::Result<ZBytes> {
+    let mut writer = ZBytes::writer(alloc);
+    write_by_std(alloc, &mut writer)?;
+    Ok(finish(writer)?)
+}
+
+/// Whether std's reader reads all, and goes back to the start.
+fn reads_to_end(alloc: Global, reader: &mut ZBytesReader<'_>) -> io::Result<bool> {
+    let mut bytes = Vec::new(alloc);
+    let count = reader.read_to_end(&mut bytes)?;
+    let end = reader.stream_position()?;
     reader.rewind()?;
-    assert_eq!(rt; io::Seek::seek(&mut reader, SeekFrom::Current(1))?, 1);
-    let error = io::Seek::seek(&mut reader, SeekFrom::End(-5)).err();
-    assert_eq!(rt; error.map(|e| e.kind()), Some(ErrorKind::InvalidInput));
+    Ok(count == 4 && bytes.as_slice() == b"abcd".as_slice() && end == 4)
+}
+
+fn is_refused(sought: io::Result<u64>) -> bool {
+    match sought {
+        Ok(_) => false,
+        Err(error) => error.kind() == ErrorKind::InvalidInput,
+    }
+}
+
+/// Whether std's seeks, from the start, go where they are told to, and not before the start.
+fn seeks(reader: &mut ZBytesReader<'_>) -> io::Result<bool> {
+    let first = io::Seek::seek(reader, SeekFrom::Current(1))?;
+    let refused = is_refused(io::Seek::seek(reader, SeekFrom::End(-5)));
     reader.seek_relative(-1)?;
-    assert!(rt; reader.seek_relative(-1).is_err());
+    let before = reader.seek_relative(-1).is_err();
     reader.seek_relative(1)?;
+    Ok(first == 1 && refused && before)
+}
+
+fn reads_exactly(reader: &mut ZBytesReader<'_>) -> io::Result<bool> {
     let mut three = [0; 3];
     reader.read_exact(&mut three)?;
-    assert_eq!(rt; three, *b"bcd");
-    Ok(())
+    Ok(three == *b"bcd")
+}
+
+fn goes_by_std(alloc: Global) -> io::Result<bool> {
+    let value = written_by_std(alloc)?;
+    let mut reader = value.reader();
+    let all = reads_to_end(alloc, &mut reader)?;
+    let sought = seeks(&mut reader)?;
+    let exact = reads_exactly(&mut reader)?;
+    Ok(all && sought && exact)
 }
 
 #[test]
-fn sources(rt: HostRuntime) -> Result<(), Fail> {
-    let table = [
-        (1, 4, 9, Ok("abc")),
-        (1, 3, 9, Err(ReadError::OutOfTurns)),
-        (2, 3, 9, Ok("abc")),
-        (2, 2, 9, Err(ReadError::OutOfTurns)),
-        (3, 2, 9, Ok("abc")),
-        (3, 0, 9, Err(ReadError::OutOfTurns)),
-        (1, 9, 3, Err(ReadError::ReadFault)),
-    ];
-    for (cut, turns, fail, want) in table {
-        let fails = [fail].to_vec(rt.alloc())?;
-        let mut source = MemorySource::new(b"abc".to_vec(rt.alloc())?, cut, fails);
-        let read = from_reader(rt.alloc(), &mut source, turns);
-        match want {
-            Ok(text) => assert!(rt; read? == ZBytes::from_str(rt.alloc(), text)?),
-            Err(error) => assert_eq!(rt; read.err(), Some(error)),
-        }
+fn std_traits(rt: HostRuntime) {
+    assert!(rt; goes_by_std(rt.alloc()).expect(&rt, "memory"));
+}
+
+/// A source of `abc` in pieces of `cut` bytes, a read of which fails, the turns of the reading, and what it comes to.
+struct Reading {
+    cut: usize,
+    turns: u64,
+    fail: u64,
+    want: Result<(), ReadError>,
+}
+
+const READINGS: [Reading; 7] = [
+    Reading {
+        cut: 1,
+        turns: 4,
+        fail: 9,
+        want: Ok(()),
+    },
+    Reading {
+        cut: 1,
+        turns: 3,
+        fail: 9,
+        want: Err(ReadError::OutOfTurns),
+    },
+    Reading {
+        cut: 2,
+        turns: 3,
+        fail: 9,
+        want: Ok(()),
+    },
+    Reading {
+        cut: 2,
+        turns: 2,
+        fail: 9,
+        want: Err(ReadError::OutOfTurns),
+    },
+    Reading {
+        cut: 3,
+        turns: 2,
+        fail: 9,
+        want: Ok(()),
+    },
+    Reading {
+        cut: 3,
+        turns: 0,
+        fail: 9,
+        want: Err(ReadError::OutOfTurns),
+    },
+    Reading {
+        cut: 1,
+        turns: 9,
+        fail: 3,
+        want: Err(ReadError::ReadFault),
+    },
+];
+
+fn source(alloc: Global, reading: &Reading) -> Result<MemorySource, AllocError> {
+    let bytes = b"abc".to_vec(alloc)?;
+    let fails = [reading.fail].to_vec(alloc)?;
+    let cut = if reading.cut == 0 { 1 } else { reading.cut };
+    Ok(MemorySource::new(bytes, cut, fails))
+}
+
+/// Reads a source to its end, and answers whether it gave `abc`.
+fn reads_abc(alloc: Global, reading: &Reading) -> Result<bool, ReadError> {
+    let mut source = source(alloc, reading)?;
+    let read = from_reader(alloc, &mut source, reading.turns)?;
+    Ok(has_bytes(alloc, &read, b"abc")?)
+}
+
+fn comes_as_told(alloc: Global, reading: &Reading) -> bool {
+    match reads_abc(alloc, reading) {
+        Ok(whole) => whole && reading.want.is_ok(),
+        Err(error) => reading.want == Err(error),
     }
-    Ok(())
+}
+
+fn is_steady(alloc: Global) -> Result<bool, ReadError> {
+    let mut source = SteadySource::new(b"abc".to_vec(alloc)?);
+    let read = from_reader(alloc, &mut source, 4)?;
+    Ok(has_bytes(alloc, &read, b"abc")?)
+}
+
+#[test]
+fn sources(rt: HostRuntime) {
+    for reading in &READINGS {
+        assert!(rt; comes_as_told(rt.alloc(), reading));
+    }
+    assert_eq!(rt; is_steady(rt.alloc()), Ok(true));
 }
 
 /// Values of the type may go to another thread, and be used by several.
 fn goes_to_threads<T: Send + Sync>(_value: &T) {}
 
 #[test]
-fn threads(rt: HostRuntime) -> Result<(), Fail> {
+fn threads(rt: HostRuntime) {
     goes_to_threads(&ZBytes::new());
     goes_to_threads(&ZBytes::writer(rt.alloc()));
-    goes_to_threads(&Text::of(rt.alloc(), "a")?);
-    Ok(())
+    goes_to_threads(&Text::fixed("a"));
 }

@@ -1,7 +1,7 @@
 //! The worked examples, and each public call once with memory at hand.
 
 use std::alloc::{AllocError, Global};
-use std::test::Fail;
+use zs_bytes::ReadError;
 use zs_keys::SteadySource;
 use zs_wire::{
     Answered, Body, CongestionControl, ConsolidationMode, EntityGlobalId, Mapping, Message,
@@ -37,16 +37,22 @@ const TEXTS: [(&str, &str, &str); 12] = [
     ("å=ö;", "å=ö", "å:ö,"),
 ];
 
+fn is_read_as(alloc: Global, text: &str, kept: &str, pairs: &str) -> Result<bool, AllocError> {
+    let parameters = Parameters::of(text);
+    let found = shown(alloc, &parameters)?;
+    Ok(
+        parameters.as_str() == kept
+            && parameters.is_empty() == kept.is_empty()
+            && found.as_str() == pairs,
+    )
+}
+
 #[test]
-fn parameter_texts(rt: HostRuntime) -> Result<(), Fail> {
+fn parameter_texts(rt: HostRuntime) {
     for (text, kept, pairs) in &TEXTS {
-        let parameters = Parameters::of(text);
-        assert_eq!(rt; parameters.as_str(), *kept);
-        assert_eq!(rt; parameters.is_empty(), kept.is_empty());
-        let found = shown(rt.alloc(), &parameters)?;
-        assert_eq!(rt; found.as_str(), *pairs);
+        let holds = is_read_as(rt.alloc(), text, kept, pairs);
+        assert_eq!(rt; holds, Ok(true), "{text}");
     }
-    Ok(())
 }
 
 /// A text, a name and a value, the text once they are inserted, and once the name is removed from the first text.
@@ -59,77 +65,161 @@ const CHANGES: [(&str, &str, &str, &str, &str); 6] = [
     ("", "a", "b=c", "a=b=c", ""),
 ];
 
+fn inserts(
+    alloc: Global,
+    text: &str,
+    name: &str,
+    value: &str,
+    longer: &str,
+) -> Result<bool, AllocError> {
+    let mut parameters = Parameters::of(text);
+    parameters.insert(alloc, name, value)?;
+    Ok(parameters.as_str() == longer)
+}
+
+fn removes(alloc: Global, text: &str, name: &str, shorter: &str) -> Result<bool, AllocError> {
+    let mut parameters = Parameters::of(text);
+    let found = parameters.contains_key(name);
+    let removed = parameters.remove(alloc, name)?;
+    Ok(removed == found && parameters.as_str() == shorter && !parameters.contains_key(name))
+}
+
 #[test]
-fn changed_texts(rt: HostRuntime) -> Result<(), Fail> {
+fn changed_texts(rt: HostRuntime) {
     for (text, name, value, longer, shorter) in &CHANGES {
-        let mut inserted = Parameters::of(text);
-        inserted.insert(rt.alloc(), name, value)?;
-        assert_eq!(rt; inserted.as_str(), *longer);
-        let mut removed = Parameters::of(text);
-        let found = removed.contains_key(name);
-        assert_eq!(rt; removed.remove(rt.alloc(), name)?, found);
-        assert_eq!(rt; removed.as_str(), *shorter);
-        assert!(rt; !removed.contains_key(name));
+        let inserted = inserts(rt.alloc(), text, name, value, longer);
+        assert_eq!(rt; inserted, Ok(true), "{text} and {name}");
+        let removed = removes(rt.alloc(), text, name, shorter);
+        assert_eq!(rt; removed, Ok(true), "{text} without {name}");
     }
-    Ok(())
 }
 
+/// What is done with parameters, and what has to be found.
+enum Act {
+    Get(&'static str, Option<&'static str>),
+    Insert(&'static str, &'static str),
+    Remove(&'static str, bool),
+    TimeRange(Option<&'static str>),
+    SetTimeRange(Option<&'static str>),
+    AnyKey(bool),
+    SetAnyKey,
+    Text(&'static str),
+}
+
+fn changes(alloc: Global, parameters: &mut Parameters<'_>, act: &Act) -> Result<bool, AllocError> {
+    match act {
+        Act::Insert(name, value) => parameters.insert(alloc, name, value)?,
+        Act::SetTimeRange(range) => parameters.set_time_range(alloc, *range)?,
+        Act::SetAnyKey => parameters.set_reply_key_expr_any(alloc)?,
+        Act::Remove(name, was) => return Ok(parameters.remove(alloc, name)? == *was),
+        _ => return Ok(finds(parameters, act)),
+    }
+    Ok(true)
+}
+
+/// The steps that change nothing.
+fn finds(parameters: &Parameters<'_>, act: &Act) -> bool {
+    match act {
+        Act::Get(name, value) => parameters.get(name) == *value,
+        Act::TimeRange(range) => parameters.time_range() == *range,
+        Act::AnyKey(any) => parameters.reply_key_expr_any() == *any,
+        Act::Text(text) => parameters.as_str() == *text,
+        _ => false,
+    }
+}
+
+/// The place of the first step that doesn't find what it has to find.
+fn first_wrong(alloc: Global, parameters: &mut Parameters<'_>, script: &[Act]) -> Option<usize> {
+    for at in 0..script.len() {
+        if changes(alloc, parameters, &script[at]) != Ok(true) {
+            return Some(at);
+        }
+    }
+    None
+}
+
+const REPEATED_NAME: [Act; 4] = [
+    Act::Get("x", Some("1")),
+    Act::Insert("x", "3"),
+    Act::Text("y;x=3"),
+    Act::Remove("z", false),
+];
+
 #[test]
-fn repeated_name(rt: HostRuntime) -> Result<(), Fail> {
+fn repeated_name(rt: HostRuntime) {
     let mut parameters = Parameters::of("x=1;y;x=2");
-    assert_eq!(rt; parameters.get("x").ok_or("x")?, "1");
-    parameters.insert(rt.alloc(), "x", "3")?;
-    assert_eq!(rt; parameters.as_str(), "y;x=3");
-    assert!(rt; !parameters.remove(rt.alloc(), "z")?);
-    Ok(())
+    let wrong = first_wrong(rt.alloc(), &mut parameters, &REPEATED_NAME);
+    assert_eq!(rt; wrong, None);
 }
 
-#[test]
-fn zenoh_parameters(rt: HostRuntime) -> Result<(), Fail> {
-    let mut parameters = Parameters::of("_timetrick;_time=[..]");
-    assert_eq!(rt; parameters.get("_timetrick").ok_or("_timetrick")?, "");
-    assert_eq!(rt; parameters.time_range().ok_or("_time")?, "[..]");
-    assert!(rt; !parameters.reply_key_expr_any());
-    parameters.set_time_range(rt.alloc(), Some("[now(-2s)..now(2s)]"))?;
-    parameters.insert(rt.alloc(), "_filter", "")?;
-    parameters.set_reply_key_expr_any(rt.alloc())?;
-    assert_eq!(rt;
-        parameters.as_str(),
-        "_timetrick;_time=[now(-2s)..now(2s)];_filter;_anyke"
-    );
-    assert!(rt; parameters.reply_key_expr_any());
-    assert!(rt; parameters.remove(rt.alloc(), "_filter")?);
+const ZENOH_PARAMETERS: [Act; 9] = [
+    Act::Get("_timetrick", Some("")),
+    Act::TimeRange(Some("[..]")),
+    Act::AnyKey(false),
+    Act::SetTimeRange(Some("[now(-2s)..now(2s)]")),
+    Act::Insert("_filter", ""),
+    Act::SetAnyKey,
+    Act::Text("_timetrick;_time=[now(-2s)..now(2s)];_filter;_anyke"),
+    Act::AnyKey(true),
+    Act::Remove("_filter", true),
+];
+
+const NO_TIME_RANGE: [Act; 3] = [
+    Act::Text("_timetrick;_time=[now(-2s)..now(2s)];_anyke"),
+    Act::SetTimeRange(None),
+    Act::TimeRange(None),
+];
+
+/// Whether no parameters, extended by these, are the same.
+fn extends(alloc: Global, parameters: &Parameters<'_>) -> Result<bool, AllocError> {
     let mut extended = Parameters::of("");
-    extended.extend(rt.alloc(), &parameters)?;
-    assert_eq!(rt;
-        extended.as_str(),
-        "_timetrick;_time=[now(-2s)..now(2s)];_anyke"
-    );
-    assert!(rt; extended == parameters);
-    parameters.set_time_range(rt.alloc(), None)?;
-    assert!(rt; parameters.time_range().is_none());
-    Ok(())
+    extended.extend(alloc, parameters)?;
+    Ok(extended == *parameters)
 }
 
 #[test]
-fn owned_parameters(rt: HostRuntime) -> Result<(), Fail> {
+fn zenoh_parameters(rt: HostRuntime) {
+    let alloc = rt.alloc();
+    let mut parameters = Parameters::of("_timetrick;_time=[..]");
+    let wrong = first_wrong(alloc, &mut parameters, &ZENOH_PARAMETERS);
+    assert_eq!(rt; wrong, None);
+    assert_eq!(rt; extends(alloc, &parameters), Ok(true));
+    let wrong = first_wrong(alloc, &mut parameters, &NO_TIME_RANGE);
+    assert_eq!(rt; wrong, None);
+}
+
+fn are_printed_as(
+    alloc: Global,
+    parameters: &Parameters<'_>,
+    text: &str,
+) -> Result<bool, AllocError> {
+    let printed = format!(in alloc; "{parameters}")?;
+    Ok(printed.as_str() == text)
+}
+
+fn are_owned(alloc: Global) -> Result<bool, AllocError> {
     let parameters = Parameters::of("x=1;");
-    let lent = format!(in rt.alloc(); "{}", parameters.borrowing_clone())?;
-    assert_eq!(rt; lent.as_str(), "x=1");
-    let owned = parameters.into_owned(rt.alloc())?;
-    let text = format!(in rt.alloc(); "{owned}")?;
-    assert_eq!(rt; text.as_str(), "x=1");
-    Ok(())
+    let lent = are_printed_as(alloc, &parameters.borrowing_clone(), "x=1")?;
+    let owned = parameters.into_owned(alloc)?;
+    Ok(lent && are_printed_as(alloc, &owned, "x=1")?)
 }
 
 #[test]
-fn sample_kinds(rt: HostRuntime) -> Result<(), Fail> {
+fn owned_parameters(rt: HostRuntime) {
+    assert_eq!(rt; are_owned(rt.alloc()), Ok(true));
+}
+
+fn kinds_are_printed(alloc: Global) -> Result<bool, AllocError> {
+    let text = format!(in alloc; "{} {}", SampleKind::Put, SampleKind::Delete)?;
+    Ok(text.as_str() == "PUT DELETE")
+}
+
+#[test]
+fn sample_kinds(rt: HostRuntime) {
     assert_eq!(rt; SampleKind::try_from(0), Ok(SampleKind::Put));
     assert_eq!(rt; SampleKind::try_from(1), Ok(SampleKind::Delete));
     assert_eq!(rt; SampleKind::try_from(2), Err(2));
-    let text = format!(in rt.alloc(); "{} {}", SampleKind::Put, SampleKind::Delete)?;
-    assert_eq!(rt; text.as_str(), "PUT DELETE");
-    Ok(())
+    assert_eq!(rt; kinds_are_printed(rt.alloc()), Ok(true));
 }
 
 #[test]
@@ -148,27 +238,19 @@ fn defaults(rt: HostRuntime) {
     assert_eq!(rt; ConsolidationMode::default(), ConsolidationMode::Auto);
 }
 
-/// Whether the copy of a message shows the same fields.
-fn copies_all(alloc: Global, message: &Message) -> Result<bool, AllocError> {
-    let copy = message.try_clone(alloc)?;
-    let shown = format!(in alloc; "{message:?}")?;
-    let copied = format!(in alloc; "{copy:?}")?;
-    Ok(shown.as_str() == copied.as_str())
-}
-
 fn key(alloc: Global, scope: u16, suffix: &str) -> Result<WireExpr, AllocError> {
+    let suffix = Text::of(alloc, suffix)?;
     Ok(WireExpr {
         scope,
-        suffix: Text::of(alloc, suffix)?,
+        suffix,
         mapping: Mapping::Receiver,
     })
 }
 
 fn value(alloc: Global, payload: &str) -> Result<Value, AllocError> {
-    Ok(Value {
-        payload: ZBytes::from_str(alloc, payload)?,
-        encoding: Text::of(alloc, "zenoh/string")?,
-    })
+    let payload = ZBytes::from_str(alloc, payload)?;
+    let encoding = Text::of(alloc, "zenoh/string")?;
+    Ok(Value { payload, encoding })
 }
 
 const QOS: QoSType = QoSType {
@@ -184,17 +266,6 @@ const SOURCE: SourceInfo = SourceInfo {
     source_sn: 9,
 };
 
-fn body(alloc: Global) -> Result<Body, AllocError> {
-    Ok(Body {
-        kind: SampleKind::Put,
-        payload: ZBytes::from_str(alloc, "ab")?,
-        encoding: Text::of(alloc, "text/plain")?,
-        timestamp: Some(Timestamp { time: 5, id: 6 }),
-        source: Some(SOURCE),
-        attachment: Some(ZBytes::from_str(alloc, "c")?),
-    })
-}
-
 #[test]
 fn sources(rt: HostRuntime) {
     let source = SourceInfo::new(ENTITY, 9);
@@ -203,63 +274,149 @@ fn sources(rt: HostRuntime) {
     assert_eq!(rt; source.source_sn(), 9);
 }
 
-#[test]
-fn copied_data(rt: HostRuntime) -> Result<(), Fail> {
-    let push = Push {
-        wire: key(rt.alloc(), 1, "/a")?,
-        body: body(rt.alloc())?,
+fn body(alloc: Global) -> Result<Body, AllocError> {
+    let payload = ZBytes::from_str(alloc, "ab")?;
+    let encoding = Text::of(alloc, "text/plain")?;
+    let attachment = ZBytes::from_str(alloc, "c")?;
+    Ok(Body {
+        kind: SampleKind::Put,
+        payload,
+        encoding,
+        timestamp: Some(Timestamp { time: 5, id: 6 }),
+        source: Some(SOURCE),
+        attachment: Some(attachment),
+    })
+}
+
+fn push(alloc: Global) -> Result<Message, AllocError> {
+    let wire = key(alloc, 1, "/a")?;
+    let body = body(alloc)?;
+    Ok(Message::Push(Push {
+        wire,
+        body,
         qos: QOS,
         reliable: true,
-    };
-    assert!(rt; copies_all(rt.alloc(), &Message::Push(push))?);
-    let request = Request {
+    }))
+}
+
+fn request(alloc: Global) -> Result<Message, AllocError> {
+    let wire = key(alloc, 0, "a/*")?;
+    let parameters = Text::of(alloc, "x=1")?;
+    let value = value(alloc, "why")?;
+    let attachment = ZBytes::from_str(alloc, "d")?;
+    Ok(Message::Request(Request {
         rid: 4,
-        wire: key(rt.alloc(), 0, "a/*")?,
-        parameters: Text::of(rt.alloc(), "x=1")?,
+        wire,
+        parameters,
         target: QueryTarget::AllComplete,
         consolidation: ConsolidationMode::Monotonic,
         timeout: 10,
-        value: Some(value(rt.alloc(), "why")?),
+        value: Some(value),
         qos: QOS,
         source: Some(SOURCE),
-        attachment: Some(ZBytes::from_str(rt.alloc(), "d")?),
-    };
-    assert!(rt; copies_all(rt.alloc(), &Message::Request(request))?);
-    let response = Response {
+        attachment: Some(attachment),
+    }))
+}
+
+fn response(alloc: Global) -> Result<Message, AllocError> {
+    let wire = key(alloc, 0, "a/b")?;
+    let value = value(alloc, "no")?;
+    Ok(Message::Response(Response {
         rid: 4,
-        wire: key(rt.alloc(), 0, "a/b")?,
-        answered: Answered::Err(value(rt.alloc(), "no")?),
+        wire,
+        answered: Answered::Err(value),
         qos: QOS,
         responder: Some(ENTITY),
-    };
-    assert!(rt; copies_all(rt.alloc(), &Message::Response(response))?);
-    Ok(())
+    }))
 }
 
-#[test]
-fn copied_declarations(rt: HostRuntime) -> Result<(), Fail> {
-    let wire = Some(key(rt.alloc(), 3, "k")?);
-    let token = Message::UndeclareToken {
+fn token_end(alloc: Global) -> Result<Message, AllocError> {
+    let wire = key(alloc, 3, "k")?;
+    Ok(Message::UndeclareToken {
         id: 5,
-        wire,
+        wire: Some(wire),
         interest: Some(6),
-    };
-    assert!(rt; copies_all(rt.alloc(), &token)?);
-    let queryable = Message::DeclareQueryable {
+    })
+}
+
+fn queryable(alloc: Global) -> Result<Message, AllocError> {
+    let wire = key(alloc, 0, "k")?;
+    Ok(Message::DeclareQueryable {
         id: 5,
         complete: true,
-        wire: key(rt.alloc(), 0, "k")?,
-    };
-    assert!(rt; copies_all(rt.alloc(), &queryable)?);
-    assert!(rt; copies_all(rt.alloc(), &Message::DeclareFinal { interest: Some(6) })?);
-    assert!(rt; copies_all(rt.alloc(), &Message::Close)?);
-    Ok(())
+        wire,
+    })
+}
+
+/// The kinds of the messages that are copied.
+enum Kind {
+    Push,
+    Request,
+    Response,
+    TokenEnd,
+    Queryable,
+    Final,
+    Close,
+}
+
+const KINDS: [Kind; 7] = [
+    Kind::Push,
+    Kind::Request,
+    Kind::Response,
+    Kind::TokenEnd,
+    Kind::Queryable,
+    Kind::Final,
+    Kind::Close,
+];
+
+fn message(alloc: Global, kind: &Kind) -> Result<Message, AllocError> {
+    match kind {
+        Kind::Push => push(alloc),
+        Kind::Request => request(alloc),
+        Kind::Response => response(alloc),
+        Kind::TokenEnd => token_end(alloc),
+        Kind::Queryable => queryable(alloc),
+        Kind::Final => Ok(Message::DeclareFinal { interest: Some(6) }),
+        Kind::Close => Ok(Message::Close),
+    }
+}
+
+/// The fields of a message as they are printed.
+fn fields(alloc: Global, message: &Message) -> Result<String, AllocError> {
+    format!(in alloc; "{message:?}")
+}
+
+/// Whether the copy of a message shows the same fields.
+fn copies_all(alloc: Global, message: &Message) -> Result<bool, AllocError> {
+    let copy = message.try_clone(alloc)?;
+    let copied = fields(alloc, &copy)?;
+    drop(copy);
+    let shown = fields(alloc, message)?;
+    Ok(shown.as_str() == copied.as_str())
+}
+
+fn is_copied(alloc: Global, kind: &Kind) -> Result<bool, AllocError> {
+    let message = message(alloc, kind)?;
+    let answer = copies_all(alloc, &message);
+    drop(message);
+    answer
 }
 
 #[test]
-fn read_payload(rt: HostRuntime) -> Result<(), Fail> {
-    let bytes = b"abc".to_vec(rt.alloc())?;
-    let payload = from_reader(rt.alloc(), &mut SteadySource::new(bytes), 4)?;
-    assert!(rt; payload == ZBytes::from_str(rt.alloc(), "abc")?);
-    Ok(())
+fn copied_messages(rt: HostRuntime) {
+    for kind in &KINDS {
+        assert_eq!(rt; is_copied(rt.alloc(), kind), Ok(true));
+    }
+}
+
+fn reads_a_payload(alloc: Global) -> Result<bool, ReadError> {
+    let bytes = b"abc".to_vec(alloc)?;
+    let payload = from_reader(alloc, &mut SteadySource::new(bytes), 4)?;
+    let expected = ZBytes::from_str(alloc, "abc")?;
+    Ok(payload == expected)
+}
+
+#[test]
+fn read_payload(rt: HostRuntime) {
+    assert_eq!(rt; reads_a_payload(rt.alloc()), Ok(true));
 }

@@ -1,0 +1,24 @@
+//! Tests of the tables, of queries and of trees of keys by their public calls. They stand apart, so that no crate is
+//! proved twice for its tests.
+#![tactic(auto)]
+
+#[cfg(test)]
+mod gets;
+#[cfg(test)]
+mod groups;
+#[cfg(test)]
+mod liveliness;
+#[cfg(test)]
+mod matching;
+#[cfg(test)]
+mod queryables;
+#[cfg(test)]
+mod requests;
+#[cfg(test)]
+mod script;
+#[cfg(test)]
+mod tables;
+#[cfg(test)]
+mod told;
+#[cfg(test)]
+mod tree;
