@@ -28,7 +28,7 @@ use Rattle.zs_event_lines.proofs.LineTexts.{words_are_plain, line-says}
 use Rattle.zs_event_lines.proofs.MessagesBack.{IsMessageBack, message-back}
 
 -- the words of a line are plain, and where all of it can be said, its fields are read as this event
-abbrev IsBack : Option Line → Event → Type 0
+abbrev pub IsBack : Option Line → Event → Type 0
 IsBack None event = Unit {0}
 IsBack (Some line) event =
     (is_plain line.word ≡ true) × ((words_are_plain line.slots ≡ true)
@@ -115,7 +115,7 @@ net-back : (slots : Option (List Slot)) (message : Message) → IsMessageBack sl
 net-back None message h = tt
 net-back (Some slots) message h = (refl, (h.0, λ s t. ap (λ found. option_map Core (option_map Net found)) (h.1 s t)))
 
-event-back : (event : Event) → IsBack (line_of event) (gathered_event event)
+pub event-back : (event : Event) → IsBack (line_of event) (gathered_event event)
 unfolding undeclare_of kept
 event-back (Key k) = (refl, (refl, λ s t. ap (option_map Core) (form-back key_parts Key (k, tt) refl s t)))
 event-back (UndeclareKey k) = (refl, (refl, λ s t. ap (option_map Core) (form-back key_parts UndeclareKey (k, tt) refl s t)))

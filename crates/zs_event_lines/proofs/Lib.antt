@@ -9,6 +9,7 @@ pub mod LineTexts
 pub mod MessagesBack
 pub mod EventsBack
 pub mod PrintedTexts
+pub mod OneLine
 pub mod ReadSymbols
 pub mod ReadParts
 pub mod ReadForms

@@ -27,7 +27,7 @@ tabs-row : (parts : List (List ℕ)) → tabs parts ≡ row parts
 tabs-row [] = refl
 tabs-row (field ∷ parts) = tabs-front field parts ∙ ap (λ (text : List ℕ). 9 ∷ (field ++ text)) (tabs-row parts)
 
-slots-row : (slots : List Slot) → slots_text slots ≡ row (slots_fields slots)
+pub slots-row : (slots : List Slot) → slots_text slots ≡ row (slots_fields slots)
 unfolding slot_text
 slots-row [] = refl
 slots-row (slot ∷ slots) =
@@ -47,7 +47,7 @@ slot-plain : (slot : Slot) → slot_word slot ≡ true → slots_say (slot ∷ [
 slot-plain (at part v) h s = plain part v (and_parts (says part v) true s).0
 slot-plain (said text) h s = and_from _ _ h refl
 
-slots-plain : (slots : List Slot) → words_are_plain slots ≡ true → slots_say slots ≡ true → list_all is_plain (slots_fields slots) ≡ true
+pub slots-plain : (slots : List Slot) → words_are_plain slots ≡ true → slots_say slots ≡ true → list_all is_plain (slots_fields slots) ≡ true
 slots-plain [] h s = refl
 slots-plain (slot ∷ slots) h s =
     let words = and_parts (slot_word slot) _ h in

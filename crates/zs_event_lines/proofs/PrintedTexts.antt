@@ -10,7 +10,7 @@ use Rattle.zs_event_lines.specs.Lines.{line_of, gathered_event}
 use Rattle.zs_event_lines.specs.Laws.{are_typed}
 use Rattle.zs_event_lines.proofs.EventsBack.{printed-events}
 
-printed-text : (o : Option (List ℕ)) (bytes : List ℕ) → IsPrinted o true [] bytes → Some bytes ≡ o
+pub printed-text : (o : Option (List ℕ)) (bytes : List ℕ) → IsPrinted o true [] bytes → Some bytes ≡ o
 printed-text None bytes h = cc
 printed-text (Some text) bytes h = ap Some h.1
 

@@ -18,6 +18,10 @@ abbrev pub PrintedEventsAreRead : Type 0
 PrintedEventsAreRead = (event : Event) (text : List ℕ) → printed (line_of event) ≡ Some text → is_utf8 text ≡ true
     → are_typed (line_of event) ≡ true → event_of text ≡ Some (Core (gathered_event event))
 
+-- the text of an event's line has no line feed
+abbrev pub PrintedEventsAreLines : Type 0
+PrintedEventsAreLines = (event : Event) (text : List ℕ) → printed (line_of event) ≡ Some text → has_no_line_feed text ≡ true
+
 -- a line all of which can be said, and as the types of its values say
 abbrev pub IsSayableLine : Option Line → Type 0
 IsSayableLine None = ⊥

@@ -4,16 +4,22 @@ ghost use Rattle.std.specs.Prelude.{◌≡◌, true, Some, IfOk, IfSome, option_
 ghost use Rattle.std.specs.String.{string_bytes};
 ghost use Rattle.zs_events.specs.declared.script_event.ScriptEvent.TheVariants.{Core};
 ghost use Rattle.zs_script.specs.Grammar.{event_of};
+ghost use Rattle.zs_script.specs.Plain.{has_no_line_feed};
 ghost use Rattle.zs_event_lines.specs.Slots.{printed, IsPrinted};
 ghost use Rattle.zs_event_lines.specs.Lines.{line_of, gathered_event};
+ghost use Rattle.zs_event_lines.specs.Exchanges.{is_exchange};
 ghost use Rattle.zs_event_lines.specs.Laws.{are_typed};
 
+use crate::declarations::{
+    append_lsub, append_parent, append_queryable, append_sub, append_undeclare,
+};
 use crate::lines::append_line;
 use crate::messages::append_net;
 use crate::publications::{append_publish, append_publish_by, append_publisher, append_reply};
-use crate::queries::{append_get, append_liveliness_get, append_querier, append_querier_get};
+use crate::queries::{
+    append_get, append_liveliness_get, append_querier, append_querier_get, append_reply_error,
+};
 use crate::shown::Shown;
-use crate::words::entity_word;
 use std::alloc::{AllocError, Global};
 use zs_events::Event;
 
@@ -26,6 +32,7 @@ use zs_events::Event;
 /// The line is read as the event, with the bytes of each payload in one slice.
 pub fn print_event(alloc: Global, event: &Event) -> Result<Option<String>, AllocError>
     ensures line { IfOk result (λ found. option_map string_bytes found ≡ printed (line_of event.now)) }
+    ensures one { IfOk result (λ found. IfSome found (λ text. has_no_line_feed (string_bytes text) ≡ true)) }
     ensures read { are_typed (line_of event.now) ≡ true
         → IfOk result (λ found. IfSome found (λ text. event_of (string_bytes text) ≡ Some (Core (gathered_event event.now)))) }
 {
@@ -48,56 +55,41 @@ pub fn append_event(out: &mut String, event: &Event) -> Result<bool, AllocError>
             "undeclare",
             &[Shown::Said("key"), Shown::Key(key)],
         ),
-        Event::Sub { origin, key, to } => append_line(
-            out,
-            "sub",
-            &[
-                Shown::Locality(*origin),
-                Shown::Key(key),
-                Shown::Channel(*to),
-            ],
-        ),
+        Event::Sub { origin, key, to } => append_sub(out, *origin, key, *to),
         Event::Pub { key, settings } => append_publisher(out, key, settings),
         Event::Queryable {
             origin,
             complete,
             key,
-        } => append_line(
-            out,
-            "queryable",
-            &[
-                Shown::Locality(*origin),
-                Shown::Complete(*complete),
-                Shown::Key(key),
-            ],
-        ),
+        } => append_queryable(out, *origin, *complete, key),
         Event::Querier { key, settings } => append_querier(out, key, settings),
-        Event::Listen { parent, id } => append_line(
-            out,
-            "listen",
-            &[Shown::Parent(*parent), Shown::Number(*id)],
-        ),
-        Event::Status { parent, id } => append_line(
-            out,
-            "status",
-            &[Shown::Parent(*parent), Shown::Number(*id)],
-        ),
+        Event::Listen { parent, id } => append_parent(out, "listen", *parent, *id),
+        Event::Status { parent, id } => append_parent(out, "status", *parent, *id),
         Event::Token { key } => append_line(out, "token", &[Shown::Key(key)]),
-        Event::Lsub { history, key } => append_line(
-            out,
-            "lsub",
-            &[Shown::History(*history), Shown::Key(key)],
-        ),
-        Event::Undeclare { kind, id } => append_line(
-            out,
-            "undeclare",
-            &[Shown::Said(entity_word(*kind)), Shown::Number(*id)],
-        ),
+        Event::Lsub { history, key } => append_lsub(out, *history, key),
+        Event::Undeclare { kind, id } => append_undeclare(out, *kind, *id),
         Event::Background { kind, id } => append_line(
             out,
             "background",
             &[Shown::Background(*kind), Shown::Number(*id)],
         ),
+        Event::CancelToken => append_line(out, "ctoken", &[]),
+        Event::Cancel { token } => append_line(out, "cancel", &[Shown::Number(*token)]),
+        Event::Share { value } => append_line(out, "share", &[Shown::Number(*value)]),
+        Event::Finish { value } => append_line(out, "finish", &[Shown::Number(*value)]),
+        Event::Tick { now } => append_line(out, "tick", &[Shown::Moment(*now)]),
+        Event::Close => append_line(out, "close", &[]),
+        Event::Net(message) => append_net(out, message.get()),
+        _ => append_exchange(out, event),
+    }
+}
+
+/// It is `append_event` of an event by which the application says values, asks for them or answers.
+fn append_exchange(out: &mut String, event: &Event) -> Result<bool, AllocError>
+    requires { is_exchange event.now ≡ true }
+    ensures { IfOk result (λ told. IsPrinted (printed (line_of event.now)) told (string_bytes out.old) (string_bytes out.new)) }
+{
+    match event {
         Event::Publish {
             destination,
             key,
@@ -105,8 +97,6 @@ pub fn append_event(out: &mut String, event: &Event) -> Result<bool, AllocError>
             quality,
         } => append_publish(out, *destination, key, update, *quality),
         Event::PublishBy { id, update } => append_publish_by(out, *id, update),
-        Event::CancelToken => append_line(out, "ctoken", &[]),
-        Event::Cancel { token } => append_line(out, "cancel", &[Shown::Number(*token)]),
         Event::Get {
             key,
             settings,
@@ -126,19 +116,7 @@ pub fn append_event(out: &mut String, event: &Event) -> Result<bool, AllocError>
             update,
             quality,
         } => append_reply(out, *value, key, update, *quality),
-        Event::ReplyErr { value, error } => append_line(
-            out,
-            "replyerr",
-            &[
-                Shown::Number(*value),
-                Shown::Payload(&error.get().payload),
-                Shown::Encoding(&error.get().encoding),
-            ],
-        ),
-        Event::Share { value } => append_line(out, "share", &[Shown::Number(*value)]),
-        Event::Finish { value } => append_line(out, "finish", &[Shown::Number(*value)]),
-        Event::Tick { now } => append_line(out, "tick", &[Shown::Moment(*now)]),
-        Event::Close => append_line(out, "close", &[]),
-        Event::Net(message) => append_net(out, message.get()),
+        Event::ReplyErr { value, error } => append_reply_error(out, *value, error),
+        _ => unreachable!(),
     }
 }

@@ -3,6 +3,7 @@
 
 pub use events::{append_event, print_event};
 
+mod declarations;
 mod events;
 mod fields;
 pub mod laws;

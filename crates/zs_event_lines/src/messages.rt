@@ -1,10 +1,12 @@
 //! Lines of messages that come in.
 
-ghost use Rattle.std.specs.Prelude.{◌≡◌, IfOk};
+ghost use Rattle.std.specs.Prelude.{◌≡◌, ◌∷◌, Some, IfOk};
 ghost use Rattle.std.specs.String.{string_bytes};
-ghost use Rattle.zs_wire.specs.declared.message.Message.TheVariants.{Push as push_message, Request as request_message, Response as response_message};
+ghost use Rattle.zs_wire.specs.declared.message.Message.TheVariants.{DeclareKeyExpr, DeclareQueryable, DeclareToken, UndeclareToken, Push as push_message, Request as request_message, Response as response_message};
 ghost use Rattle.zs_wire.specs.declared.response.Answered.TheVariants.{Reply, Err};
-ghost use Rattle.zs_event_lines.specs.Slots.{printed, IsPrinted};
+ghost use Rattle.zs_script.specs.Symbols.{u32_max};
+ghost use Rattle.zs_script.specs.Grammar.{number_parts};
+ghost use Rattle.zs_event_lines.specs.Slots.{said, slots_of, printed, IsPrinted};
 ghost use Rattle.zs_event_lines.specs.Lines.{named_timeout, is_said_body, message_line, answered_line, net_line};
 
 use crate::lines::append_line;
@@ -13,7 +15,9 @@ use crate::words::is_default;
 use std::alloc::AllocError;
 use zs_sample::SampleKind;
 use zs_script::words::sample_word;
-use zs_wire::{Answered, Body, CongestionControl, Message, Push, Request, Response, Value};
+use zs_wire::{
+    Answered, Body, CongestionControl, Message, Push, Request, Response, Value, WireExpr,
+};
 
 /// The line of a message that comes in.
 pub(crate) fn append_net(out: &mut String, message: &Message) -> Result<bool, AllocError>
@@ -21,15 +25,7 @@ pub(crate) fn append_net(out: &mut String, message: &Message) -> Result<bool, Al
         IsPrinted (printed (net_line (message_line message.now))) told (string_bytes out.old) (string_bytes out.new)) }
 {
     match message {
-        Message::DeclareKeyExpr { number, wire } => append_line(
-            out,
-            "net",
-            &[
-                Shown::Said("keyexpr"),
-                Shown::KeyNumber(*number),
-                Shown::Wire(wire),
-            ],
-        ),
+        Message::DeclareKeyExpr { number, wire } => append_key_expr(out, *number, wire),
         Message::UndeclareKeyExpr { number } => append_line(
             out,
             "net",
@@ -40,46 +36,13 @@ pub(crate) fn append_net(out: &mut String, message: &Message) -> Result<bool, Al
             "net",
             &[Shown::Said("sub"), Shown::Number(*id), Shown::Wire(wire)],
         ),
-        Message::UndeclareSubscriber { id } => append_line(
-            out,
-            "net",
-            &[Shown::Said("unsub"), Shown::Number(*id)],
-        ),
-        Message::DeclareQueryable { id, complete, wire } => append_line(
-            out,
-            "net",
-            &[
-                Shown::Said("queryable"),
-                Shown::Number(*id),
-                Shown::Complete(*complete),
-                Shown::Wire(wire),
-            ],
-        ),
-        Message::UndeclareQueryable { id } => append_line(
-            out,
-            "net",
-            &[Shown::Said("unqueryable"), Shown::Number(*id)],
-        ),
-        Message::DeclareToken { id, wire, interest } => append_line(
-            out,
-            "net",
-            &[
-                Shown::Said("token"),
-                Shown::Number(*id),
-                Shown::Wire(wire),
-                Shown::Interest(*interest),
-            ],
-        ),
-        Message::UndeclareToken { id, wire, interest } => append_line(
-            out,
-            "net",
-            &[
-                Shown::Said("untoken"),
-                Shown::Number(*id),
-                Shown::WireIf(wire),
-                Shown::Interest(*interest),
-            ],
-        ),
+        Message::UndeclareSubscriber { id } => append_number(out, "unsub", *id),
+        Message::DeclareQueryable { id, complete, wire } => {
+            append_queryable(out, *id, *complete, wire)
+        }
+        Message::UndeclareQueryable { id } => append_number(out, "unqueryable", *id),
+        Message::DeclareToken { id, wire, interest } => append_token(out, *id, wire, *interest),
+        Message::UndeclareToken { id, wire, interest } => append_untoken(out, *id, wire, *interest),
         Message::DeclareFinal { interest } => append_line(
             out,
             "net",
@@ -89,13 +52,99 @@ pub(crate) fn append_net(out: &mut String, message: &Message) -> Result<bool, Al
         Message::Push(push) => append_push(out, push),
         Message::Request(request) => append_request(out, request),
         Message::Response(response) => append_response(out, response),
-        Message::ResponseFinal { rid } => append_line(
-            out,
-            "net",
-            &[Shown::Said("responsefinal"), Shown::Number(*rid)],
-        ),
+        Message::ResponseFinal { rid } => append_number(out, "responsefinal", *rid),
         Message::Close => append_line(out, "net", &[Shown::Said("close")]),
     }
+}
+
+/// The line of a message of that name with a number.
+fn append_number(out: &mut String, name: &str, id: u32) -> Result<bool, AllocError>
+    ensures { IfOk result (λ told.
+        IsPrinted (printed (net_line (Some (said name.now ∷ slots_of (number_parts u32_max) (id, tt)))))
+        told (string_bytes out.old) (string_bytes out.new)) }
+{
+    append_line(out, "net", &[Shown::Said(name), Shown::Number(id)])
+}
+
+fn append_key_expr(out: &mut String, number: u16, wire: &WireExpr) -> Result<bool, AllocError>
+    ensures { IfOk result (λ told.
+        IsPrinted (printed (net_line (message_line (DeclareKeyExpr number wire.now)))) told (string_bytes out.old) (string_bytes out.new)) }
+{
+    append_line(
+        out,
+        "net",
+        &[
+            Shown::Said("keyexpr"),
+            Shown::KeyNumber(number),
+            Shown::Wire(wire),
+        ],
+    )
+}
+
+fn append_queryable(
+    out: &mut String,
+    id: u32,
+    complete: bool,
+    wire: &WireExpr,
+) -> Result<bool, AllocError>
+    ensures { IfOk result (λ told.
+        IsPrinted (printed (net_line (message_line (DeclareQueryable id complete wire.now))))
+        told (string_bytes out.old) (string_bytes out.new)) }
+{
+    append_line(
+        out,
+        "net",
+        &[
+            Shown::Said("queryable"),
+            Shown::Number(id),
+            Shown::Complete(complete),
+            Shown::Wire(wire),
+        ],
+    )
+}
+
+fn append_token(
+    out: &mut String,
+    id: u32,
+    wire: &WireExpr,
+    interest: Option<u32>,
+) -> Result<bool, AllocError>
+    ensures { IfOk result (λ told.
+        IsPrinted (printed (net_line (message_line (DeclareToken id wire.now interest))))
+        told (string_bytes out.old) (string_bytes out.new)) }
+{
+    append_line(
+        out,
+        "net",
+        &[
+            Shown::Said("token"),
+            Shown::Number(id),
+            Shown::Wire(wire),
+            Shown::Interest(interest),
+        ],
+    )
+}
+
+fn append_untoken(
+    out: &mut String,
+    id: u32,
+    wire: &Option<WireExpr>,
+    interest: Option<u32>,
+) -> Result<bool, AllocError>
+    ensures { IfOk result (λ told.
+        IsPrinted (printed (net_line (message_line (UndeclareToken id wire.now interest))))
+        told (string_bytes out.old) (string_bytes out.new)) }
+{
+    append_line(
+        out,
+        "net",
+        &[
+            Shown::Said("untoken"),
+            Shown::Number(id),
+            Shown::WireIf(wire),
+            Shown::Interest(interest),
+        ],
+    )
 }
 
 /// Whether lines say such a body.

@@ -2,7 +2,7 @@
 
 ghost use Rattle.std.specs.Prelude.{◌≡◌, IfOk};
 ghost use Rattle.std.specs.String.{string_bytes};
-ghost use Rattle.zs_events.specs.declared.event.Event.TheVariants.{Querier, Get, QuerierGet, LivelinessGet};
+ghost use Rattle.zs_events.specs.declared.event.Event.TheVariants.{Querier, Get, QuerierGet, LivelinessGet, ReplyErr};
 ghost use Rattle.zs_event_lines.specs.Slots.{printed, IsPrinted};
 ghost use Rattle.zs_event_lines.specs.Lines.{line_of};
 
@@ -10,7 +10,7 @@ use crate::lines::append_line;
 use crate::shown::Shown;
 use std::alloc::AllocError;
 use zs_events::{Chan, Inquiry, KeyArg, QuerySettings, Shared};
-use zs_wire::CongestionControl;
+use zs_wire::{CongestionControl, Value};
 
 /// The line that declares a querier.
 pub(crate) fn append_querier(
@@ -115,6 +115,27 @@ pub(crate) fn append_liveliness_get(
             Shown::Timeout(timeout),
             Shown::CancellationToken(cancellation_token),
             Shown::HandedTo(to),
+        ],
+    )
+}
+
+/// The line that answers a query by an error.
+pub(crate) fn append_reply_error(
+    out: &mut String,
+    value: u32,
+    error: &Shared<Value>,
+) -> Result<bool, AllocError>
+    ensures { IfOk result (λ told.
+        IsPrinted (printed (line_of (ReplyErr value error.now))) told (string_bytes out.old) (string_bytes out.new)) }
+{
+    let error = error.get();
+    append_line(
+        out,
+        "replyerr",
+        &[
+            Shown::Number(value),
+            Shown::Payload(&error.payload),
+            Shown::Encoding(&error.encoding),
         ],
     )
 }

@@ -3,3 +3,4 @@ pub mod Recording
 pub mod Replaying
 pub mod Machines
 pub mod Running
+pub mod Laws

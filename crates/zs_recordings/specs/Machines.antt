@@ -1,6 +1,6 @@
 -- What the machines that record and replay stand for.
-use Rattle.std.specs.Prelude.{◌≡◌, ℕ, ◌+◌, ◌<◌, ◌^◌, ◌==◌, Bool, ◌||◌, List, ◌∷◌, ◌++◌, length, Option}
-use Rattle.std.specs.Str.{bytes_eq}
+use Rattle.std.specs.Prelude.{◌≡◌, ℕ, ◌+◌, ◌<◌, ◌^◌, ◌==◌, Bool, true, ◌||◌, List, [], ◌∷◌, ◌++◌, length, Option}
+use Rattle.std.specs.Str.{bytes_eq, is_utf8}
 use Rattle.std.specs.String.{string_bytes}
 use Rattle.zs_driving.specs.Tasks.{Rules}
 use Rattle.zs_driving.specs.Languages.{events_of, rules_of}
@@ -15,18 +15,31 @@ use Rattle.zs_recordings.specs.Replaying.{RecordingLine, Said, Heard, Group, rep
 use Rattle.zs_recordings.specs.declared.recorder.Recorder.{Recorder}
 use Rattle.zs_recordings.specs.declared.replayer.Replayer.{Replayer}
 
--- an event was taken: whatever history the session stood for, what is recorded of it was added, and it stands for that
--- history with the event
+-- an event was taken: whatever history the session stood for, what is recorded of it was added, which is UTF-8 text, and it
+-- stands for that history with the event
 pub record Records (e : Event) (number : ℕ) (old new : World) (before after : List ℕ) : Type 0 where
   pub text : (s : Settings) (h : List Event) → Stands old s h → after ≡ before ++ entry_text number e (effects s h e)
+  pub utf8 : (s : Settings) (h : List Event) → Stands old s h → is_utf8 (entry_text number e (effects s h e)) ≡ true
   pub stands : (s : Settings) (h : List Event) → Stands old s h → Stands new s (e ∷ h)
 
--- it records by these rules, and took these rows, the newest first: each was an event, and the session stands for them
+-- what was put out for rows, the newest first, is UTF-8 text, row by row
+abbrev pub AreRowTexts : Rules → List (List ℕ) → Type 0
+AreRowTexts r [] = Unit {0}
+AreRowTexts r (row ∷ h) = (is_utf8 (r.line_text h row) ≡ true) × AreRowTexts r h
+
+-- and so is what was put out for the end behind them
+pub record AllAreTexts (r : Rules) (h : List (List ℕ)) : Type 0 where
+  pub last : is_utf8 (r.end_text h) ≡ true
+  pub rows : AreRowTexts r h
+
+-- it records by these rules, and took these rows, the newest first: each was an event, the session stands for them, and
+-- what was put out for them is text
 pub record IsBehind (machine : Recorder) (r : Rules) (h : List (List ℕ)) : Type 0 where
   pub settings : Settings
   pub rules : r ≡ rules_of (record_language settings)
   pub each : length (events_of (record_language settings) h) ≡ length h
   pub stands : Stands machine.state settings (events_of (record_language settings) h)
+  pub texts : AreRowTexts r h
 
 -- a replayer stands behind groups: its session for their events, and it knows of them what it is to answer
 pub record Follows (machine : Replayer) (s : Settings) (groups : List Group) : Type 0 where

@@ -1,6 +1,7 @@
 -- The recording of a script.
-use Rattle.std.specs.Prelude.{ℕ, ◌≡◌, ◌+◌, is_some, List, [], ◌∷◌, ◌++◌, length, Option, Result}
+use Rattle.std.specs.Prelude.{ℕ, ◌≡◌, ◌+◌, true, is_some, List, [], ◌∷◌, ◌++◌, length, Option, Result}
 use Rattle.std.specs.List.{filter_map}
+use Rattle.std.specs.Str.{is_utf8}
 use Rattle.zs_keys.specs.Stream.{PutsOn, TakesOff}
 use Rattle.zs_lines.specs.Lines.{lines}
 use Rattle.zs_lines.specs.Reading.{IsSpent}
@@ -24,6 +25,11 @@ recording_after s h (e ∷ es) = entry_text (length h + 1) e (effects s h e) ++ 
 abbrev pub recording : Settings → List Event → List ℕ
 recording s es = recording_after s [] es
 
+-- what is recorded of each of these, behind others, is UTF-8 text
+abbrev pub AreTexts : Settings → List Event → List Event → Type 0
+AreTexts s h [] = Unit {0}
+AreTexts s h (e ∷ es) = (is_utf8 (entry_text (length h + 1) e (effects s h e)) ≡ true) × AreTexts s (e ∷ h) es
+
 -- the events of a script's lines, and the close at its end
 abbrev pub recorded_script : List ℕ → List Event
 recorded_script input = filter_map recorded_of (lines input) ++ Close ∷ []
@@ -41,7 +47,7 @@ abbrev pub record_task : Settings → Task
 record_task s = task_of (λ row. is_some (recorded_of row)) (rules_of (record_language s)) s.line_max s.turns
 
 -- The run came to its end: `input` is what the source gave, which holds nothing now. Each line was an event that can be
--- recorded, and what was put out is the recording of the script.
+-- recorded, and what was put out is the recording of the script, which is text.
 pub record IsRecorded (s : Settings) (left left' : Option (List ℕ)) (Puts : List ℕ → Type 0) (count : ℕ) : Type 0 where
   pub input : List ℕ
   pub output : List ℕ
@@ -50,6 +56,7 @@ pub record IsRecorded (s : Settings) (left left' : Option (List ℕ)) (Puts : Li
   pub good : AreGood (record_task s) (lines input)
   pub sink : Puts output
   pub whole : output ≡ recording s (recorded_script input)
+  pub texts : AreTexts s [] (recorded_script input)
   pub events : count ≡ length (lines input) + 1
 
 -- The source and the sink are as a run leaves them that records, and this is what it answers.

@@ -10,6 +10,7 @@ pub use writing::write_entry;
 mod driving;
 mod entries;
 mod error;
+pub mod laws;
 mod recorder;
 mod replayed;
 mod replayer;

@@ -1,6 +1,7 @@
 //! A session that takes the events of a script and records them.
 
 ghost use Rattle.std.specs.Prelude.{◌≡◌, ℕ, ◌+◌, true, false, is_some, ◌++◌, List, [], ◌∷◌, length, Ok, Some, IsTrue, IfOk, IfSome, OnOk, OnErr};
+ghost use Rattle.std.specs.Str.{is_utf8};
 ghost use Rattle.std.specs.String.{string_bytes};
 ghost use Rattle.zs_driving.specs.Tasks.{Rules};
 ghost use Rattle.zs_driving.specs.Languages.{rules_of};
@@ -9,7 +10,7 @@ ghost use Rattle.zs_core.specs.Settings.{is_valid};
 ghost use Rattle.zs_core.specs.Stands.{Stands};
 ghost use Rattle.zs_recordings.specs.Entries.{event_row, turn_rows, if_printable, if_recorded, recorded_of};
 ghost use Rattle.zs_recordings.specs.Recording.{record_language};
-ghost use Rattle.zs_recordings.specs.Machines.{Records, IsBehind};
+ghost use Rattle.zs_recordings.specs.Machines.{Records, IsBehind, AllAreTexts};
 
 use crate::entries::{append_event_row, append_turn_rows};
 use std::alloc::{AllocError, Global};
@@ -142,6 +143,7 @@ fn add_turn(
     turn: &Turn,
 ) -> Result<(), AllocError>
     ensures ok { OnOk result (transcript.new ≡ transcript.old ++ (string_bytes printed.old ++ turn_rows number turn.now)) }
+    ensures utf8 { OnOk result (is_utf8 (string_bytes printed.old ++ turn_rows number turn.now) ≡ true) }
     ensures err { OnErr result (transcript.new ≡ transcript.old) }
 {
     append_turn_rows(printed, number, turn)?;
@@ -155,7 +157,7 @@ impl LineMachine for Recorder {
 
     ghost took = { IsBehind };
 
-    ghost closed = { λ machine r h. Unit {0} };
+    ghost closed = { λ machine r h. AllAreTexts r h };
 
     #[tactic(auto, using(crate::proofs::Recorded::owed))]
     fn take(&mut self, line: &Line, transcript: &mut Transcript) -> Result<bool, AllocError> {

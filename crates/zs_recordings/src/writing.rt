@@ -2,6 +2,7 @@
 
 ghost use Rattle.std.specs.Prelude.{◌≡◌, ℕ, ◌≤◌, true, false, Err, OnOk};
 ghost use Rattle.zs_keys.specs.Stream.{HasRisen, PutsOn};
+ghost use Rattle.zs_lines.specs.Writing.{PutsFrontOn};
 ghost use Rattle.zs_recordings.specs.Entries.{is_printable, entry_text};
 ghost use Rattle.zs_recordings.specs.declared.error.RecordError.{RecordError};
 
@@ -16,7 +17,9 @@ use zs_lines::write_whole;
 ///
 /// # Errors
 ///
-/// No line says the event: then nothing is written. The sink failed, or there was no memory.
+/// No line says the event: then nothing is written. The sink failed: then a front of the entry is written. There was no
+/// memory: then nothing is.
+#[tactic(auto, using(crate::proofs::Written::writing))]
 pub fn write_entry<K: Sink>(
     memory: &mut String,
     number: u64,
@@ -26,6 +29,8 @@ pub fn write_entry<K: Sink>(
 ) -> Result<(), RecordError>
     ensures printable { OnOk result (is_printable event.now ≡ true) }
     ensures written { OnOk result (PutsOn (K.written sink.old) (entry_text number event.now turn.now) (K.written sink.new)) }
+    ensures part { PutsFrontOn (K.written sink.old) (entry_text number event.now turn.now) (K.written sink.new) }
+    ensures memory { result ≡ Err RecordError.NoMemory → sink.new ≡ sink.old }
     ensures unprintable { result ≡ Err (RecordError.Unprintable number) → (is_printable event.now ≡ false) × (sink.new ≡ sink.old) }
     ensures place { (other : ℕ) → result ≡ Err (RecordError.Unprintable other) → other ≡ number }
     ensures fault { result ≡ Err RecordError.WriteFault → HasRisen (K.faults sink.old) (K.faults sink.new) }
