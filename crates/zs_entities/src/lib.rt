@@ -19,7 +19,7 @@ pub use querier::Querier;
 pub use querier_builder::QuerierBuilder;
 pub use queryable::Queryable;
 pub use queryable_builder::QueryableBuilder;
-pub use session_entities::SessionEntities;
+pub use session_entities::{SessionEntities, SessionLiveliness};
 pub use subscriber::Subscriber;
 pub use subscriber_builder::SubscriberBuilder;
 pub use undeclaration::Undeclaration;

@@ -23,7 +23,10 @@ pub trait SessionEntities<H, B: Books> {
 
     /// A querier on a key.
     fn declare_querier<'a>(&'a self, key: KeyExpr<'a>) -> QuerierBuilder<'a, H, B>;
+}
 
+/// The liveliness of a session's entities.
+pub trait SessionLiveliness<H, B: Books> {
     /// Its liveliness: tokens on keys, and who wants to know of them.
     fn liveliness<'a>(&'a self) -> Liveliness<'a, H, B>;
 }
@@ -52,7 +55,9 @@ impl<H, B: Books> SessionEntities<H, B> for Session<H, B> {
     {
         QuerierBuilder::of(self, key)
     }
+}
 
+impl<H, B: Books> SessionLiveliness<H, B> for Session<H, B> {
     fn liveliness<'a>(&'a self) -> Liveliness<'a, H, B>
         ensures { result ≡ self.now }
     {
