@@ -1,0 +1,60 @@
+//! The events of a run.
+ghost use Rattle.std.specs.Prelude.{◌≡◌, ◌++◌, true, None, IfOk, codes, decimal};
+ghost use Rattle.zs_turns.specs.Gates.{takes_handler};
+
+use std::alloc::{AllocError, Global};
+use zs_events::{Chan, Event, KeyArg, PublicationQuality, PushBody, Shared, Update};
+use zs_sample::{CongestionControl, Locality, QoSType, Text, ZBytes};
+
+/// A subscriber is declared, to whatever the callers put.
+#[tactic(auto, unfolding(zs_turns::specs::Gates::takes_handler))]
+pub(crate) fn subscription() -> Event
+    ensures { takes_handler result ≡ true }
+{
+    Event::Sub {
+        origin: Locality::Any,
+        key: KeyArg::Text(Text::fixed("w/*")),
+        to: Chan::Print,
+    }
+}
+
+// The key on which the caller of that number puts.
+fn key_of(alloc: Global, number: u64) -> Result<KeyArg, AllocError> {
+    let text = format!(in alloc; "w/{number}")?;
+    Ok(KeyArg::Text(Text::of(alloc, text.as_str())?))
+}
+
+// A put of no bytes, of which nothing else is said.
+fn update(alloc: Global) -> Result<Shared<Update>, AllocError> {
+    Shared::new(
+        alloc,
+        Update {
+            body: PushBody::Put {
+                payload: ZBytes::new(),
+                encoding: None,
+            },
+            timestamp: None,
+            source: None,
+            attachment: None,
+        },
+    )
+}
+
+/// The caller of that number puts.
+pub(crate) fn publication(alloc: Global, number: u64) -> Result<Event, AllocError> {
+    let key = key_of(alloc, number)?;
+    let update = update(alloc)?;
+    Ok(Event::Publish {
+        destination: Locality::Any,
+        key,
+        update,
+        quality: PublicationQuality {
+            qos: QoSType {
+                priority: 5,
+                congestion: CongestionControl::Drop,
+                express: false,
+            },
+            reliable: true,
+        },
+    })
+}
