@@ -387,18 +387,22 @@ fn replaced(alloc: Global) -> Result<Reply, AllocError> {
     Ok(reply)
 }
 
-fn is_replaced(alloc: Global) -> Result<bool, AllocError> {
-    let reply = replaced(alloc)?;
-    let kept = reply.replier_id() == Some(REPLIER);
-    let want = ReplyError::of(ZBytes::new(), Encoding::TEXT_PLAIN);
-    let copy = want.try_clone(alloc)?;
+/// Whether a reply has just that error.
+fn has_error(reply: Reply, want: &ReplyError) -> bool {
     match reply.into_result() {
         Ok(sample) => {
             drop(sample);
-            Ok(false)
+            false
         }
-        Err(error) => Ok(kept && error == want && error == copy),
+        Err(error) => error == *want,
     }
+}
+
+fn is_replaced(alloc: Global) -> Result<bool, AllocError> {
+    let want = ReplyError::of(ZBytes::new(), Encoding::TEXT_PLAIN).try_clone(alloc)?;
+    let reply = replaced(alloc)?;
+    let kept = reply.replier_id() == Some(REPLIER);
+    Ok(has_error(reply, &want) && kept)
 }
 
 #[test]

@@ -174,7 +174,7 @@ const NO_TIME_RANGE: [Act; 3] = [
 fn extends(alloc: Global, parameters: &Parameters<'_>) -> Result<bool, AllocError> {
     let mut extended = Parameters::of("");
     extended.extend(alloc, parameters)?;
-    Ok(extended == *parameters)
+    Ok(extended == *parameters && extended.as_str() == parameters.as_str())
 }
 
 #[test]
