@@ -4,8 +4,11 @@
 use std::alloc::{AllocError, Global};
 use std::process::ExitCode;
 use std::rt::Env;
+use std::sync::Wait;
+use std::thread::Threads;
 use std::{env, io};
-use zs_session::{StdSink, StdSource, run};
+use zs_modes::run;
+use zs_session::{StdSink, StdSource};
 
 /// The statuses that the program ends with by itself; all others are those of `run`.
 const BAD_WORDS: u8 = 2;
@@ -20,6 +23,11 @@ usage: zenoh_drive [drive [SETTING]..]  drives a session by the script on standa
                                         SEED makes, and prints how many events it had, and
                                         how many samples were handed, messages sent and
                                         events refused: SEED up to 65536, N up to 100000
+       zenoh_drive workers K N          lets K callers put N times each through one session,
+                                        each on a thread of its own, and prints how many
+                                        entries its journal has, how many events the callers
+                                        count together, and how many samples were handed:
+                                        K from 1 to 64, N up to 10000
        zenoh_drive link [SETTING]..     drives two sessions, a and b, whose messages go to
                                         each other, by the lines on standard input
        zenoh_drive --help               prints this
@@ -155,28 +163,30 @@ fn refused(rt: &impl Eprint, complaint: &str, status: u8) -> u8 {
     status
 }
 
-/// What the program does with its words, and its exit status.
-fn status(rt: &HostRuntime, alloc: Global) -> u8 {
-    let words = match words(rt) {
+/// What the program does with its words, and its exit status. Only `main` can pass the right to wait and to start threads, so
+/// it passes the runtime twice: the second time as that right.
+fn status(host: &HostRuntime, rt: &(impl Wait + Threads + Sync), alloc: Global) -> u8 {
+    let words = match words(host) {
         Ok(words) => words,
         Err(error) if error.kind() == io::ErrorKind::OutOfMemory => {
-            return refused(rt, "NoMemory", NO_MEMORY);
+            return refused(host, "NoMemory", NO_MEMORY);
         }
-        Err(_) => return refused(rt, "bad words", BAD_WORDS),
+        Err(_) => return refused(host, "bad words", BAD_WORDS),
     };
     match words.as_slice() {
-        [word] if word.as_str() == "--help" => printed(rt, USAGE),
-        [word] if word.as_str() == "--version" => printed(rt, "zenoh_drive 0.1.0\n"),
+        [word] if word.as_str() == "--help" => printed(host, USAGE),
+        [word] if word.as_str() == "--version" => printed(host, "zenoh_drive 0.1.0\n"),
         words => run(
+            rt,
             alloc,
             words,
-            &mut StdSource::new(rt.stdin()),
-            &mut StdSink::new(rt.stdout()),
-            &mut StdSink::new(rt.stderr()),
+            &mut StdSource::new(host.stdin()),
+            &mut StdSink::new(host.stdout()),
+            &mut StdSink::new(host.stderr()),
         ),
     }
 }
 
 fn main(rt: HostRuntime) -> ExitCode {
-    ExitCode::from(status(&rt, rt.alloc()))
+    ExitCode::from(status(&rt, &rt, rt.alloc()))
 }

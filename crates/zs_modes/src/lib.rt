@@ -1,0 +1,9 @@
+//! The program: all its modes, with the theorem on the whole run.
+#![tactic(auto)]
+
+pub use running::run;
+
+mod running;
+#[cfg(test)]
+mod tests;
+mod working;
