@@ -17,7 +17,7 @@ use Rattle.zs_events.specs.declared.inquiry.Inquiry.{Inquiry}
 use Rattle.zs_events.specs.declared.inquiry.QuerySettings.{QuerySettings}
 use Rattle.zs_events.specs.Updates.{default_encoding}
 use Rattle.zs_cell.specs.Places.{SessionPlace}
-use Rattle.zs_calls.specs.Keys.{key_arg}
+use Rattle.zs_cell.specs.Keys.{key_arg}
 
 -- a get of a session in the making: what it asks for, how it asks, what it tells, and who is handed the replies
 pub record SessionGetSeen (H : Type 0) : Type 0 where

@@ -1,4 +1,3 @@
-pub mod Keys
 pub mod Publications
 pub mod Gets
 pub mod Replies

@@ -16,7 +16,7 @@ use Rattle.zs_events.specs.declared.update.PushBody.{PushBody}
 use Rattle.zs_events.specs.declared.update.PushBody.TheVariants.{Put, Delete}
 use Rattle.zs_events.specs.declared.update.Update.{Update}
 use Rattle.zs_cell.specs.Places.{SessionPlace}
-use Rattle.zs_calls.specs.Keys.{key_arg}
+use Rattle.zs_cell.specs.Keys.{key_arg}
 
 -- what is put: a payload, and what it is, if that was said
 pub record PutSeen : Type 0 where

@@ -16,7 +16,7 @@ use Rattle.zs_events.specs.declared.update.Update.{Update}
 use Rattle.zs_events.specs.Updates.{default_encoding}
 use Rattle.zs_turns.specs.Queries.{QuerySeen}
 use Rattle.zs_cell.specs.Places.{SessionPlace}
-use Rattle.zs_calls.specs.Keys.{key_arg}
+use Rattle.zs_cell.specs.Keys.{key_arg}
 use Rattle.zs_calls.specs.Publications.{PutSeen, DeleteSeen, put_body}
 
 -- a reply in the making: to a query, by a session, on a key

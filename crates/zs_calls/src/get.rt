@@ -8,13 +8,12 @@ ghost use Rattle.zs_turns.specs.Gates.{takes_handler};
 ghost use Rattle.zs_calls.specs.Gets.{session_get, session_get_event, get_settings, takes_any};
 
 use crate::events::get;
-use crate::key_args::key_arg;
 use crate::stepping::ask_with;
 use crate::texts::value_of;
 use std::alloc::{AllocError, Global};
 use std::marker::Model;
 use std::sync::{Arc, Wait};
-use zs_cell::{Books, Caller, Item, NotSubmitted, Session, SessionError, SessionToken};
+use zs_cell::{Books, Caller, Item, NotSubmitted, Session, SessionError, SessionToken, key_arg};
 use zs_events::{Event, Inquiry, QuerySettings, Shared};
 use zs_handlers::Handler;
 use zs_sample::{

@@ -5,7 +5,6 @@
 #![tactic(auto)]
 
 pub use get::SessionGetBuilder;
-pub use key_args::key_arg;
 pub use publication::{
     ByPublisher, OnKey, PublicationBuilder, PublicationBuilderDelete, PublicationBuilderPut,
     PublisherDeleteBuilder, PublisherPutBuilder, SessionDeleteBuilder, SessionPutBuilder,
@@ -21,10 +20,10 @@ pub use zs_cancel::{
     AddError, CancelFailed, CancelResult, CancellationToken, Handlers, Job, JobFailed, NotAdded,
     Outcome, TokenState,
 };
+pub use zs_cell::key_arg;
 
 mod events;
 mod get;
-mod key_args;
 mod publication;
 mod querier_get;
 mod query_calls;

@@ -6,13 +6,12 @@ ghost use Rattle.zs_held.specs.Numbers.{numbered_at};
 ghost use Rattle.zs_calls.specs.Replies.{replied, answer_event, reply_put_event, reply_delete_event};
 
 use crate::events::reply;
-use crate::key_args::key_arg;
 use crate::publication::{PublicationBuilderDelete, PublicationBuilderPut};
 use crate::stepping::tell_own;
 use std::alloc::{AllocError, Global};
 use std::marker::Model;
 use std::sync::Wait;
-use zs_cell::{Books, Caller, Item, Session, SessionError};
+use zs_cell::{Books, Caller, Item, Session, SessionError, key_arg};
 use zs_events::{Event, PushBody, ReplyQuality, Shared, Update};
 use zs_handlers::Handler;
 use zs_keys::KeyExpr;

@@ -6,12 +6,11 @@ ghost use Rattle.zs_held.specs.Numbers.{numbered_at};
 ghost use Rattle.zs_calls.specs.Replies.{sample_body, reply_sample_event};
 
 use crate::events::reply;
-use crate::key_args::key_arg;
 use crate::stepping::tell_own;
 use std::alloc::{AllocError, Global};
 use std::marker::Model;
 use std::sync::Wait;
-use zs_cell::{Books, Caller, Item, Session, SessionError};
+use zs_cell::{Books, Caller, Item, Session, SessionError, key_arg};
 use zs_events::{Event, PushBody, ReplyQuality, Shared, Update};
 use zs_handlers::Handler;
 use zs_sample::{Encoding, Sample, SampleFields, SampleKind, ZBytes};

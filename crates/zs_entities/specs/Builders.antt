@@ -16,7 +16,7 @@ use Rattle.zs_events.specs.declared.inquiry.QuerySettings.{QuerySettings}
 use Rattle.zs_events.specs.Updates.{default_encoding}
 use Rattle.zs_cell.specs.Places.{SessionPlace}
 use Rattle.zs_calls.specs.Gets.{get_settings}
-use Rattle.zs_calls.specs.Keys.{key_arg}
+use Rattle.zs_cell.specs.Keys.{key_arg}
 use Rattle.zs_calls.specs.Publications.{is_reliable, publication_qos}
 
 -- a subscriber: of which session, on which key, for publications of which origin, and who is handed them

@@ -7,11 +7,10 @@ ghost use Rattle.zs_calls.specs.Publications.{on_key, is_reliable, publish_event
 
 use super::{PublicationBuilder, PublicationBuilderDelete, PublicationBuilderPut, update_of};
 use crate::events::publish;
-use crate::key_args::key_arg;
 use std::alloc::{AllocError, Global};
 use std::marker::Model;
 use std::sync::Wait;
-use zs_cell::{Books, Caller, Item, Session, SessionError};
+use zs_cell::{Books, Caller, Item, Session, SessionError, key_arg};
 use zs_events::{Event, PublicationQuality, PushBody, Shared, Update};
 use zs_handlers::Handler;
 use zs_keys::KeyExpr;
