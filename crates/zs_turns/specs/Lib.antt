@@ -1,3 +1,4 @@
 pub mod Gates
 pub mod Calls
 pub mod Queries
+pub mod Loans

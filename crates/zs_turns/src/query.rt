@@ -32,6 +32,9 @@ impl Model for Query {
 }
 
 impl Query {
+    ghost use Rattle.std.specs.Borrow.{sem};
+    ghost use Rattle.zs_turns.specs.Loans.{LendsFields, LendsPayload, LendsAttachment};
+
     /// A query with these fields, of a session with that tag. It shares the memory of the payload and the attachment.
     pub fn of(alloc: Global, tag: u64, value: u32, fields: &QueryData) -> Result<Query, AllocError>
         ensures { IfOk result (λ query. query ≡ record { data_of = fields.now; value = value; tag = tag }) }
@@ -109,6 +112,30 @@ impl Query {
         ensures { option_copied result ≡ self.now.data_of.payload }
     {
         self.fields.payload()
+    }
+
+    // What it was asked with, to be changed.
+    fn fields_mut(&mut self) -> &mut QueryData
+        ensures value { result.now ≡ self.old.data_of }
+        ensures* writes_back { sem 𝓛 (LendsFields self.entry result) }
+    {
+        &mut self.fields
+    }
+
+    /// The payload, to be changed.
+    pub fn payload_mut(&mut self) -> Option<&mut ZBytes>
+        ensures value { option_copied_mut result ≡ self.old.data_of.payload }
+        ensures* writes_back { sem 𝓛 (LendsPayload self.entry result) }
+    {
+        self.fields_mut().payload_mut()
+    }
+
+    /// What was sent along beside the payload, to be changed.
+    pub fn attachment_mut(&mut self) -> Option<&mut ZBytes>
+        ensures value { option_copied_mut result ≡ self.old.data_of.attachment }
+        ensures* writes_back { sem 𝓛 (LendsAttachment self.entry result) }
+    {
+        self.fields_mut().attachment_mut()
     }
 
     /// What the payload is, if there is one.

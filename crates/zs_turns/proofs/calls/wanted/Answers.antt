@@ -1,4 +1,4 @@
-use Rattle.std.proofs.Common.{◌≡◌, arith}
+use Rattle.std.proofs.Common.{arith}
 use Rattle.zs_turns.proofs.Held.{held_end}
 use Rattle.zs_turns.proofs.calls.wanted.Goals as goal
 
