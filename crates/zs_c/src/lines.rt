@@ -4,7 +4,7 @@ ghost use Rattle.std.specs.Prelude.{◌≡◌, ◌⊎◌, ◌<◌, length};
 ghost use Rattle.std.specs.declared.option.Option.TheVariants.{None, Some};
 ghost use Rattle.zs_events.specs.declared.event.Event.TheVariants.{Close};
 ghost use Rattle.zs_line_session.specs.Lined.{session_event, Takes, TakesLine};
-ghost use Rattle.zs_script.specs.Grammar.{event_of};
+ghost use Rattle.zs_grammar.specs.Grammar.{event_of};
 ghost use Rattle.zs_c.specs.Through.{Through, IsLonger};
 
 use crate::slot::Slot;

@@ -10,10 +10,10 @@ use Rattle.std.proofs.lemmas.List.Folds.{list_all-append}
 use Rattle.hex.specs.Hex.{IsBytes, encode_lower, encode_with, lower_digits, decode_of}
 use Rattle.hex.proofs.HexLemmas.{decode_of-encode_lower}
 use Rattle.zs_bytes.specs.Payload.{bytes_of, one_slice}
-use Rattle.zs_script.specs.Hexadecimal.{digit_of, hex_from, hex_of}
-use Rattle.zs_script.specs.Symbols.{is_digit, number_from, number_of, u64_max, payload_of}
-use Rattle.zs_script.specs.Words.{hex_digit, hex_digits, hex_text, byte_digits, bytes_text}
-use Rattle.zs_script.proofs.HexDigits.{digits-last, digits-more}
+use Rattle.zs_parts.specs.Hexadecimal.{digit_of, hex_from, hex_of}
+use Rattle.zs_parts.specs.Symbols.{is_digit, number_from, number_of, u64_max, payload_of}
+use Rattle.zs_printing.specs.Words.{hex_digit, hex_digits, hex_text, byte_digits, bytes_text}
+use Rattle.zs_printing.proofs.HexDigits.{digits-last, digits-more}
 use Rattle.zs_event_lines.specs.Sayable.{hex_end, are_bytes, gathered}
 
 -- what holds of all numbers below one more

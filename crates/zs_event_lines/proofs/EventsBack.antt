@@ -16,9 +16,9 @@ use Rattle.zs_events.specs.declared.update.PushBody.{PushBody}
 use Rattle.zs_events.specs.declared.update.PushBody.TheVariants.{Put, Delete}
 use Rattle.zs_events.specs.declared.update.Update.{Update}
 use Rattle.zs_wire.specs.declared.sample_kind.SampleKind.TheVariants.{Put as put_kind, Delete as delete_kind}
-use Rattle.zs_script.specs.Symbols.{u32_max, u64_max}
+use Rattle.zs_parts.specs.Symbols.{u32_max, u64_max}
 use Rattle.zs_script.specs.Plain.{is_plain}
-use Rattle.zs_script.specs.Grammar.{update_of, key_parts, number_parts, sub_parts, pub_parts, pub_made, queryable_parts, querier_parts, querier_made, lsub_parts, parent_parts, undeclare_of, background_parts, publish_parts, publish_made, publish_by_parts, publish_by_made, get_parts, get_made, querier_get_parts, querier_get_made, liveliness_get_parts, reply_parts, reply_made, reply_error_parts, reply_error_made, event_of_fields, event_of}
+use Rattle.zs_grammar.specs.Grammar.{update_of, key_parts, number_parts, sub_parts, pub_parts, pub_made, queryable_parts, querier_parts, querier_made, lsub_parts, parent_parts, undeclare_of, background_parts, publish_parts, publish_made, publish_by_parts, publish_by_made, get_parts, get_made, querier_get_parts, querier_get_made, liveliness_get_parts, reply_parts, reply_made, reply_error_parts, reply_error_made, event_of_fields, event_of}
 use Rattle.zs_event_lines.specs.Sayable.{kept, gathered, gathered_push}
 use Rattle.zs_event_lines.specs.Slots.{Slot, slots_fields, slots_say, slots_are_typed, Line, line_text, printed}
 use Rattle.zs_event_lines.specs.Lines.{form_line, body_kind, publish_word, publish_by_word, reply_word, message_line, net_line, line_of, gathered_message, gathered_event}

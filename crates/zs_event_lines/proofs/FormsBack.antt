@@ -2,7 +2,7 @@
 use Rattle.std.proofs.Common.{ℕ, ◌≡◌, Bool, true, ◌&&◌, List, [], ◌∷◌, Some, None, refl}
 use Rattle.std.specs.List.{list_all}
 use Rattle.std.proofs.lemmas.Bool.{and_parts}
-use Rattle.zs_script.specs.Parts.{Part, Maker, named_in, form}
+use Rattle.zs_parts.specs.Parts.{Part, Maker, named_in, form}
 use Rattle.zs_event_lines.specs.Sayable.{says, is_typed, kept}
 use Rattle.zs_event_lines.specs.Slots.{slots_fields, slots_say, slots_are_typed, Values, slots_of, remade}
 use Rattle.zs_event_lines.proofs.Options.{is_apart_from, AllDeclined}

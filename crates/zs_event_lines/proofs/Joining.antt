@@ -1,7 +1,7 @@
 -- What fields come to that are printed one behind the other.
 use Rattle.std.proofs.Common.{ℕ, ◌≡◌, List, [], ◌∷◌, ◌++◌, refl, sym, ap, ◌∙◌, append_assoc}
 use Rattle.std.proofs.lemmas.List.{append-nil}
-use Rattle.zs_script.specs.Pieces.{tabs}
+use Rattle.zs_printing.specs.Pieces.{tabs}
 
 -- a field in front of others
 pub tabs-front : (field : List ℕ) (more : List (List ℕ)) → tabs (field ∷ more) ≡ 9 ∷ (field ++ tabs more)

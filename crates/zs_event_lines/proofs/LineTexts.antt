@@ -7,9 +7,9 @@ use Rattle.std.proofs.lemmas.List.Folds.{list_all-append}
 use Rattle.zs_lines.specs.Lines.{fields}
 use Rattle.zs_events.specs.declared.event.Event.{Event}
 use Rattle.zs_events.specs.declared.script_event.ScriptEvent.TheVariants.{Core}
-use Rattle.zs_script.specs.Grammar.{event_of_fields, event_of}
+use Rattle.zs_grammar.specs.Grammar.{event_of_fields, event_of}
 use Rattle.zs_script.specs.Laws.{row}
-use Rattle.zs_script.specs.Pieces.{tabs}
+use Rattle.zs_printing.specs.Pieces.{tabs}
 use Rattle.zs_script.specs.Plain.{is_plain}
 use Rattle.zs_script.proofs.PlainTexts.{row-fields}
 use Rattle.zs_event_lines.specs.Sayable.{says}

@@ -5,9 +5,9 @@ use Rattle.std.specs.List.{list_all}
 use Rattle.std.proofs.lemmas.Bool.{and_parts}
 use Rattle.std.proofs.lemmas.List.Folds.{list_all-append}
 use Rattle.std.proofs.lemmas.Option.{same_Some}
-use Rattle.zs_script.specs.Symbols.{after_prefix}
-use Rattle.zs_script.specs.Parts.{named_in, option_in, maybe_in}
-use Rattle.zs_script.specs.Pieces.{named, field_if}
+use Rattle.zs_parts.specs.Symbols.{after_prefix}
+use Rattle.zs_parts.specs.Parts.{named_in, option_in, maybe_in}
+use Rattle.zs_printing.specs.Pieces.{named, field_if}
 use Rattle.zs_event_lines.specs.Shown.{unless}
 use Rattle.zs_event_lines.specs.Sayable.{if_there}
 

@@ -27,12 +27,12 @@ use Rattle.zs_events.specs.declared.update.PushBody.{PushBody}
 use Rattle.zs_events.specs.declared.update.PushBody.TheVariants.{Put, Delete}
 use Rattle.zs_events.specs.Updates.{default_encoding}
 use Rattle.zs_events.specs.Kinds.{is_nothing}
-use Rattle.zs_script.specs.Symbols.{number_of, u32_max, u64_max, locality_of, background_kind_of, parent_of, complete_of, history_of, key_of, payload_of, wire_of, names_nothing}
-use Rattle.zs_script.specs.Options.{timestamp_of, entity_of, source_of, encoding_text_of, priority_of, congestion_of, flag_of, target_of, consolidation_of, any_key_of, value_of}
-use Rattle.zs_script.specs.Channels.{channel_of}
-use Rattle.zs_script.specs.Words.{congestion_word, flag_digit, complete_word, target_word, consolidation_word, bytes_text, wire_text, timestamp_text, entity_text, source_text}
-use Rattle.zs_script.specs.Pieces.{field_if, encoding_field, parameter_fields, written}
-use Rattle.zs_script.specs.Parts.{Part, number, locality, background_kind, parent, complete, history, key, selector, wire, wire_if, payload, push_body, parameters, target, consolidation, timeout, value, encoding, timestamp, qos, reliable, quality, reply_quality, source, attachment, responder, any_key, cancellation_token, interest, channel, handed_to, channel_kind, Value, first_of, first_in, named_in, taken, option_in, maybe_in, named_wire_in, qos_in, quality_in, reply_quality_in, named_encoding_in, encoded, body_in, value_in, selector_of, read}
+use Rattle.zs_parts.specs.Symbols.{number_of, u32_max, u64_max, locality_of, background_kind_of, parent_of, complete_of, history_of, key_of, payload_of, wire_of, names_nothing}
+use Rattle.zs_parts.specs.Options.{timestamp_of, entity_of, source_of, encoding_text_of, priority_of, congestion_of, flag_of, target_of, consolidation_of, any_key_of, value_of}
+use Rattle.zs_parts.specs.Channels.{channel_of}
+use Rattle.zs_printing.specs.Words.{congestion_word, flag_digit, complete_word, target_word, consolidation_word, bytes_text, wire_text, timestamp_text, entity_text, source_text}
+use Rattle.zs_printing.specs.Pieces.{field_if, encoding_field, parameter_fields, written}
+use Rattle.zs_parts.specs.Parts.{Part, number, locality, background_kind, parent, complete, history, key, selector, wire, wire_if, payload, push_body, parameters, target, consolidation, timeout, value, encoding, timestamp, qos, reliable, quality, reply_quality, source, attachment, responder, any_key, cancellation_token, interest, channel, handed_to, channel_kind, Value, first_of, first_in, named_in, taken, option_in, maybe_in, named_wire_in, qos_in, quality_in, reply_quality_in, named_encoding_in, encoded, body_in, value_in, selector_of, read}
 use Rattle.zs_event_lines.specs.Shown.{unless, locality_word, background_word, parent_word, history_word, key_text, selector_text, is_best, is_auto, is_congestion, is_default, named_encoding, encoding_fields, priority_field, congestion_field, express_field, reliable_fields, qos_fields, quality_fields, reply_quality_fields, channel_text, is_print, shown}
 use Rattle.zs_event_lines.specs.Sayable.{if_there, says_encoding, says_wire, says_priority, says_channel, says, is_wire, is_timestamp, is_entity, is_source, are_bytes, is_typed, gathered, gathered_push, gathered_value, kept}
 use Rattle.zs_event_lines.proofs.Digits.{number-says, payload-says}

@@ -24,11 +24,11 @@ use Rattle.zs_events.specs.declared.publication.ReplyQuality.{ReplyQuality}
 use Rattle.zs_events.specs.declared.update.PushBody.{PushBody}
 use Rattle.zs_events.specs.declared.update.PushBody.TheVariants.{Put, Delete}
 use Rattle.zs_events.specs.Kinds.{is_nothing}
-use Rattle.zs_script.specs.Symbols.{names_nothing}
-use Rattle.zs_script.specs.Words.{flag_digit, complete_word, target_word, consolidation_word, bytes_text, wire_text, timestamp_text, entity_text, source_text}
-use Rattle.zs_script.specs.Pieces.{field_if, encoding_field, written}
+use Rattle.zs_parts.specs.Symbols.{names_nothing}
+use Rattle.zs_printing.specs.Words.{flag_digit, complete_word, target_word, consolidation_word, bytes_text, wire_text, timestamp_text, entity_text, source_text}
+use Rattle.zs_printing.specs.Pieces.{field_if, encoding_field, written}
 use Rattle.zs_script.specs.Plain.{is_plain, is_plain_text}
-use Rattle.zs_script.specs.Parts.{Part, number, locality, background_kind, parent, complete, history, key, selector, wire, wire_if, payload, push_body, parameters, target, consolidation, timeout, value, encoding, timestamp, qos, reliable, quality, reply_quality, source, attachment, responder, any_key, cancellation_token, interest, channel, handed_to, channel_kind, Value}
+use Rattle.zs_parts.specs.Parts.{Part, number, locality, background_kind, parent, complete, history, key, selector, wire, wire_if, payload, push_body, parameters, target, consolidation, timeout, value, encoding, timestamp, qos, reliable, quality, reply_quality, source, attachment, responder, any_key, cancellation_token, interest, channel, handed_to, channel_kind, Value}
 use Rattle.zs_script.proofs.PlainTexts.{plain-append, decimal-plain, bytes-plain}
 use Rattle.zs_script.proofs.PlainPieces.{congestion-plain, flag-plain, target-plain, consolidation-plain, complete-plain, wire-plain, timestamp-plain, entity-plain, source-plain, one, one-if, parameters-plain}
 use Rattle.zs_event_lines.specs.Shown.{unless, locality_word, background_word, parent_word, history_word, suffix_text, key_text, question_text, selector_text, is_best, is_auto, is_congestion, is_default, encoding_fields, priority_field, congestion_field, express_field, reliable_fields, qos_fields, reply_quality_fields, body_fields, query_value_fields, channel_text, is_print, shown}

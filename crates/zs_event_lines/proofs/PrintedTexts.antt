@@ -4,7 +4,7 @@ use Rattle.std.specs.Str.{IsUtf8, is_utf8}
 use Rattle.std.proofs.lemmas.Str.{is_utf8-from_IsUtf8}
 use Rattle.zs_events.specs.declared.event.Event.{Event}
 use Rattle.zs_events.specs.declared.script_event.ScriptEvent.TheVariants.{Core}
-use Rattle.zs_script.specs.Grammar.{event_of}
+use Rattle.zs_grammar.specs.Grammar.{event_of}
 use Rattle.zs_event_lines.specs.Slots.{printed, IsPrinted}
 use Rattle.zs_event_lines.specs.Lines.{line_of, gathered_event}
 use Rattle.zs_event_lines.specs.Laws.{are_typed}

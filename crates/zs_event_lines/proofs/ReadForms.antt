@@ -2,7 +2,7 @@
 use Rattle.std.proofs.Common.{ℕ, ◌≡◌, Bool, true, List, [], ◌∷◌, IfSome, refl, ap, ◌∙◌}
 use Rattle.std.specs.List.{list_all}
 use Rattle.std.proofs.lemmas.Bool.{and_parts, and_from}
-use Rattle.zs_script.specs.Parts.{Part, Value, Maker, read, form}
+use Rattle.zs_parts.specs.Parts.{Part, Value, Maker, read, form}
 use Rattle.zs_script.proofs.PlainSymbols.{on-then}
 use Rattle.zs_script.proofs.PlainParts.{AreTexts}
 use Rattle.zs_event_lines.specs.Slots.{slots_say, slots_are_typed, Values, slots_of, remade}

@@ -18,10 +18,10 @@ use Rattle.zs_events.specs.declared.update.PushBody.TheVariants.{Put, Delete}
 use Rattle.zs_events.specs.declared.update.Update.{Update}
 use Rattle.zs_events.specs.Updates.{body_by}
 use Rattle.zs_events.specs.Kinds.{is_nothing}
-use Rattle.zs_script.specs.Symbols.{u16_max, u32_max, u64_max}
+use Rattle.zs_parts.specs.Symbols.{u16_max, u32_max, u64_max}
 use Rattle.zs_script.specs.Plain.{is_plain_text}
-use Rattle.zs_script.specs.Parts.{Part, Maker, wire, number, push_body, read, form}
-use Rattle.zs_script.specs.Grammar.{by_word, update_of, number_parts, numbered_wire_parts, net_queryable_parts, net_token_parts, net_untoken_parts, declare_final_parts, push_parts, push_made, push_value_of, push_by, push_of, request_timeout, request_parts, request_made, response_parts, response_made, response_value_of, response_error_parts, response_error_made, response_error_of, response_by, response_on, response_of, key_expr_of, unkey_expr_of, net_sub_of, net_unsub_of, net_queryable_of, net_unqueryable_of, net_token_of, net_untoken_of, declare_final_of, request_of, response_final_of, net_close_of, message_by, message_of}
+use Rattle.zs_parts.specs.Parts.{Part, Maker, wire, number, push_body, read, form}
+use Rattle.zs_grammar.specs.Grammar.{by_word, update_of, number_parts, numbered_wire_parts, net_queryable_parts, net_token_parts, net_untoken_parts, declare_final_parts, push_parts, push_made, push_value_of, push_by, push_of, request_timeout, request_parts, request_made, response_parts, response_made, response_value_of, response_error_parts, response_error_made, response_error_of, response_by, response_on, response_of, key_expr_of, unkey_expr_of, net_sub_of, net_unsub_of, net_queryable_of, net_unqueryable_of, net_token_of, net_untoken_of, declare_final_of, request_of, response_final_of, net_close_of, message_by, message_of}
 use Rattle.zs_script.proofs.PlainSymbols.{on-then, on-choice}
 use Rattle.zs_script.proofs.PlainParts.{AreTexts}
 use Rattle.zs_event_lines.specs.Shown.{is_default, named_encoding}

@@ -17,11 +17,11 @@ use Rattle.zs_events.specs.declared.chan.Chan.TheVariants.{Print}
 use Rattle.zs_events.specs.declared.update.PushBody.{PushBody}
 use Rattle.zs_events.specs.declared.update.PushBody.TheVariants.{Put}
 use Rattle.zs_events.specs.Updates.{default_encoding}
-use Rattle.zs_script.specs.Symbols.{number_of, u32_max, u64_max, locality_of, background_kind_of, parent_of, complete_of, history_of, key_of, payload_of, wire_of, names_nothing, naming}
-use Rattle.zs_script.specs.Options.{timestamp_of, entity_of, source_of, encoding_text_of, priority_of, congestion_of, flag_of, target_of, consolidation_of, any_key_of, value_of}
-use Rattle.zs_script.specs.Channels.{channel_of}
+use Rattle.zs_parts.specs.Symbols.{number_of, u32_max, u64_max, locality_of, background_kind_of, parent_of, complete_of, history_of, key_of, payload_of, wire_of, names_nothing, naming}
+use Rattle.zs_parts.specs.Options.{timestamp_of, entity_of, source_of, encoding_text_of, priority_of, congestion_of, flag_of, target_of, consolidation_of, any_key_of, value_of}
+use Rattle.zs_parts.specs.Channels.{channel_of}
 use Rattle.zs_script.specs.Plain.{is_plain_text}
-use Rattle.zs_script.specs.Parts.{Part, number, locality, background_kind, parent, complete, history, key, selector, wire, wire_if, payload, push_body, parameters, target, consolidation, timeout, value, encoding, timestamp, qos, reliable, quality, reply_quality, source, attachment, responder, any_key, cancellation_token, interest, channel, handed_to, channel_kind, Value, first_of, behind, first_in, named_in, taken, option_in, maybe_in, named_wire_in, qos_in, quality_in, reply_quality_in, named_encoding_in, encoded, body_in, value_in, selector_of, read}
+use Rattle.zs_parts.specs.Parts.{Part, number, locality, background_kind, parent, complete, history, key, selector, wire, wire_if, payload, push_body, parameters, target, consolidation, timeout, value, encoding, timestamp, qos, reliable, quality, reply_quality, source, attachment, responder, any_key, cancellation_token, interest, channel, handed_to, channel_kind, Value, first_of, behind, first_in, named_in, taken, option_in, maybe_in, named_wire_in, qos_in, quality_in, reply_quality_in, named_encoding_in, encoded, body_in, value_in, selector_of, read}
 use Rattle.zs_script.proofs.PlainSymbols.{IsText, on-map, on-then, prefix-text}
 use Rattle.zs_script.proofs.PlainParts.{AreTexts}
 use Rattle.zs_event_lines.specs.Sayable.{if_there, says_wire, says_priority, says, is_wire, is_timestamp, is_entity, is_source, is_typed, kept}

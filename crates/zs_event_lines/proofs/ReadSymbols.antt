@@ -20,11 +20,11 @@ use Rattle.zs_events.specs.declared.chan.Chan.TheVariants.{Print, Fifo, Ring}
 use Rattle.zs_events.specs.declared.key_arg.KeyArg.{KeyArg}
 use Rattle.zs_events.specs.declared.key_arg.KeyArg.TheVariants.{Text, Number}
 use Rattle.zs_events.specs.Updates.{default_encoding}
-use Rattle.zs_script.specs.Hexadecimal.{digit_of, hex_from, hex_of}
-use Rattle.zs_script.specs.Symbols.{is_digit, number_from, number_of, u16_max, u32_max, u64_max, is_colon, numbered_of, key_of, after_prefix, scoped_of, scoped_in, wire_of, payload_of}
-use Rattle.zs_script.specs.Options.{cut_of, timestamp_of, entity_of, two_numbers_of, source_of, at_least, priority_of}
-use Rattle.zs_script.specs.Channels.{size_of, sized_in, channel_of}
-use Rattle.zs_script.specs.Parts.{selector_of}
+use Rattle.zs_parts.specs.Hexadecimal.{digit_of, hex_from, hex_of}
+use Rattle.zs_parts.specs.Symbols.{is_digit, number_from, number_of, u16_max, u32_max, u64_max, is_colon, numbered_of, key_of, after_prefix, scoped_of, scoped_in, wire_of, payload_of}
+use Rattle.zs_parts.specs.Options.{cut_of, timestamp_of, entity_of, two_numbers_of, source_of, at_least, priority_of}
+use Rattle.zs_parts.specs.Channels.{size_of, sized_in, channel_of}
+use Rattle.zs_parts.specs.Parts.{selector_of}
 use Rattle.zs_script.specs.Plain.{is_plain_text}
 use Rattle.zs_script.proofs.PlainSymbols.{IsText, on-map, on-then, on-any, on-choice, prefix-text, chars-plain, wire-plain, before-sign, behind-sign}
 use Rattle.zs_script.proofs.PlainParts.{default-plain}

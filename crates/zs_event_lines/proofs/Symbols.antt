@@ -30,12 +30,12 @@ use Rattle.zs_events.specs.declared.entity_kind.ParentKind.{ParentKind}
 use Rattle.zs_events.specs.declared.entity_kind.ParentKind.TheVariants.{Pub as pub_parent, Querier as querier_parent}
 use Rattle.zs_events.specs.declared.key_arg.KeyArg.{KeyArg}
 use Rattle.zs_events.specs.declared.key_arg.KeyArg.TheVariants.{Text, Number, Declared}
-use Rattle.zs_script.specs.Hexadecimal.{hex_of}
-use Rattle.zs_script.specs.Symbols.{number_of, u16_max, u32_max, u64_max, is_colon, locality_of, entity_kind_of, background_kind_of, parent_of, complete_of, history_of, numbered_of, key_of, scoped_of, wire_of}
-use Rattle.zs_script.specs.Options.{cut_of, timestamp_of, entity_of, two_numbers_of, source_of, congestion_of, flag_of, target_of, consolidation_of, priority_of}
-use Rattle.zs_script.specs.Channels.{size_of, channel_of}
-use Rattle.zs_script.specs.Parts.{selector_of}
-use Rattle.zs_script.specs.Words.{congestion_word, flag_digit, complete_word, target_word, consolidation_word, mapping_letter, wire_text, timestamp_text, entity_text, source_text, hex_text}
+use Rattle.zs_parts.specs.Hexadecimal.{hex_of}
+use Rattle.zs_parts.specs.Symbols.{number_of, u16_max, u32_max, u64_max, is_colon, locality_of, entity_kind_of, background_kind_of, parent_of, complete_of, history_of, numbered_of, key_of, scoped_of, wire_of}
+use Rattle.zs_parts.specs.Options.{cut_of, timestamp_of, entity_of, two_numbers_of, source_of, congestion_of, flag_of, target_of, consolidation_of, priority_of}
+use Rattle.zs_parts.specs.Channels.{size_of, channel_of}
+use Rattle.zs_parts.specs.Parts.{selector_of}
+use Rattle.zs_printing.specs.Words.{congestion_word, flag_digit, complete_word, target_word, consolidation_word, mapping_letter, wire_text, timestamp_text, entity_text, source_text, hex_text}
 use Rattle.zs_event_lines.specs.Shown.{locality_word, entity_word, background_word, parent_word, history_word, suffix_text, key_text, question_text, selector_text, channel_text}
 use Rattle.zs_event_lines.specs.Sayable.{is_missing, says_key, has_no_question, says_priority, says_channel, is_key, is_wire, is_timestamp, is_entity, is_source}
 use Rattle.zs_event_lines.proofs.Digits.{is_free, free-append, number-says, decimal-free, hex-says, hex-free}

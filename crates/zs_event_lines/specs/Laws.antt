@@ -3,7 +3,7 @@ use Rattle.std.specs.Prelude.{ℕ, ◌≡◌, Bool, true, List, Option, Some, No
 use Rattle.std.specs.Str.{is_utf8}
 use Rattle.zs_events.specs.declared.event.Event.{Event}
 use Rattle.zs_events.specs.declared.script_event.ScriptEvent.TheVariants.{Core}
-use Rattle.zs_script.specs.Grammar.{event_of}
+use Rattle.zs_grammar.specs.Grammar.{event_of}
 use Rattle.zs_script.specs.Plain.{has_no_line_feed}
 use Rattle.zs_event_lines.specs.Slots.{Line, slots_say, slots_are_typed, printed}
 use Rattle.zs_event_lines.specs.Lines.{line_of, gathered_event}

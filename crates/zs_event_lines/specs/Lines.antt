@@ -21,10 +21,10 @@ use Rattle.zs_events.specs.declared.update.PushBody.{PushBody}
 use Rattle.zs_events.specs.declared.update.PushBody.TheVariants.{Put, Delete}
 use Rattle.zs_events.specs.declared.update.Update.{Update}
 use Rattle.zs_events.specs.Kinds.{is_nothing}
-use Rattle.zs_script.specs.Symbols.{u16_max, u32_max, u64_max}
-use Rattle.zs_script.specs.Words.{sample_word}
-use Rattle.zs_script.specs.Parts.{Part, wire, number}
-use Rattle.zs_script.specs.Grammar.{key_parts, number_parts, sub_parts, pub_parts, queryable_parts, querier_parts, lsub_parts, parent_parts, background_parts, publish_parts, publish_by_parts, get_parts, querier_get_parts, liveliness_get_parts, reply_parts, reply_error_parts, numbered_wire_parts, net_queryable_parts, net_token_parts, net_untoken_parts, declare_final_parts, push_parts, request_timeout, request_parts, response_parts, response_error_parts}
+use Rattle.zs_parts.specs.Symbols.{u16_max, u32_max, u64_max}
+use Rattle.zs_printing.specs.Words.{sample_word}
+use Rattle.zs_parts.specs.Parts.{Part, wire, number}
+use Rattle.zs_grammar.specs.Grammar.{key_parts, number_parts, sub_parts, pub_parts, queryable_parts, querier_parts, lsub_parts, parent_parts, background_parts, publish_parts, publish_by_parts, get_parts, querier_get_parts, liveliness_get_parts, reply_parts, reply_error_parts, numbered_wire_parts, net_queryable_parts, net_token_parts, net_untoken_parts, declare_final_parts, push_parts, request_timeout, request_parts, response_parts, response_error_parts}
 use Rattle.zs_event_lines.specs.Shown.{is_default, named_encoding, entity_word}
 use Rattle.zs_event_lines.specs.Sayable.{gathered, gathered_push, gathered_value}
 use Rattle.zs_event_lines.specs.Slots.{Slot, at, said, Values, slots_of, Line}

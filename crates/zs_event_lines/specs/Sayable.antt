@@ -17,9 +17,9 @@ use Rattle.zs_events.specs.declared.key_arg.KeyArg.TheVariants.{Text, Number, De
 use Rattle.zs_events.specs.declared.update.PushBody.{PushBody}
 use Rattle.zs_events.specs.declared.update.PushBody.TheVariants.{Put, Delete}
 use Rattle.zs_events.specs.Kinds.{is_nothing}
-use Rattle.zs_script.specs.Symbols.{u16_max, u32_max, u64_max, numbered_of, names_nothing}
+use Rattle.zs_parts.specs.Symbols.{u16_max, u32_max, u64_max, numbered_of, names_nothing}
 use Rattle.zs_script.specs.Plain.{is_plain_text}
-use Rattle.zs_script.specs.Parts.{Part, number, key, selector, wire, wire_if, payload, push_body, parameters, timeout, value, encoding, timestamp, qos, quality, reply_quality, source, attachment, responder, cancellation_token, interest, channel, handed_to, channel_kind, Value}
+use Rattle.zs_parts.specs.Parts.{Part, number, key, selector, wire, wire_if, payload, push_body, parameters, timeout, value, encoding, timestamp, qos, quality, reply_quality, source, attachment, responder, cancellation_token, interest, channel, handed_to, channel_kind, Value}
 
 -- whether there is none
 abbrev pub is_missing : {A : Type 0} → Option A → Bool

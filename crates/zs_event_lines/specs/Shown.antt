@@ -26,9 +26,9 @@ use Rattle.zs_events.specs.declared.publication.ReplyQuality.{ReplyQuality}
 use Rattle.zs_events.specs.declared.update.PushBody.{PushBody}
 use Rattle.zs_events.specs.declared.update.PushBody.TheVariants.{Put, Delete}
 use Rattle.zs_events.specs.Updates.{default_encoding}
-use Rattle.zs_script.specs.Words.{congestion_word, flag_digit, complete_word, target_word, consolidation_word, bytes_text, wire_text}
-use Rattle.zs_script.specs.Pieces.{named, field_if, parameter_fields, encoding_field, payload_field, written, timestamp as timestamp_piece, source as source_piece, attachment as attachment_piece, responder as responder_piece, interest as interest_piece}
-use Rattle.zs_script.specs.Parts.{Part, number, locality, background_kind, parent, complete, history, key, selector, wire, wire_if, payload, push_body, parameters, target, consolidation, timeout, value, encoding, timestamp, qos, reliable, quality, reply_quality, source, attachment, responder, any_key, cancellation_token, interest, channel, handed_to, channel_kind, Value}
+use Rattle.zs_printing.specs.Words.{congestion_word, flag_digit, complete_word, target_word, consolidation_word, bytes_text, wire_text}
+use Rattle.zs_printing.specs.Pieces.{named, field_if, parameter_fields, encoding_field, payload_field, written, timestamp as timestamp_piece, source as source_piece, attachment as attachment_piece, responder as responder_piece, interest as interest_piece}
+use Rattle.zs_parts.specs.Parts.{Part, number, locality, background_kind, parent, complete, history, key, selector, wire, wire_if, payload, push_body, parameters, target, consolidation, timeout, value, encoding, timestamp, qos, reliable, quality, reply_quality, source, attachment, responder, any_key, cancellation_token, interest, channel, handed_to, channel_kind, Value}
 
 -- no field where that holds, else this one
 abbrev pub unless : Bool → List ℕ → List (List ℕ)

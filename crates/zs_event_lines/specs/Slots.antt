@@ -1,8 +1,8 @@
 -- A line that is to be printed: a word, and then the parts of a form with their values, and more words.
 use Rattle.std.specs.Prelude.{ℕ, ◌≡◌, Bool, true, false, List, [], ◌∷◌, ◌++◌, Option, Some, None, if◌then◌else◌}
 use Rattle.std.specs.List.{list_all, flat_map}
-use Rattle.zs_script.specs.Pieces.{tabs}
-use Rattle.zs_script.specs.Parts.{Part, Value, Maker}
+use Rattle.zs_printing.specs.Pieces.{tabs}
+use Rattle.zs_parts.specs.Parts.{Part, Value, Maker}
 use Rattle.zs_event_lines.specs.Shown.{shown}
 use Rattle.zs_event_lines.specs.Sayable.{says, is_typed, kept}
 

@@ -1,6 +1,7 @@
 -- What the code's parts are to the definitions.
-use Rattle.zs_script.specs.Symbols.{u16_max, u32_max, u64_max}
-use Rattle.zs_script.specs.Parts.{number, locality, background_kind, parent, complete, history, key, selector, wire, wire_if, payload, push_body, parameters, target, consolidation, timeout, value, encoding, timestamp, qos, reliable, quality, reply_quality, source, attachment, responder, any_key, cancellation_token, interest, channel, handed_to}
+use Rattle.std.specs.Prelude.{Bool, true, false}
+use Rattle.zs_parts.specs.Symbols.{u16_max, u32_max, u64_max}
+use Rattle.zs_parts.specs.Parts.{number, locality, background_kind, parent, complete, history, key, selector, wire, wire_if, payload, push_body, parameters, target, consolidation, timeout, value, encoding, timestamp, qos, reliable, quality, reply_quality, source, attachment, responder, any_key, cancellation_token, interest, channel, handed_to}
 use Rattle.zs_event_lines.specs.Slots.{Slot, at, said}
 use Rattle.zs_event_lines.specs.Lines.{body_kind, told_as}
 use Rattle.zs_event_lines.specs.declared.shown.Shown.{Shown}
@@ -43,3 +44,23 @@ slot_of (CancellationToken id) = at cancellation_token id
 slot_of (Interest id) = at interest id
 slot_of (Channel c) = at channel c
 slot_of (HandedTo c) = at handed_to c
+
+-- whether it is an option other than quality of service, or a field that may be left out
+abbrev pub is_option : Shown → Bool
+is_option (WireIf w) = true
+is_option (Parameters text) = true
+is_option (Target t) = true
+is_option (Consolidation mode) = true
+is_option (Timeout time) = true
+is_option (Value v) = true
+is_option (Encoding text) = true
+is_option (Timestamp time) = true
+is_option (Source origin) = true
+is_option (Attachment bytes) = true
+is_option (Responder id) = true
+is_option (AnyKey flag) = true
+is_option (CancellationToken id) = true
+is_option (Interest id) = true
+is_option (Channel c) = true
+is_option (HandedTo c) = true
+is_option s = false

@@ -3,7 +3,7 @@
 ghost use Rattle.std.specs.Prelude.{◌≡◌, Some, IfOk};
 ghost use Rattle.std.specs.String.{string_bytes};
 ghost use Rattle.zs_events.specs.declared.event.Event.TheVariants.{Sub, Queryable, Lsub, Undeclare};
-ghost use Rattle.zs_script.specs.Grammar.{parent_parts};
+ghost use Rattle.zs_grammar.specs.Grammar.{parent_parts};
 ghost use Rattle.zs_event_lines.specs.Slots.{printed, IsPrinted};
 ghost use Rattle.zs_event_lines.specs.Lines.{form_line, line_of};
 

@@ -3,7 +3,7 @@
 ghost use Rattle.std.specs.Prelude.{◌≡◌, true, Some, IfOk, IfSome, option_map};
 ghost use Rattle.std.specs.String.{string_bytes};
 ghost use Rattle.zs_events.specs.declared.script_event.ScriptEvent.TheVariants.{Core};
-ghost use Rattle.zs_script.specs.Grammar.{event_of};
+ghost use Rattle.zs_grammar.specs.Grammar.{event_of};
 ghost use Rattle.zs_script.specs.Plain.{has_no_line_feed};
 ghost use Rattle.zs_event_lines.specs.Slots.{printed, IsPrinted};
 ghost use Rattle.zs_event_lines.specs.Lines.{line_of, gathered_event};

@@ -2,32 +2,25 @@
 
 ghost use Rattle.std.specs.Prelude.{◌≡◌, ◌==◌, ◌∷◌, ◌++◌, OnOk, decimal, encode_utf8_all};
 ghost use Rattle.std.specs.String.{string_bytes};
-ghost use Rattle.zs_script.specs.Words.{bytes_text, wire_text};
-ghost use Rattle.zs_script.specs.Pieces.{tabs, field_if, parameter_fields, encoding_field};
-ghost use Rattle.zs_event_lines.specs.Shown.{unless, key_text, suffix_text, selector_text, question_text, is_congestion, named_encoding, body_fields, query_value_fields, priority_field, congestion_field, express_field, qos_fields, quality_fields, reply_quality_fields, channel_text, is_print};
+ghost use Rattle.zs_printing.specs.Words.{bytes_text, wire_text};
+ghost use Rattle.zs_printing.specs.Pieces.{tabs, field_if, encoding_field};
+ghost use Rattle.zs_event_lines.specs.Shown.{unless, key_text, suffix_text, selector_text, question_text, is_congestion, named_encoding, body_fields, priority_field, congestion_field, express_field, qos_fields, quality_fields, reply_quality_fields};
 ghost use Rattle.zs_event_lines.specs.Lines.{told_as};
 ghost use Rattle.zs_event_lines.specs.Slots.{slot_text};
 ghost use Rattle.zs_event_lines.specs.Views.{slot_of};
 
+use crate::optional::{append_encoding, append_option};
 use crate::shown::Shown;
-use crate::words::{
-    background_word, history_word, is_auto, is_best, is_congestion, is_default, locality_word,
-    parent_word,
-};
+use crate::words::{background_word, history_word, is_congestion, locality_word, parent_word};
 use std::alloc::AllocError;
-use zs_events::{Chan, KeyArg, PublicationQuality, PushBody, ReplyQuality};
+use zs_events::{KeyArg, PublicationQuality, PushBody, ReplyQuality};
 use zs_sample::{CongestionControl, QoSType, SampleKind, Text, ZBytes};
 use zs_script::append_bytes;
-use zs_script::piece_printing::{
-    append_attachment, append_interest, append_responder, append_source, append_timestamp,
-};
-use zs_script::words::{
-    complete_word, congestion_word, consolidation_word, flag_digit, target_word,
-};
-use zs_wire::{Body, Mapping, Value, WireExpr};
+use zs_script::words::{complete_word, congestion_word, flag_digit};
+use zs_wire::{Body, Mapping, WireExpr};
 
 /// Puts the fields of a part behind a text.
-#[tactic(auto, unfolding(crate::specs::Slots::slot_text, crate::specs::Shown::shown, zs_script::specs::Pieces::piece_text))]
+#[tactic(auto, unfolding(crate::specs::Slots::slot_text, crate::specs::Shown::shown, zs_printing::specs::Pieces::piece_text))]
 pub(crate) fn append_shown(out: &mut String, shown: Shown<'_>) -> Result<(), AllocError>
     ensures { OnOk result (string_bytes out.new ≡ string_bytes out.old ++ slot_text (slot_of shown.entry)) }
 {
@@ -44,39 +37,14 @@ pub(crate) fn append_shown(out: &mut String, shown: Shown<'_>) -> Result<(), All
         Shown::Key(key) => append_key(out, key),
         Shown::Selector(key, text) => append_selector(out, key, text),
         Shown::Wire(wire) => append_wire(out, wire),
-        Shown::WireIf(wire) => append_wire_if(out, wire),
         Shown::Payload(bytes) => append_payload(out, bytes),
         Shown::Update(body) => append_update(out, body),
         Shown::Body(body) => append_body(out, body),
-        Shown::Parameters(text) => append_parameters(out, text),
-        Shown::Target(target) => append_unless(
-            out,
-            is_best(target),
-            "target=",
-            target_word(target),
-        ),
-        Shown::Consolidation(mode) => append_unless(
-            out,
-            is_auto(mode),
-            "cons=",
-            consolidation_word(mode),
-        ),
-        Shown::Timeout(time) => append_moment_if(out, "timeout=", time),
-        Shown::Value(value) => append_value(out, value),
-        Shown::Encoding(text) => append_encoding(out, text),
-        Shown::Timestamp(time) => append_timestamp(out, time),
         Shown::QoS(_, absent, qos) => append_qos(out, absent, qos),
         Shown::Reliable(flag) => append_unless(out, flag, "rel=", flag_digit(flag)),
         Shown::Quality(quality) => append_quality(out, quality),
         Shown::ReplyQuality(quality) => append_reply_quality(out, quality),
-        Shown::Source(source) => append_source(out, source),
-        Shown::Attachment(bytes) => append_attachment(out, bytes.as_ref()),
-        Shown::Responder(responder) => append_responder(out, responder),
-        Shown::AnyKey(flag) => append_unless(out, !flag, "accept=any", ""),
-        Shown::CancellationToken(id) => append_number_if(out, "token=", id),
-        Shown::Interest(id) => append_interest(out, id),
-        Shown::Channel(channel) => append_channel(out, "", channel),
-        Shown::HandedTo(channel) => append_channel(out, "to=", channel),
+        _ => append_option(out, shown),
     }
 }
 
@@ -89,7 +57,7 @@ fn append_field(out: &mut String, text: &str) -> Result<(), AllocError>
 }
 
 /// A name and a number.
-fn append_named(out: &mut String, name: &str, number: u64) -> Result<(), AllocError>
+pub(crate) fn append_named(out: &mut String, name: &str, number: u64) -> Result<(), AllocError>
     ensures { OnOk result (string_bytes out.new ≡ string_bytes out.old ++ (9 ∷ (name.now ++ decimal number))) }
 {
     write!(out, "\t{name}{number}")
@@ -97,48 +65,18 @@ fn append_named(out: &mut String, name: &str, number: u64) -> Result<(), AllocEr
 
 /// An option whose value is a word, unless it says what its absence says.
 #[tactic(auto, using(crate::proofs::Joining::joining))]
-fn append_unless(out: &mut String, absent: bool, name: &str, text: &str) -> Result<(), AllocError>
+pub(crate) fn append_unless(
+    out: &mut String,
+    absent: bool,
+    name: &str,
+    text: &str,
+) -> Result<(), AllocError>
     ensures { OnOk result (string_bytes out.new ≡ string_bytes out.old ++ tabs (unless absent (name.now ++ text.now))) }
 {
     if absent {
         return Ok(());
     }
     write!(out, "\t{name}{text}")
-}
-
-/// An option whose value is a number, if it is there.
-#[tactic(auto, using(crate::proofs::Joining::joining))]
-fn append_moment_if(out: &mut String, name: &str, time: Option<u64>) -> Result<(), AllocError>
-    ensures { OnOk result (string_bytes out.new
-        ≡ string_bytes out.old ++ tabs (field_if (λ n. name.now ++ decimal n) time)) }
-{
-    let Some(time) = time else {
-        return Ok(());
-    };
-    append_named(out, name, time)
-}
-
-/// The same of an entity's number.
-#[tactic(auto, using(crate::proofs::Joining::joining))]
-fn append_number_if(out: &mut String, name: &str, id: Option<u32>) -> Result<(), AllocError>
-    ensures { OnOk result (string_bytes out.new
-        ≡ string_bytes out.old ++ tabs (field_if (λ n. name.now ++ decimal n) id)) }
-{
-    let Some(id) = id else {
-        return Ok(());
-    };
-    append_named(out, name, u64::from(id))
-}
-
-/// A suffix behind a colon, if there is one.
-#[tactic(auto, using(crate::proofs::Joining::joining))]
-fn append_suffix(out: &mut String, text: &str) -> Result<(), AllocError>
-    ensures { OnOk result (string_bytes out.new ≡ string_bytes out.old ++ suffix_text text.now) }
-{
-    if text.is_empty() {
-        return Ok(());
-    }
-    write!(out, ":{text}")
 }
 
 #[tactic(auto, using(crate::proofs::Joining::joining))]
@@ -162,6 +100,25 @@ fn append_numbered(out: &mut String, number: u16, suffix: &Text) -> Result<(), A
     append_suffix(out, suffix.as_str())
 }
 
+/// A suffix behind a colon, if there is one.
+#[tactic(auto, using(crate::proofs::Joining::joining))]
+fn append_suffix(out: &mut String, text: &str) -> Result<(), AllocError>
+    ensures { OnOk result (string_bytes out.new ≡ string_bytes out.old ++ suffix_text text.now) }
+{
+    if text.is_empty() {
+        return Ok(());
+    }
+    write!(out, ":{text}")
+}
+
+#[tactic(auto, using(crate::proofs::Joining::joining))]
+fn append_selector(out: &mut String, key: &KeyArg, text: &Text) -> Result<(), AllocError>
+    ensures { OnOk result (string_bytes out.new ≡ string_bytes out.old ++ (9 ∷ selector_text key.now text.now)) }
+{
+    append_key(out, key)?;
+    append_question(out, text.as_str())
+}
+
 /// A question mark and parameters, if there are any.
 #[tactic(auto, using(crate::proofs::Joining::joining))]
 fn append_question(out: &mut String, text: &str) -> Result<(), AllocError>
@@ -173,15 +130,7 @@ fn append_question(out: &mut String, text: &str) -> Result<(), AllocError>
     write!(out, "?{text}")
 }
 
-#[tactic(auto, using(crate::proofs::Joining::joining))]
-fn append_selector(out: &mut String, key: &KeyArg, text: &Text) -> Result<(), AllocError>
-    ensures { OnOk result (string_bytes out.new ≡ string_bytes out.old ++ (9 ∷ selector_text key.now text.now)) }
-{
-    append_key(out, key)?;
-    append_question(out, text.as_str())
-}
-
-fn append_wire(out: &mut String, wire: &WireExpr) -> Result<(), AllocError>
+pub(crate) fn append_wire(out: &mut String, wire: &WireExpr) -> Result<(), AllocError>
     ensures { OnOk result (string_bytes out.new ≡ string_bytes out.old ++ (9 ∷ wire_text wire.now)) }
 {
     let scope = wire.scope;
@@ -193,21 +142,22 @@ fn append_wire(out: &mut String, wire: &WireExpr) -> Result<(), AllocError>
 }
 
 #[tactic(auto, using(crate::proofs::Joining::joining))]
-fn append_wire_if(out: &mut String, wire: &Option<WireExpr>) -> Result<(), AllocError>
-    ensures { OnOk result (string_bytes out.new ≡ string_bytes out.old ++ tabs (field_if wire_text wire.now)) }
-{
-    let Some(wire) = wire else {
-        return Ok(());
-    };
-    append_wire(out, wire)
-}
-
-#[tactic(auto, using(crate::proofs::Joining::joining))]
 fn append_payload(out: &mut String, bytes: &ZBytes) -> Result<(), AllocError>
     ensures { OnOk result (string_bytes out.new ≡ string_bytes out.old ++ (9 ∷ bytes_text bytes.now)) }
 {
     out.push('\t')?;
     append_bytes(out, bytes)
+}
+
+#[tactic(auto, using(crate::proofs::Joining::joining))]
+fn append_update(out: &mut String, body: &PushBody) -> Result<(), AllocError>
+    ensures { OnOk result (string_bytes out.new ≡ string_bytes out.old ++ tabs (body_fields body.now)) }
+{
+    let PushBody::Put { payload, encoding } = body else {
+        return Ok(());
+    };
+    append_payload(out, payload)?;
+    append_encoding_if(out, encoding)
 }
 
 /// An encoding that is named.
@@ -220,30 +170,6 @@ fn append_encoding_if(out: &mut String, text: &Option<Text>) -> Result<(), Alloc
     };
     let text = text.as_str();
     write!(out, "\tenc={text}")
-}
-
-/// An encoding, unless it is the default one.
-#[tactic(auto, using(crate::proofs::Joining::joining))]
-fn append_encoding(out: &mut String, text: &Text) -> Result<(), AllocError>
-    ensures { OnOk result (string_bytes out.new
-        ≡ string_bytes out.old ++ tabs (field_if encoding_field (named_encoding text.now))) }
-{
-    if is_default(text) {
-        return Ok(());
-    }
-    let text = text.as_str();
-    write!(out, "\tenc={text}")
-}
-
-#[tactic(auto, using(crate::proofs::Joining::joining))]
-fn append_update(out: &mut String, body: &PushBody) -> Result<(), AllocError>
-    ensures { OnOk result (string_bytes out.new ≡ string_bytes out.old ++ tabs (body_fields body.now)) }
-{
-    let PushBody::Put { payload, encoding } = body else {
-        return Ok(());
-    };
-    append_payload(out, payload)?;
-    append_encoding_if(out, encoding)
 }
 
 #[tactic(auto, using(crate::proofs::Joining::joining))]
@@ -269,33 +195,12 @@ fn append_put(out: &mut String, body: &Body) -> Result<(), AllocError>
 }
 
 #[tactic(auto, using(crate::proofs::Joining::joining))]
-fn append_parameters(out: &mut String, text: &Text) -> Result<(), AllocError>
-    ensures { OnOk result (string_bytes out.new
-        ≡ string_bytes out.old ++ tabs (parameter_fields (encode_utf8_all text.now))) }
+fn append_qos(out: &mut String, absent: CongestionControl, qos: QoSType) -> Result<(), AllocError>
+    ensures { OnOk result (string_bytes out.new ≡ string_bytes out.old ++ tabs (qos_fields absent qos)) }
 {
-    append_parameter_text(out, text.as_str())
-}
-
-fn append_parameter_text(out: &mut String, text: &str) -> Result<(), AllocError>
-    ensures { OnOk result (string_bytes out.new ≡ string_bytes out.old ++ tabs (parameter_fields text.now)) }
-{
-    if text.is_empty() {
-        return Ok(());
-    }
-    write!(out, "\tparams={text}")
-}
-
-/// A value: its payload, and its encoding.
-#[tactic(auto, using(crate::proofs::Joining::joining))]
-fn append_value(out: &mut String, value: &Option<Value>) -> Result<(), AllocError>
-    ensures { OnOk result (string_bytes out.new ≡ string_bytes out.old ++ tabs (query_value_fields value.now)) }
-{
-    let Some(value) = value else {
-        return Ok(());
-    };
-    write!(out, "\tpayload=")?;
-    append_bytes(out, &value.payload)?;
-    append_encoding(out, &value.encoding)
+    append_priority(out, qos.priority)?;
+    append_congestion(out, absent, qos.congestion)?;
+    append_unless(out, !qos.express, "express=", flag_digit(qos.express))
 }
 
 #[tactic(auto, using(crate::proofs::Joining::joining))]
@@ -323,15 +228,6 @@ fn append_congestion(
         "cc=",
         congestion_word(congestion),
     )
-}
-
-#[tactic(auto, using(crate::proofs::Joining::joining))]
-fn append_qos(out: &mut String, absent: CongestionControl, qos: QoSType) -> Result<(), AllocError>
-    ensures { OnOk result (string_bytes out.new ≡ string_bytes out.old ++ tabs (qos_fields absent qos)) }
-{
-    append_priority(out, qos.priority)?;
-    append_congestion(out, absent, qos.congestion)?;
-    append_unless(out, !qos.express, "express=", flag_digit(qos.express))
 }
 
 #[tactic(auto, using(crate::proofs::Joining::joining))]
@@ -383,17 +279,4 @@ fn append_express_if(out: &mut String, express: Option<bool>) -> Result<(), Allo
         return Ok(());
     };
     append_unless(out, false, "express=", flag_digit(express))
-}
-
-/// Where items go, behind a name.
-#[tactic(auto, using(crate::proofs::Joining::joining))]
-fn append_channel(out: &mut String, name: &str, channel: Chan) -> Result<(), AllocError>
-    ensures { OnOk result (string_bytes out.new
-        ≡ string_bytes out.old ++ tabs (unless (is_print channel) (name.now ++ channel_text channel))) }
-{
-    match channel {
-        Chan::Print => Ok(()),
-        Chan::Fifo(size) => write!(out, "\t{name}fifo:{size}"),
-        Chan::Ring(size) => write!(out, "\t{name}ring:{size}"),
-    }
 }

@@ -9,6 +9,7 @@ mod fields;
 pub mod laws;
 mod lines;
 mod messages;
+mod optional;
 mod publications;
 mod queries;
 mod saying;

@@ -4,8 +4,8 @@ ghost use Rattle.std.specs.Prelude.{◌≡◌, ◌∷◌, Some, IfOk};
 ghost use Rattle.std.specs.String.{string_bytes};
 ghost use Rattle.zs_wire.specs.declared.message.Message.TheVariants.{DeclareKeyExpr, DeclareQueryable, DeclareToken, UndeclareToken, Push as push_message, Request as request_message, Response as response_message};
 ghost use Rattle.zs_wire.specs.declared.response.Answered.TheVariants.{Reply, Err};
-ghost use Rattle.zs_script.specs.Symbols.{u32_max};
-ghost use Rattle.zs_script.specs.Grammar.{number_parts};
+ghost use Rattle.zs_parts.specs.Symbols.{u32_max};
+ghost use Rattle.zs_grammar.specs.Grammar.{number_parts};
 ghost use Rattle.zs_event_lines.specs.Slots.{said, slots_of, printed, IsPrinted};
 ghost use Rattle.zs_event_lines.specs.Lines.{named_timeout, is_said_body, message_line, answered_line, net_line};
 

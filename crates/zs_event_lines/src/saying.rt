@@ -1,6 +1,6 @@
 //! Whether values of parts can be said in a line.
 
-ghost use Rattle.std.specs.Prelude.{◌≡◌};
+ghost use Rattle.std.specs.Prelude.{◌≡◌, ◌&&◌};
 ghost use Rattle.zs_script.specs.Plain.{is_plain_text};
 ghost use Rattle.zs_event_lines.specs.Lines.{body_kind, told_as};
 ghost use Rattle.zs_event_lines.specs.Sayable.{if_there, says_key, has_no_question, says_encoding, says_wire, says_body, says_priority, says_channel};
@@ -20,43 +20,21 @@ pub(crate) fn says(shown: Shown<'_>) -> bool
     ensures { result ≡ slot_says (slot_of shown.entry) }
 {
     match shown {
-        Shown::Said(_) => true,
-        Shown::Number(_) => true,
-        Shown::KeyNumber(_) => true,
-        Shown::Moment(_) => true,
-        Shown::Locality(_) => true,
-        Shown::Background(_) => true,
-        Shown::Parent(_) => true,
-        Shown::Complete(_) => true,
-        Shown::History(_) => true,
         Shown::Key(key) => says_key(key),
-        Shown::Selector(key, text) => {
-            says_key(key) && has_key_no_question(key) && is_plain_text(text)
-        }
+        Shown::Selector(key, text) => says_selector(key, text),
         Shown::Wire(wire) => is_plain_text(&wire.suffix),
         Shown::WireIf(wire) => says_wire_if(wire),
-        Shown::Payload(_) => true,
         Shown::Update(body) => says_update(body),
         Shown::Body(body) => says_body(body),
         Shown::Parameters(text) => is_plain_text(text),
-        Shown::Target(_) => true,
-        Shown::Consolidation(_) => true,
-        Shown::Timeout(_) => true,
         Shown::Value(value) => says_value(value),
         Shown::Encoding(text) => says_encoding(text),
-        Shown::Timestamp(_) => true,
         Shown::QoS(least, _, qos) => says_priority(least, qos.priority),
-        Shown::Reliable(_) => true,
         Shown::Quality(quality) => says_priority(1, quality.qos.priority),
         Shown::ReplyQuality(quality) => says_priority_if(quality.priority),
-        Shown::Source(_) => true,
-        Shown::Attachment(_) => true,
-        Shown::Responder(_) => true,
-        Shown::AnyKey(_) => true,
-        Shown::CancellationToken(_) => true,
-        Shown::Interest(_) => true,
         Shown::Channel(channel) => says_channel(channel),
         Shown::HandedTo(channel) => says_channel(channel),
+        _ => true,
     }
 }
 
@@ -68,6 +46,13 @@ fn says_key(key: &KeyArg) -> bool
         KeyArg::Number { suffix, .. } => is_plain_text(suffix),
         KeyArg::Declared { .. } => false,
     }
+}
+
+/// A key and the parameters behind it.
+fn says_selector(key: &KeyArg, text: &Text) -> bool
+    ensures { result ≡ (says_key key.now && (has_no_question key.now && is_plain_text text.now)) }
+{
+    says_key(key) && has_key_no_question(key) && is_plain_text(text)
 }
 
 /// Whether there is no question mark in it, behind which parameters would stand.

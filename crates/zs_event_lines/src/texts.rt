@@ -2,7 +2,7 @@
 
 ghost use Rattle.std.specs.Prelude.{◌≡◌, ◌==◌, not};
 ghost use Rattle.std.specs.List.{list_all, before_first};
-ghost use Rattle.zs_script.specs.Symbols.{is_colon, numbered_of};
+ghost use Rattle.zs_parts.specs.Symbols.{is_colon, numbered_of};
 ghost use Rattle.zs_script.specs.Plain.{is_plain, is_plain_text};
 ghost use Rattle.zs_event_lines.specs.Sayable.{is_missing, says_encoding};
 

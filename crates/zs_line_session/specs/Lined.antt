@@ -8,8 +8,8 @@ use Rattle.zs_events.specs.Turn.{was_refused}
 use Rattle.zs_core.specs.Types.{Settings}
 use Rattle.zs_core.specs.World.{World}
 use Rattle.zs_core.specs.Stands.{world_after, Steps}
-use Rattle.zs_script.specs.Grammar.{event_of}
-use Rattle.zs_script.specs.Printing.{turn_text}
+use Rattle.zs_grammar.specs.Grammar.{event_of}
+use Rattle.zs_printing.specs.Printing.{turn_text}
 use Rattle.zs_line_session.specs.declared.session.LineFault.{LineFault}
 use Rattle.zs_line_session.specs.declared.session.LineFault.TheVariants.{TooLong, NoEvent, NoMemory}
 

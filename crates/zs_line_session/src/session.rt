@@ -6,8 +6,8 @@ ghost use Rattle.zs_core.specs.Settings.{is_valid};
 ghost use Rattle.zs_events.specs.declared.event.Event.TheVariants.{Close};
 ghost use Rattle.zs_line_session.specs.declared.session.LineFault.TheVariants.{NoMemory};
 ghost use Rattle.zs_line_session.specs.Lined.{opened, session_event, Takes, TakesLine, IsCause};
-ghost use Rattle.zs_script.specs.Grammar.{event_of};
-ghost use Rattle.zs_script.specs.Printing.{turn_text};
+ghost use Rattle.zs_grammar.specs.Grammar.{event_of};
+ghost use Rattle.zs_printing.specs.Printing.{turn_text};
 
 use crate::kept::KeptText;
 use std::alloc::{AllocError, Global};

@@ -11,10 +11,10 @@ use Rattle.zs_events.specs.declared.key_arg.KeyArg.TheVariants.{Text, Number, De
 use Rattle.zs_events.specs.Kinds.{NamedKey, NoKey, OwnKey, PublisherKey, QuerierKey, WireKey, row_of}
 use Rattle.zs_core.specs.Types.{Settings}
 use Rattle.zs_core.specs.Received.{AreSpelled}
-use Rattle.zs_script.specs.Grammar.{event_of}
+use Rattle.zs_grammar.specs.Grammar.{event_of}
 use Rattle.zs_script.specs.Plain.{has_no_line_feed, is_field_text, is_plain_text, is_plain_named, is_plain_event}
 use Rattle.zs_script.specs.Laws.{EventsArePlain}
-use Rattle.zs_script.specs.Symbols.{after_prefix}
+use Rattle.zs_parts.specs.Symbols.{after_prefix}
 use Rattle.zs_driving.specs.Languages.{events_of}
 use Rattle.zs_laws.specs.Spelled.{IsSpelledArgument, IsSpelledName, IsSpelled}
 use Rattle.zs_delivery.specs.declared.side.LinkSide.{LinkSide}

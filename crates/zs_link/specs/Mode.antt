@@ -10,9 +10,9 @@ use Rattle.zs_events.specs.declared.script_event.ScriptEvent.TheVariants.{Core}
 use Rattle.zs_events.specs.declared.turn.Turn.{Turn}
 use Rattle.zs_events.specs.Kinds.{row_of}
 use Rattle.zs_core.specs.Types.{Settings}
-use Rattle.zs_script.specs.Grammar.{event_of}
-use Rattle.zs_script.specs.Printing.{line, marked_text}
-use Rattle.zs_script.specs.Symbols.{after_prefix}
+use Rattle.zs_grammar.specs.Grammar.{event_of}
+use Rattle.zs_printing.specs.Printing.{line, marked_text}
+use Rattle.zs_parts.specs.Symbols.{after_prefix}
 use Rattle.zs_driving.specs.Tasks.{Task, task_of}
 use Rattle.zs_driving.specs.Languages.{Language, rules_of}
 use Rattle.zs_delivery.specs.declared.side.LinkSide.{LinkSide}

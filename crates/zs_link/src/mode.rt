@@ -8,7 +8,7 @@ ghost use Rattle.zs_core.specs.Types.{Settings};
 ghost use Rattle.zs_core.specs.Settings.{is_valid};
 ghost use Rattle.zs_delivery.specs.Linked.{Take, Deliver};
 ghost use Rattle.zs_delivery.specs.Links.{is_net};
-ghost use Rattle.zs_script.specs.Grammar.{event_of};
+ghost use Rattle.zs_grammar.specs.Grammar.{event_of};
 ghost use Rattle.zs_link.specs.World.{AreNew};
 ghost use Rattle.zs_link.specs.Mode.{link_language, link_line, said_in, line_named, line_at, linkable_of, if_linkable, is_linkable};
 ghost use Rattle.zs_link.specs.Machine.{IsBehind, TakesLine, TakesEnd};

@@ -3,7 +3,7 @@
 ghost use Rattle.std.specs.Prelude.{◌≡◌, [], ◌∷◌, ◌++◌, OnOk, OnErr};
 ghost use Rattle.std.specs.String.{string_bytes};
 ghost use Rattle.zs_delivery.specs.declared.side.LinkSide.TheVariants.{A, B};
-ghost use Rattle.zs_script.specs.Printing.{line};
+ghost use Rattle.zs_printing.specs.Printing.{line};
 ghost use Rattle.zs_link.specs.Mode.{side_text, delivered_text, mark, opposite};
 
 use crate::world::Delivered;

@@ -7,7 +7,7 @@ use Rattle.zs_driving.specs.declared.errors.DriveError.{DriveError}
 use Rattle.zs_driving.specs.Driving.{Outlet}
 use Rattle.zs_driving.specs.Errors.{status_of, complaint_of}
 use Rattle.zs_driving.specs.Statuses.{Complains}
-use Rattle.zs_script.specs.Symbols.{number_of}
+use Rattle.zs_parts.specs.Symbols.{number_of}
 use Rattle.zs_workers.specs.declared.tally.Workers.{Workers}
 use Rattle.zs_workers.specs.declared.tally.Worked.{Worked}
 use Rattle.zs_workers.specs.Workers.{IsWorked}

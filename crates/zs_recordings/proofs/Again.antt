@@ -20,7 +20,7 @@ use Rattle.zs_core.specs.Types.{Settings}
 use Rattle.zs_core.specs.Effects.{effects}
 use Rattle.zs_script.specs.Laws.{row}
 use Rattle.zs_script.specs.Plain.{has_no_line_feed, is_plain, is_plain_effect}
-use Rattle.zs_script.specs.Printing.{answer_fields, effect_fields, marked_line, tabbed}
+use Rattle.zs_printing.specs.Printing.{answer_fields, effect_fields, marked_line, tabbed}
 use Rattle.zs_script.proofs.PlainTexts.{before-feed, lines-found}
 use Rattle.zs_script.proofs.PlainEffects.{answers-plain, effects-plain}
 use Rattle.zs_recordings.specs.Entries.{marked_row, turn_rows, entry_text, session_of}

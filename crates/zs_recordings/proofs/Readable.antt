@@ -13,7 +13,7 @@ use Rattle.zs_events.specs.declared.script_event.ScriptEvent.{ScriptEvent}
 use Rattle.zs_events.specs.declared.script_event.ScriptEvent.TheVariants.{Core, Recv}
 use Rattle.zs_core.specs.Types.{Settings}
 use Rattle.zs_core.specs.Effects.{effects}
-use Rattle.zs_script.specs.Grammar.{event_of}
+use Rattle.zs_grammar.specs.Grammar.{event_of}
 use Rattle.zs_script.specs.Plain.{has_no_line_feed, is_plain_effect}
 use Rattle.zs_script.proofs.PlainTexts.{lines-no-feed}
 use Rattle.zs_event_lines.specs.Slots.{Line, line_text, printed}

@@ -4,8 +4,8 @@ use Rattle.zs_events.specs.declared.event.Event.{Event}
 use Rattle.zs_events.specs.declared.script_event.ScriptEvent.{ScriptEvent}
 use Rattle.zs_events.specs.declared.script_event.ScriptEvent.TheVariants.{Core, Recv}
 use Rattle.zs_events.specs.declared.turn.Turn.{Turn}
-use Rattle.zs_script.specs.Grammar.{event_of}
-use Rattle.zs_script.specs.Printing.{marked_text}
+use Rattle.zs_grammar.specs.Grammar.{event_of}
+use Rattle.zs_printing.specs.Printing.{marked_text}
 use Rattle.zs_event_lines.specs.Slots.{printed}
 use Rattle.zs_event_lines.specs.Lines.{line_of}
 

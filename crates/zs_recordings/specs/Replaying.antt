@@ -11,7 +11,7 @@ use Rattle.zs_driving.specs.Tasks.{Task, task_of, lines_behind}
 use Rattle.zs_events.specs.declared.event.Event.{Event}
 use Rattle.zs_core.specs.Types.{Settings}
 use Rattle.zs_core.specs.Effects.{effects}
-use Rattle.zs_script.specs.Symbols.{after_prefix}
+use Rattle.zs_parts.specs.Symbols.{after_prefix}
 use Rattle.zs_recordings.specs.Entries.{turn_rows, session_of}
 use Rattle.zs_recordings.specs.declared.replayed.Replayed.{Replayed}
 use Rattle.zs_recordings.specs.declared.replayed.Replayed.TheVariants.{Same, Differs}

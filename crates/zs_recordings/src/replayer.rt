@@ -6,7 +6,7 @@ ghost use Rattle.zs_driving.specs.Tasks.{Rules};
 ghost use Rattle.zs_driving.specs.Languages.{rules_of};
 ghost use Rattle.zs_core.specs.Types.{Settings};
 ghost use Rattle.zs_core.specs.Settings.{is_valid};
-ghost use Rattle.zs_script.specs.Grammar.{event_of};
+ghost use Rattle.zs_grammar.specs.Grammar.{event_of};
 ghost use Rattle.zs_recordings.specs.Entries.{if_core, session_of};
 ghost use Rattle.zs_recordings.specs.Replaying.{Said, Heard, Group, recording_line, line_in, replay_language, replayed_by, replayed_text, first_other};
 ghost use Rattle.zs_recordings.specs.Machines.{Follows, Plays, HasPlayed, other_in};

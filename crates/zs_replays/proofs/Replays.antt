@@ -15,7 +15,7 @@ use Rattle.zs_core.specs.Types.{Settings}
 use Rattle.zs_core.specs.Effects.{effects}
 use Rattle.zs_core.specs.Past.{past_of}
 use Rattle.zs_core.specs.Received.{AreSpelled}
-use Rattle.zs_script.specs.Grammar.{event_of}
+use Rattle.zs_grammar.specs.Grammar.{event_of}
 use Rattle.zs_script.specs.Plain.{has_no_line_feed, is_plain_event, is_plain_effect}
 use Rattle.zs_script.proofs.PlainTexts.{lines-no-feed}
 use Rattle.zs_script.proofs.PlainEvents.{events-plain}

@@ -16,8 +16,8 @@ use Rattle.zs_events.specs.declared.turn.HandOver.TheVariants.{Sample, Reply, Qu
 use Rattle.zs_delivery.specs.Links.{is_net}
 use Rattle.zs_store.specs.Store.{Write}
 use Rattle.zs_keeping.specs.Answering.{reply_of, reply_if, replies_of, answers_of, item_answers, effect_answers, answers_to}
-use Rattle.zs_script.specs.Symbols.{payload_of}
-use Rattle.zs_script.specs.Options.{timestamp_of}
+use Rattle.zs_parts.specs.Symbols.{payload_of}
+use Rattle.zs_parts.specs.Options.{timestamp_of}
 use Rattle.zs_replica_lines.specs.declared.line.ReplicaLine.{ReplicaLine}
 use Rattle.zs_replica_lines.specs.declared.line.ReplicaLine.TheVariants.{Dump}
 use Rattle.zs_replica_lines.specs.declared.line.ReplicaRefusal.{ReplicaRefusal}

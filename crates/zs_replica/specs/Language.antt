@@ -3,8 +3,8 @@ use Rattle.std.specs.Prelude.{ℕ, ◌+◌, List, [], ◌∷◌, ◌++◌, lengt
 use Rattle.std.specs.Str.{bytes_eq, is_utf8}
 use Rattle.zs_core.specs.Types.{Settings}
 use Rattle.zs_lines.specs.Lines.{fields}
-use Rattle.zs_script.specs.Printing.{line}
-use Rattle.zs_script.specs.Symbols.{after_prefix}
+use Rattle.zs_printing.specs.Printing.{line}
+use Rattle.zs_parts.specs.Symbols.{after_prefix}
 use Rattle.zs_driving.specs.Tasks.{Task, task_of}
 use Rattle.zs_driving.specs.Languages.{Language, rules_of}
 use Rattle.zs_delivery.specs.declared.side.LinkSide.{LinkSide}

@@ -11,7 +11,7 @@ use Rattle.zs_events.specs.declared.turn.Effect.{Effect}
 use Rattle.zs_events.specs.declared.turn.Turn.{Turn}
 use Rattle.zs_core.specs.Types.{Settings}
 use Rattle.zs_session_cell.specs.Core.{turn_at}
-use Rattle.zs_script.specs.Printing.{line, answer_fields}
+use Rattle.zs_printing.specs.Printing.{line, answer_fields}
 use Rattle.zs_delivery.specs.declared.side.LinkSide.{LinkSide}
 use Rattle.zs_delivery.specs.declared.side.LinkSide.TheVariants.{A, B}
 use Rattle.zs_delivery.specs.Linked.{Side, Linked, LinkLine, Take, Deliver, other, linked_after}

@@ -7,7 +7,7 @@ ghost use Rattle.zs_core.specs.Settings.{is_valid};
 ghost use Rattle.zs_delivery.specs.Links.{is_net};
 ghost use Rattle.zs_delivery.specs.Linked.{Take};
 ghost use Rattle.zs_keeping.specs.Answering.{answers_to};
-ghost use Rattle.zs_script.specs.Printing.{line};
+ghost use Rattle.zs_printing.specs.Printing.{line};
 ghost use Rattle.zs_replica_lines.specs.Lines.{refusal_name};
 ghost use Rattle.zs_replica_lines.specs.Shown.{ends_text, store_text};
 ghost use Rattle.zs_replica.specs.Sides.{AreBehind, store_in, kept_in, kept_delivered, TakesEvent, DeliversOldest, Becomes};

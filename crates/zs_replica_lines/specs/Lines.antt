@@ -19,8 +19,8 @@ use Rattle.zs_events.specs.declared.publication.PublicationQuality.{PublicationQ
 use Rattle.zs_events.specs.declared.update.PushBody.{PushBody}
 use Rattle.zs_events.specs.declared.update.PushBody.TheVariants.{Put, Delete}
 use Rattle.zs_events.specs.declared.update.Update.{Update}
-use Rattle.zs_script.specs.Symbols.{payload_of}
-use Rattle.zs_script.specs.Options.{timestamp_of}
+use Rattle.zs_parts.specs.Symbols.{payload_of}
+use Rattle.zs_parts.specs.Options.{timestamp_of}
 use Rattle.zs_replica_lines.specs.declared.line.ReplicaLine.{ReplicaLine}
 use Rattle.zs_replica_lines.specs.declared.line.ReplicaLine.TheVariants.{Take, Refuse, Dump}
 use Rattle.zs_replica_lines.specs.declared.line.ReplicaRefusal.{ReplicaRefusal}

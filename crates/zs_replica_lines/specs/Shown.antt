@@ -14,8 +14,8 @@ use Rattle.zs_events.specs.declared.turn.HandOver.{HandOver}
 use Rattle.zs_events.specs.declared.turn.HandOver.TheVariants.{Reply as handed_reply}
 use Rattle.zs_events.specs.declared.turn.Kind.{Kind}
 use Rattle.zs_events.specs.declared.turn.Kind.TheVariants.{Get}
-use Rattle.zs_script.specs.Printing.{line}
-use Rattle.zs_script.specs.Words.{byte_digits, timestamp_text}
+use Rattle.zs_printing.specs.Printing.{line}
+use Rattle.zs_printing.specs.Words.{byte_digits, timestamp_text}
 use Rattle.zs_store.specs.Store.{Write}
 
 -- bytes: `x`, and two digits each

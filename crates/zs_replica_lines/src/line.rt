@@ -2,10 +2,10 @@
 
 ghost use Rattle.std.specs.Prelude.{◌≡◌, [], Some, IfOk, false};
 ghost use Rattle.zs_keys.specs.Matching.{includes};
-ghost use Rattle.zs_script.specs.Symbols.{payload_of};
+ghost use Rattle.zs_parts.specs.Symbols.{payload_of};
 ghost use Rattle.zs_lines.specs.Lines.{fields};
-ghost use Rattle.zs_script.specs.Fields.{texts};
-ghost use Rattle.zs_script.specs.Options.{timestamp_of};
+ghost use Rattle.zs_parts.specs.Fields.{texts};
+ghost use Rattle.zs_parts.specs.Options.{timestamp_of};
 ghost use Rattle.zs_replica_lines.specs.Lines.{all_keys, has_star, put_of, write_refusal, question_refusal, publication, plain_inquiry, question, write_line, delete_of, get_of, line_of, line_of_one, line_of_two, line_of_three, line_of_four, refusal_name};
 
 use crate::symbols::{parse_payload, parse_timestamp};

@@ -3,8 +3,8 @@
 ghost use Rattle.std.specs.Prelude.{◌≡◌, [], ◌∷◌, ◌++◌, OnOk, Ok, codes};
 ghost use Rattle.std.specs.String.{string_bytes};
 ghost use Rattle.zs_bytes.specs.Payload.{bytes_of};
-ghost use Rattle.zs_script.specs.Printing.{line, tabbed};
-ghost use Rattle.zs_script.specs.Words.{timestamp_text};
+ghost use Rattle.zs_printing.specs.Printing.{line, tabbed};
+ghost use Rattle.zs_printing.specs.Words.{timestamp_text};
 ghost use Rattle.zs_store.specs.Entry.{seen};
 ghost use Rattle.zs_replica_lines.specs.Shown.{time_fields, entry_fields, write_text, store_text, got_text, replied_text, item_text, ended_text, effect_text, ends_text};
 

@@ -1,8 +1,8 @@
 //! The bytes and the moment of a write, each read from one field.
 
 ghost use Rattle.std.specs.Prelude.{◌≡◌, IfOk};
-ghost use Rattle.zs_script.specs.Options.{timestamp_of};
-ghost use Rattle.zs_script.specs.Symbols.{payload_of};
+ghost use Rattle.zs_parts.specs.Options.{timestamp_of};
+ghost use Rattle.zs_parts.specs.Symbols.{payload_of};
 
 use hex::FromHexError;
 use std::alloc::{AllocError, Global};

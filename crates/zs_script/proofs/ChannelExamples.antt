@@ -18,11 +18,11 @@ use Rattle.zs_events.specs.declared.received.Received.TheVariants.{Item, Empty, 
 use Rattle.zs_events.specs.declared.script_event.ScriptEvent.TheVariants.{Core, Recv}
 use Rattle.zs_events.specs.declared.turn.HandOver.TheVariants.{Reply as handed_reply}
 use Rattle.zs_events.specs.declared.turn.Kind.TheVariants.{Subscriber, Get, LivelinessGet}
-use Rattle.zs_script.specs.Parts.{read, form}
-use Rattle.zs_script.specs.Grammar.{undeclare_of, push_of, message_of, event_of}
-use Rattle.zs_script.specs.Pieces.{written}
-use Rattle.zs_script.specs.Printing.{line, received_fields}
-use Rattle.zs_script.specs.Words.{hex_digits}
+use Rattle.zs_parts.specs.Parts.{read, form}
+use Rattle.zs_grammar.specs.Grammar.{undeclare_of, push_of, message_of, event_of}
+use Rattle.zs_printing.specs.Pieces.{written}
+use Rattle.zs_printing.specs.Printing.{line, received_fields}
+use Rattle.zs_printing.specs.Words.{hex_digits}
 
 -- where items go
 a_sub_without_a_channel : event_of (codes "sub" ++ 9 ∷ codes "any" ++ 9 ∷ codes "k") ≡ Some (Core (Sub Any (Text (codes "k")) Print))

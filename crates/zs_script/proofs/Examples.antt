@@ -27,11 +27,11 @@ use Rattle.zs_events.specs.declared.turn.HandOver.TheVariants.{Sample, Reply as 
 use Rattle.zs_events.specs.declared.turn.Kind.TheVariants.{Subscriber, Get, LivelinessGet}
 use Rattle.zs_events.specs.declared.turn.Refusal.TheVariants.{NotFound}
 use Rattle.zs_lines.specs.Lines.{lines, fields}
-use Rattle.zs_script.specs.Parts.{read, form}
-use Rattle.zs_script.specs.Grammar.{undeclare_of, push_of, response_on, response_of, message_of, event_of}
-use Rattle.zs_script.specs.Pieces.{written}
-use Rattle.zs_script.specs.Printing.{hand_pieces, replied_pieces, turn_text}
-use Rattle.zs_script.specs.Words.{hex_digits}
+use Rattle.zs_parts.specs.Parts.{read, form}
+use Rattle.zs_grammar.specs.Grammar.{undeclare_of, push_of, response_on, response_of, message_of, event_of}
+use Rattle.zs_printing.specs.Pieces.{written}
+use Rattle.zs_printing.specs.Printing.{hand_pieces, replied_pieces, turn_text}
+use Rattle.zs_printing.specs.Words.{hex_digits}
 
 -- bytes cut at line feeds, with and without one at the end
 two_lines : lines (codes "ab" ++ 10 ∷ codes "c") ≡ codes "ab" ∷ codes "c" ∷ []

@@ -1,15 +1,10 @@
-pub mod Choosing
-pub mod Encodings
 pub mod PlainPieces
 pub mod PlainSymbols
 pub mod PlainParts
 pub mod PlainTexts
 pub mod PlainEffects
 pub mod PlainEvents
-pub mod HexDigits
-pub mod Joining
 pub mod Examples
 pub mod QueryExamples
 pub mod LivelinessExamples
 pub mod ChannelExamples
-pub mod ReadingFields

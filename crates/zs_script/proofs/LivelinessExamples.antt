@@ -14,11 +14,11 @@ use Rattle.zs_events.specs.declared.key_arg.KeyArg.TheVariants.{Text, Number}
 use Rattle.zs_events.specs.declared.entity_kind.ParentKind.TheVariants.{Pub as pub_parent, Querier as querier_parent}
 use Rattle.zs_events.specs.declared.turn.Answer.TheVariants.{Ok as accepted}
 use Rattle.zs_events.specs.declared.turn.Effect.TheVariants.{Matching}
-use Rattle.zs_script.specs.Parts.{read, form}
-use Rattle.zs_script.specs.Grammar.{undeclare_of, push_of, message_of, event_of}
-use Rattle.zs_script.specs.Pieces.{written}
-use Rattle.zs_script.specs.Printing.{turn_text}
-use Rattle.zs_script.specs.Words.{hex_digits}
+use Rattle.zs_parts.specs.Parts.{read, form}
+use Rattle.zs_grammar.specs.Grammar.{undeclare_of, push_of, message_of, event_of}
+use Rattle.zs_printing.specs.Pieces.{written}
+use Rattle.zs_printing.specs.Printing.{turn_text}
+use Rattle.zs_printing.specs.Words.{hex_digits}
 
 -- matching and liveliness
 a_listener : event_of (codes "listen" ++ 9 ∷ codes "pub" ++ 9 ∷ codes "2") ≡ Some (Core (Listen pub_parent 2))

@@ -16,8 +16,8 @@ use Rattle.zs_events.specs.declared.turn.Refusal.TheVariants.{SessionClosedError
 use Rattle.zs_sample.specs.ErrorFields.{ErrorFields}
 use Rattle.zs_sample.specs.declared.sample_fields.SampleFields.{SampleFields}
 use Rattle.zs_lines.specs.Lines.{lines}
-use Rattle.zs_script.specs.Words.{refusal_name, kind_word, truth_word}
-use Rattle.zs_script.specs.Printing.{line, hand_pieces, outcome_pieces, replied_pieces, queried_pieces, effect_pieces, effect_fields, item_pieces, received_pieces, answer_fields}
+use Rattle.zs_printing.specs.Words.{refusal_name, kind_word, truth_word}
+use Rattle.zs_printing.specs.Printing.{line, hand_pieces, outcome_pieces, replied_pieces, queried_pieces, effect_pieces, effect_fields, item_pieces, received_pieces, answer_fields}
 use Rattle.zs_script.specs.Plain.{is_plain, is_plain_text, is_plain_outcome, is_plain_effect, is_plain_received}
 use Rattle.zs_script.specs.Laws.{row, AnswersArePlain, EffectsArePlain, ReceivedArePlain, TurnsAreFound}
 use Rattle.zs_script.proofs.PlainTexts.{decimal-plain, lines-found}

@@ -15,9 +15,9 @@ use Rattle.zs_events.specs.declared.script_event.ScriptEvent.{ScriptEvent}
 use Rattle.zs_events.specs.declared.script_event.ScriptEvent.TheVariants.{Core}
 use Rattle.zs_events.specs.Kinds.{NoKey, WireKey, is_blank}
 use Rattle.zs_lines.specs.Lines.{fields}
-use Rattle.zs_script.specs.Symbols.{u32_max, entity_kind_of}
-use Rattle.zs_script.specs.Parts.{number, form}
-use Rattle.zs_script.specs.Grammar.{by_word, update_of, declare_of, sub_of, pub_of, queryable_of, querier_of, token_of, lsub_of, listen_of, status_of, undeclare_entity_of, undeclared_by, undeclare_of, background_of, publish_of, publish_by_of, cancel_token_of, cancel_of, get_of, querier_get_of, liveliness_get_of, recv_of, reply_of, reply_error_of, share_of, finish_of, tick_of, close_of, key_expr_of, unkey_expr_of, net_sub_of, net_unsub_of, net_queryable_of, net_unqueryable_of, net_token_of, net_untoken_of, declare_final_of, push_value_of, push_by, push_of, request_of, response_value_of, response_error_of, response_by, response_on, response_of, response_final_of, net_close_of, message_by, message_of, net_of, core_by, event_by, event_of_fields, event_of}
+use Rattle.zs_parts.specs.Symbols.{u32_max, entity_kind_of}
+use Rattle.zs_parts.specs.Parts.{number, form}
+use Rattle.zs_grammar.specs.Grammar.{by_word, update_of, declare_of, sub_of, pub_of, queryable_of, querier_of, token_of, lsub_of, listen_of, status_of, undeclare_entity_of, undeclared_by, undeclare_of, background_of, publish_of, publish_by_of, cancel_token_of, cancel_of, get_of, querier_get_of, liveliness_get_of, recv_of, reply_of, reply_error_of, share_of, finish_of, tick_of, close_of, key_expr_of, unkey_expr_of, net_sub_of, net_unsub_of, net_queryable_of, net_unqueryable_of, net_token_of, net_untoken_of, declare_final_of, push_value_of, push_by, push_of, request_of, response_value_of, response_error_of, response_by, response_on, response_of, response_final_of, net_close_of, message_by, message_of, net_of, core_by, event_by, event_of_fields, event_of}
 use Rattle.zs_script.specs.Plain.{has_no_line_feed, is_plain_named}
 use Rattle.zs_script.specs.Laws.{EventsArePlain}
 use Rattle.zs_script.proofs.PlainTexts.{fields-plain}

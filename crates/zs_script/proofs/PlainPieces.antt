@@ -30,11 +30,11 @@ use Rattle.zs_wire.specs.declared.wire_expr.Mapping.TheVariants.{Sender, Receive
 use Rattle.zs_wire.specs.declared.wire_expr.WireExpr.{WireExpr}
 use Rattle.zs_sample.specs.declared.sample_fields.SampleFields.{SampleFields}
 use Rattle.zs_query.specs.QueryData.{Query}
-use Rattle.zs_script.specs.Words.{sample_word, congestion_word, flag_digit, complete_word, target_word, consolidation_word, mode_word, what_word, hex_text, bytes_text, mapping_letter, wire_text, timestamp_text, entity_text, source_text}
-use Rattle.zs_script.specs.Pieces.{Piece, word, number, wire, wire_if, payload, parameters, target, consolidation, timeout, value, payload_if, encoding, encoding_if, timestamp, qos, reliable, source, attachment, responder, interest, named, field_if, encoding_field, payload_field, written, pieces_fields}
+use Rattle.zs_printing.specs.Words.{sample_word, congestion_word, flag_digit, complete_word, target_word, consolidation_word, mode_word, what_word, hex_text, bytes_text, mapping_letter, wire_text, timestamp_text, entity_text, source_text}
+use Rattle.zs_printing.specs.Pieces.{Piece, word, number, wire, wire_if, payload, parameters, target, consolidation, timeout, value, payload_if, encoding, encoding_if, timestamp, qos, reliable, source, attachment, responder, interest, named, field_if, encoding_field, payload_field, written, pieces_fields}
 use Rattle.zs_events.specs.Kinds.{value_texts}
-use Rattle.zs_script.specs.Symbols.{names_nothing, naming}
-use Rattle.zs_script.specs.Printing.{verb_pieces, sample_pieces, message_pieces, answered_pieces, asked_pieces}
+use Rattle.zs_parts.specs.Symbols.{names_nothing, naming}
+use Rattle.zs_printing.specs.Printing.{verb_pieces, sample_pieces, message_pieces, answered_pieces, asked_pieces}
 use Rattle.zs_script.specs.Plain.{is_plain, is_plain_text, text_if, is_plain_query, suffix_if, answered_texts, message_texts}
 use Rattle.zs_script.proofs.PlainTexts.{plain_byte, plain-append, decimal-plain, hex-plain, bytes-plain}
 

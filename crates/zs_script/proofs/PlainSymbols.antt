@@ -15,7 +15,7 @@ use Rattle.zs_wire.specs.declared.wire_expr.WireExpr.{WireExpr}
 use Rattle.zs_events.specs.declared.key_arg.KeyArg.{KeyArg}
 use Rattle.zs_events.specs.declared.key_arg.KeyArg.TheVariants.{Text, Number}
 use Rattle.zs_lines.specs.Lines.{fields}
-use Rattle.zs_script.specs.Symbols.{number_of, u16_max, is_colon, numbered_of, key_of, after_prefix, scoped_of, scoped_in, wire_of}
+use Rattle.zs_parts.specs.Symbols.{number_of, u16_max, is_colon, numbered_of, key_of, after_prefix, scoped_of, scoped_in, wire_of}
 use Rattle.zs_script.specs.Plain.{is_plain, is_plain_text, is_field_text, is_plain_key}
 
 -- a text that can stand in a field

@@ -6,8 +6,8 @@ use Rattle.std.proofs.lemmas.Bool.{and_parts, and_from, ne_eqb, not_from_false, 
 use Rattle.std.proofs.lemmas.List.Folds.{list_all-append}
 use Rattle.zs_bytes.specs.Payload.{bytes_of}
 use Rattle.zs_lines.specs.Lines.{lines, onto_line, fields}
-use Rattle.zs_script.specs.Words.{hex_digit, hex_digits, hex_text, byte_digits, bytes_text}
-use Rattle.zs_script.specs.Printing.{tabbed}
+use Rattle.zs_printing.specs.Words.{hex_digit, hex_digits, hex_text, byte_digits, bytes_text}
+use Rattle.zs_printing.specs.Printing.{tabbed}
 use Rattle.zs_script.specs.Plain.{has_no_line_feed, is_plain}
 use Rattle.zs_script.specs.Laws.{row, LinesHaveNoLineFeed, FieldsArePlain, LinesAreFound, FieldsAreFound}
 

@@ -20,11 +20,11 @@ use Rattle.zs_events.specs.declared.key_arg.KeyArg.TheVariants.{Text, Number}
 use Rattle.zs_events.specs.declared.turn.Answer.TheVariants.{Ok as accepted}
 use Rattle.zs_events.specs.declared.turn.Effect.TheVariants.{Hand}
 use Rattle.zs_events.specs.declared.turn.HandOver.TheVariants.{Query as handed_query}
-use Rattle.zs_script.specs.Parts.{read, form}
-use Rattle.zs_script.specs.Grammar.{undeclare_of, push_of, message_of, event_of}
-use Rattle.zs_script.specs.Pieces.{written}
-use Rattle.zs_script.specs.Printing.{queried_pieces, turn_text}
-use Rattle.zs_script.specs.Words.{hex_digits}
+use Rattle.zs_parts.specs.Parts.{read, form}
+use Rattle.zs_grammar.specs.Grammar.{undeclare_of, push_of, message_of, event_of}
+use Rattle.zs_printing.specs.Pieces.{written}
+use Rattle.zs_printing.specs.Printing.{queried_pieces, turn_text}
+use Rattle.zs_printing.specs.Words.{hex_digits}
 
 -- queryables, query values and requests
 a_queryable : event_of (codes "queryable" ++ 9 ∷ codes "any" ++ 9 ∷ codes "complete" ++ 9 ∷ codes "#1:/b") ≡ Some (Core (Queryable Any true (Number 1 (codes "/b"))))

@@ -8,8 +8,8 @@ use Rattle.zs_events.specs.declared.turn.Effect.{Effect}
 use Rattle.zs_events.specs.declared.turn.HandOver.{HandOver}
 use Rattle.zs_events.specs.declared.turn.Turn.{Turn}
 use Rattle.zs_lines.specs.Lines.{lines, fields}
-use Rattle.zs_script.specs.Grammar.{event_of}
-use Rattle.zs_script.specs.Printing.{line, answer_fields, effect_fields, received_fields, turn_text}
+use Rattle.zs_grammar.specs.Grammar.{event_of}
+use Rattle.zs_printing.specs.Printing.{line, answer_fields, effect_fields, received_fields, turn_text}
 use Rattle.zs_script.specs.Plain.{has_no_line_feed, is_plain, is_plain_script_event, is_plain_effect, is_plain_received}
 
 -- fields, each behind a tab

@@ -1,12 +1,2 @@
-pub mod Fields
-pub mod Hexadecimal
-pub mod Symbols
-pub mod Options
-pub mod Channels
-pub mod Parts
-pub mod Grammar
-pub mod Words
-pub mod Pieces
-pub mod Printing
 pub mod Plain
 pub mod Laws

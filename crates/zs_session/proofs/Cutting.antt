@@ -2,7 +2,7 @@ use Rattle.std.proofs.Common.{◌≡◌, List, [], ◌∷◌, ◌++◌, Bool, tr
 use Rattle.std.specs.Prelude.{ℕ, ◌&&◌, map}
 use Rattle.std.specs.List.{list_all, AllByRecursion, flat_map}
 use Rattle.zs_lines.specs.Lines.{lines}
-use Rattle.zs_script.specs.Printing.{line}
+use Rattle.zs_printing.specs.Printing.{line}
 use Rattle.zs_script.specs.Plain.{is_plain}
 use Rattle.zs_script.proofs.PlainTexts.{lines-found}
 use Rattle.zs_session.specs.Telling.{plain_line}

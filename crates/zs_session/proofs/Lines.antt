@@ -8,7 +8,7 @@ use Rattle.zs_events.specs.declared.event.Event.TheVariants.{Close}
 use Rattle.zs_events.specs.declared.script_event.ScriptEvent.{ScriptEvent}
 use Rattle.zs_events.specs.declared.script_event.ScriptEvent.TheVariants.{Core}
 use Rattle.zs_core.specs.Types.{Settings}
-use Rattle.zs_script.specs.Grammar.{event_of}
+use Rattle.zs_grammar.specs.Grammar.{event_of}
 use Rattle.zs_session.specs.Script.{events_of, event_text, text_after, text, language}
 
 text_is : (s : Settings) (h es : List ScriptEvent) → events_text (language s) h es ≡ text_after s h es

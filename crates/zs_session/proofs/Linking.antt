@@ -7,7 +7,7 @@ use Rattle.zs_keys.specs.Key.{undeclared}
 use Rattle.zs_core.specs.Types.{Settings}
 use Rattle.zs_core.specs.Received.{AreSpelled}
 use Rattle.zs_core.specs.Settings.{is_valid}
-use Rattle.zs_script.specs.Symbols.{after_prefix}
+use Rattle.zs_parts.specs.Symbols.{after_prefix}
 use Rattle.zs_session.specs.Soak.{soak_of}
 use Rattle.zs_session.specs.Words.{◌>>=◌, settings_of, given, if_apart, is_apart, is_link, link_of, are_settings, values, with_aggregates}
 

@@ -37,8 +37,8 @@ use Rattle.zs_core.specs.Queryables.{queryable_at}
 use Rattle.zs_core.specs.Queriers.{querier_at}
 use Rattle.zs_core.specs.Effects.{Known, key_wire, queryable_leaves, declared_sends, lsub_mode, token_interest, token_declaration, entity_sends}
 use Rattle.zs_core.specs.Sends.{OwnKeys, group_wire, declared_by, has_front, goes_by_number, full_wire, number_wire, wire_form, declaration_of, key_sends, return_sends, return_sends_of, is_sent, push_with, publication_sends, sends_of}
-use Rattle.zs_script.specs.Pieces.{written}
-use Rattle.zs_script.specs.Printing.{hand_pieces, replied_pieces, queried_pieces, effect_fields}
+use Rattle.zs_printing.specs.Pieces.{written}
+use Rattle.zs_printing.specs.Printing.{hand_pieces, replied_pieces, queried_pieces, effect_fields}
 use Rattle.zs_script.specs.Plain.{is_plain, is_plain_text, is_plain_sample, is_plain_outcome, is_plain_query, is_plain_effect, message_texts}
 use Rattle.zs_session.specs.Telling.{tells}
 use Rattle.zs_driving.proofs.Progress.{all_append}

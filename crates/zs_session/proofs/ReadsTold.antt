@@ -29,8 +29,8 @@ use Rattle.zs_channels.specs.Channel.{nothing_in, first_or, received}
 use Rattle.zs_channels.specs.Told.{ChannelNews, Opens, Hears, Handed, Read, Ended, Declared, has_ended, held, state, channel_of, items_in, all_handed}
 use Rattle.zs_channels.specs.Heard.{opening, news_of_item, news_of_effect, news_of_effects, news_of_turn}
 use Rattle.zs_channels.proofs.Giving.{holds}
-use Rattle.zs_script.specs.Pieces.{written}
-use Rattle.zs_script.specs.Printing.{received_fields}
+use Rattle.zs_printing.specs.Pieces.{written}
+use Rattle.zs_printing.specs.Printing.{received_fields}
 use Rattle.zs_script.specs.Plain.{is_plain_effect, is_plain_received, is_plain_script_event}
 use Rattle.zs_script.proofs.PlainTexts.{lines-found, fields-found}
 use Rattle.zs_script.proofs.PlainEffects.{answers-plain, received-plain}

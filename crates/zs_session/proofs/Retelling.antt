@@ -9,7 +9,7 @@ use Rattle.zs_driving.specs.Driving.{Supply, Outlet, Drives as DrivesMachine, Is
 use Rattle.zs_driving.proofs.Exits.{retold}
 use Rattle.zs_core.specs.Types.{Settings}
 use Rattle.zs_lines.specs.Lines.{lines}
-use Rattle.zs_script.specs.Grammar.{event_of}
+use Rattle.zs_grammar.specs.Grammar.{event_of}
 use Rattle.zs_session.specs.declared.scripted.ScriptedSession.{ScriptedSession}
 use Rattle.zs_session.specs.Script.{script, text, language}
 use Rattle.zs_session.specs.Scripted.{StandsFor, IsBehind}

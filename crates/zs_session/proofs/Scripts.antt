@@ -5,7 +5,7 @@ use Rattle.zs_events.specs.declared.script_event.ScriptEvent.TheVariants.{Core}
 use Rattle.zs_core.specs.Types.{Settings}
 use Rattle.zs_events.specs.declared.event.Event.TheVariants.{Close}
 use Rattle.zs_lines.specs.Lines.{lines}
-use Rattle.zs_script.specs.Grammar.{event_of}
+use Rattle.zs_grammar.specs.Grammar.{event_of}
 use Rattle.zs_script.specs.Plain.{is_plain_script_event, has_no_line_feed}
 use Rattle.zs_script.proofs.PlainTexts.{lines-no-feed}
 use Rattle.zs_script.proofs.PlainEvents.{events-plain}

@@ -48,8 +48,8 @@ use Rattle.zs_query.specs.declared.query_value.QueryValue.{QueryValue}
 use Rattle.zs_core.specs.Gets.{open_now}
 use Rattle.zs_core.specs.GetEffects.{request_effects, told_effects, with_gets}
 use Rattle.zs_lines.specs.Lines.{lines}
-use Rattle.zs_script.specs.Pieces.{written}
-use Rattle.zs_script.specs.Printing.{hand_pieces, line, turn_text, answer_fields, effect_fields}
+use Rattle.zs_printing.specs.Pieces.{written}
+use Rattle.zs_printing.specs.Printing.{hand_pieces, line, turn_text, answer_fields, effect_fields}
 use Rattle.zs_script.specs.Plain.{is_plain, is_plain_text, is_plain_event, is_plain_effect}
 use Rattle.zs_script.proofs.PlainTexts.{fields-found}
 use Rattle.zs_script.proofs.PlainEffects.{answers-plain, effects-plain}

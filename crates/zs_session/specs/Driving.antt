@@ -10,7 +10,7 @@ use Rattle.zs_driving.specs.Driving.{AreGood, DrivesTo, Outlet, Supply, Complete
 use Rattle.zs_events.specs.declared.event.Event.TheVariants.{Close}
 use Rattle.zs_events.specs.declared.script_event.ScriptEvent.TheVariants.{Core}
 use Rattle.zs_core.specs.Types.{Settings}
-use Rattle.zs_script.specs.Grammar.{event_of}
+use Rattle.zs_grammar.specs.Grammar.{event_of}
 use Rattle.zs_session.specs.Script.{events_of, script, text}
 use Rattle.zs_session.specs.Telling.{Told, told}
 

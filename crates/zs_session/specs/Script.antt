@@ -15,8 +15,8 @@ use Rattle.zs_core.specs.Past.{past_of}
 use Rattle.zs_core.specs.Effects.{effects}
 use Rattle.zs_lines.specs.Lines.{lines}
 use Rattle.zs_driving.specs.Languages.{Language}
-use Rattle.zs_script.specs.Grammar.{event_of}
-use Rattle.zs_script.specs.Printing.{line, turn_text, received_fields}
+use Rattle.zs_grammar.specs.Grammar.{event_of}
+use Rattle.zs_printing.specs.Printing.{line, turn_text, received_fields}
 use Rattle.zs_session.specs.Heard.{core_of, answer_of}
 
 -- the events of lines, in their order

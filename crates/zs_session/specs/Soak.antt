@@ -5,8 +5,8 @@ use Rattle.std.specs.List.{after_first, count_by, starts_with}
 use Rattle.std.specs.Str.{bytes_eq}
 use Rattle.zs_core.specs.Settings.{default_settings}
 use Rattle.zs_lines.specs.Lines.{lines}
-use Rattle.zs_script.specs.Symbols.{number_of}
-use Rattle.zs_script.specs.Words.{byte_digits}
+use Rattle.zs_parts.specs.Symbols.{number_of}
+use Rattle.zs_printing.specs.Words.{byte_digits}
 use Rattle.zs_session.specs.Script.{script, text}
 use Rattle.zs_session.specs.declared.soak.Soak.{Soak}
 use Rattle.zs_session.specs.declared.soak.Tally.{Tally}

@@ -17,7 +17,7 @@ use Rattle.zs_core.specs.Causes.{refusal_of}
 use Rattle.zs_core.specs.Past.{past_of}
 use Rattle.zs_core.specs.Effects.{publication_of}
 use Rattle.zs_lines.specs.Lines.{lines, fields}
-use Rattle.zs_script.specs.Printing.{answer_fields, effect_fields}
+use Rattle.zs_printing.specs.Printing.{answer_fields, effect_fields}
 use Rattle.zs_script.specs.Laws.{row}
 use Rattle.zs_session.specs.Heard.{core_of, answer_of}
 use Rattle.zs_session.specs.Script.{read_refusal}

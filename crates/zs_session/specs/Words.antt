@@ -6,9 +6,9 @@ use Rattle.zs_keys.specs.Key.{undeclared}
 use Rattle.zs_keys.specs.Text.{is_canonical}
 use Rattle.zs_core.specs.Types.{Settings}
 use Rattle.zs_core.specs.Settings.{default_settings, is_valid}
-use Rattle.zs_script.specs.Hexadecimal.{hex_of}
+use Rattle.zs_parts.specs.Hexadecimal.{hex_of}
 use Rattle.zs_script.specs.Plain.{is_plain_text}
-use Rattle.zs_script.specs.Symbols.{number_of, u16_max, u32_max, u64_max, after_prefix}
+use Rattle.zs_parts.specs.Symbols.{number_of, u16_max, u32_max, u64_max, after_prefix}
 
 -- the second step, where the first one gave something
 infixl 10 ◌>>=◌

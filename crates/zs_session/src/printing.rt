@@ -1,7 +1,7 @@
 //! What came of an event or a read, printed onto a transcript.
 
 ghost use Rattle.std.specs.Prelude.{◌≡◌, ◌++◌, OnOk, OnErr};
-ghost use Rattle.zs_script.specs.Printing.{line, turn_text, received_fields};
+ghost use Rattle.zs_printing.specs.Printing.{line, turn_text, received_fields};
 
 use std::alloc::AllocError;
 use zs_core::{HandOver, Turn};

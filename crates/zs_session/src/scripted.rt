@@ -11,8 +11,8 @@ ghost use Rattle.zs_core.specs.Settings.{is_valid};
 ghost use Rattle.zs_events.specs.Turn.{answered};
 ghost use Rattle.zs_channels.specs.Table.{behind_all};
 ghost use Rattle.zs_channels.specs.Heard.{news_of_turn};
-ghost use Rattle.zs_script.specs.Printing.{turn_text};
-ghost use Rattle.zs_script.specs.Grammar.{event_of};
+ghost use Rattle.zs_printing.specs.Printing.{turn_text};
+ghost use Rattle.zs_grammar.specs.Grammar.{event_of};
 ghost use Rattle.zs_session.specs.Script.{event_text, language, read_text, read_refusal};
 ghost use Rattle.zs_session.specs.Scripted.{StandsFor, IsBehind};
 

@@ -5,7 +5,7 @@ ghost use Rattle.std.specs.List.{after_first, position};
 ghost use Rattle.std.specs.String.{string_bytes};
 ghost use Rattle.zs_keys.specs.Stream.{HasRisen, PutsOn};
 ghost use Rattle.zs_lines.specs.Lines.{lines};
-ghost use Rattle.zs_script.specs.Words.{byte_digits};
+ghost use Rattle.zs_printing.specs.Words.{byte_digits};
 ghost use Rattle.zs_lines.specs.Writing.{PutsFrontOn};
 ghost use Rattle.zs_session.specs.Script.{script, text};
 ghost use Rattle.zs_core.specs.Settings.{default_settings};

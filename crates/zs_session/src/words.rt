@@ -5,9 +5,9 @@ ghost use Rattle.std.specs.List.{list_all};
 ghost use Rattle.std.specs.String.{string_bytes};
 ghost use Rattle.zs_keys.specs.Key.{undeclared};
 ghost use Rattle.zs_core.specs.Settings.{default_settings, is_valid};
-ghost use Rattle.zs_script.specs.Hexadecimal.{hex_of};
+ghost use Rattle.zs_parts.specs.Hexadecimal.{hex_of};
 ghost use Rattle.zs_script.specs.Plain.{is_plain, is_plain_text};
-ghost use Rattle.zs_script.specs.Symbols.{number_of, after_prefix};
+ghost use Rattle.zs_parts.specs.Symbols.{number_of, after_prefix};
 ghost use Rattle.zs_session.specs.Words.{gives_start, gives_limit, gives_number, gives_aggregate, is_setting, is_aggregate, are_aggregates, are_settings, values, setting, given, settings_of, found, is_apart, is_link, link_of};
 
 use std::alloc::{AllocError, Global};

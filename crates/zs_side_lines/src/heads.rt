@@ -2,7 +2,7 @@
 
 ghost use Rattle.std.specs.Prelude.{◌≡◌, [], ◌∷◌, ◌++◌, OnOk, codes, decimal};
 ghost use Rattle.std.specs.String.{string_bytes};
-ghost use Rattle.zs_script.specs.Printing.{line, answer_fields};
+ghost use Rattle.zs_printing.specs.Printing.{line, answer_fields};
 
 use std::alloc::AllocError;
 use std::fmt::Write;

@@ -1,5 +1,5 @@
 use Rattle.std.proofs.Common.{refl}
-use Rattle.zs_script.specs.Printing.{line, answer_fields}
+use Rattle.zs_printing.specs.Printing.{line, answer_fields}
 use Rattle.zs_replica.specs.declared.sides.Sides.{Sides}
 use Rattle.zs_replica.specs.Told.{with_text, with_effects_told}
 use Rattle.zs_replica.specs.Sides.{Becomes}

@@ -1,4 +1,0 @@
-use Rattle.zs_script.proofs.digits.+append_hex_digits.Given as goal
-
-abbrev pub decreases-append_hex_digits : goal.decreases-append_hex_digits
-decreases-append_hex_digits l = l.places
