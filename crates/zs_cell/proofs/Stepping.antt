@@ -16,7 +16,7 @@ use Rattle.zs_held.specs.Numbers.{NumbersAreTold}
 use Rattle.zs_held.specs.Receipts.{ReceiptSeen, asked_of}
 use Rattle.zs_cell.specs.declared.error.SessionError.{SessionError}
 use Rattle.zs_cell.specs.declared.error.SessionError.TheVariants.{Refused, OtherSession, NoMemory}
-use Rattle.zs_cell.specs.Steps.{Took, Steps, Stops, IsNumbered, IsRefusal}
+use Rattle.zs_cell.specs.Steps.{Took, Takes, Steps, Stops, IsNumbered, IsRefusal}
 use Rattle.zs_cell.specs.Works.{asked_at, back_at}
 
 -- the receipt of an event that was taken is the caller's last
@@ -33,10 +33,10 @@ took {old} {mid} {new} {event} {came} {turn} entries asked {receipt} is counted 
 }
 
 -- by the answer of its turn
-pub steps : {old mid new : CallerSeen ReceiptSeen} {event : Event} {came : Bool} {turn : Turn} {answer : Answer} (entries : ℕ) (asked : Option Asked) {receipt : ReceiptSeen}
+pub takes : {old mid new : CallerSeen ReceiptSeen} {event : Event} {came : Bool} {turn : Turn} {answer : Answer} (entries : ℕ) (asked : Option Asked) {receipt : ReceiptSeen}
     → receipt ≡ receipt_of event came turn entries old.count → mid ≡ entered turn old → new ≡ record mid { last = Some (record receipt { asked = asked }) }
-    → answer ≡ turn.answer → Steps old event came answer new
-steps {turn} entries asked is counted kept same = record { turn = turn; answer_is = sym same; took = took entries asked is counted kept }
+    → answer ≡ turn.answer → Takes old event came answer new
+takes {turn} entries asked is counted kept same = record { turn = turn; answer_is = sym same; took = took entries asked is counted kept }
 
 -- the receipt of an event that was accepted says which gate was asked for with it
 pub asks : (last : Option ReceiptSeen) (receipt : ReceiptSeen) (key : Option Key) (held was : Bool)
@@ -66,9 +66,9 @@ numbered s h event turn told is = go turn.answer (ap (λ (t : Turn). t.answer) i
     go (refused refusal) same = tt
 
 -- a refused event stops, with its refusal
-pub stops : {old new : CallerSeen ReceiptSeen} {event : Event} {came : Bool} (answer : Answer) (why : SessionError) → Steps old event came answer new → IsRefusal answer why
-    → Stops old new event came why
-stops {old} {new} {event} {came} answer (Refused refusal) by is = subst (λ (a : Answer). Steps old event came a new) is by
+pub stops : {old new : CallerSeen ReceiptSeen} {event : Event} {came evicts : Bool} (answer : Answer) (why : SessionError) → Steps evicts old event came answer new → IsRefusal answer why
+    → Stops evicts old new event came why
+stops {old} {new} {event} {came} {evicts} answer (Refused refusal) by is = subst (λ (a : Answer). Steps evicts old event came a new) is by
 stops answer NoMemory by is = absurd is
 stops answer OtherSession by is = is
 

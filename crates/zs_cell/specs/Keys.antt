@@ -25,9 +25,9 @@ abbrev pub declaration_of : ℕ → List ℕ → ℕ → Option Declared
 declaration_of tag text number = if nat_le number 65535 then Some (record { number = number; prefix_len = length text; tag = tag }) else None
 
 -- the session took the declaration of a key and accepted it: the key comes back, declared under the number that was answered
-pub record DeclaresKey (old new : CallerSeen ReceiptSeen) (tag : ℕ) (key made : Key) : Type 0 where
+pub record DeclaresKey (evicts : Bool) (old new : CallerSeen ReceiptSeen) (tag : ℕ) (key made : Key) : Type 0 where
   pub number : ℕ
-  pub accepts : Accepts old new (declare_key (key_arg tag key)) false (Some number)
+  pub accepts : Accepts evicts old new (declare_key (key_arg tag key)) false (Some number)
   pub made_is : made ≡ record key { declaration = declaration_of tag key.text number }
 
 -- whether a declaration is one of a whole text of that length, by a session of another tag

@@ -1,5 +1,5 @@
 -- What a call that steps a session makes of its caller.
-use Rattle.std.specs.Prelude.{◌≡◌, ℕ, Bool, Option, Some, is_some, option_and_then}
+use Rattle.std.specs.Prelude.{◌≡◌, ℕ, Bool, false, List, [], Option, Some, is_some, option_and_then}
 use Rattle.zs_events.specs.declared.event.Event.{Event}
 use Rattle.zs_events.specs.declared.turn.Answer.{Answer}
 use Rattle.zs_events.specs.declared.turn.Answer.TheVariants.{Ok as accepted, Refused as refused}
@@ -12,6 +12,7 @@ use Rattle.zs_held.specs.Numbers.{numbered_at}
 use Rattle.zs_held.specs.Receipts.{ReceiptSeen, asked_of}
 use Rattle.zs_cell.specs.declared.error.SessionError.{SessionError}
 use Rattle.zs_cell.specs.declared.error.SessionError.TheVariants.{Refused, OtherSession, NoMemory}
+use Rattle.zs_cell.specs.Further.{AddsFinishes, asks_queryables}
 
 -- the session took the event, which came with a handler or not, and made this turn of it: the caller counts one event more, with the
 -- messages of its turn, and has the receipt for it
@@ -21,10 +22,19 @@ pub record Took (old : CallerSeen ReceiptSeen) (event : Event) (came : Bool) (tu
   pub caller_is : new ≡ record (entered turn old) { last = Some (record (receipt_of event came turn entries old.count) { asked = asked }) }
 
 -- the same, by what the event was answered
-pub record Steps (old : CallerSeen ReceiptSeen) (event : Event) (came : Bool) (answer : Answer) (new : CallerSeen ReceiptSeen) : Type 0 where
+pub record Takes (old : CallerSeen ReceiptSeen) (event : Event) (came : Bool) (answer : Answer) (new : CallerSeen ReceiptSeen) : Type 0 where
   pub turn : Turn
   pub answer_is : turn.answer ≡ answer
   pub took : Took old event came turn new
+
+-- and then gave back queries that came back from handlers, each by one event more: none, where the type of the handlers, which gives up
+-- items or not, gives up none, and the event asks no queryables
+pub record Steps (evicts : Bool) (old : CallerSeen ReceiptSeen) (event : Event) (came : Bool) (answer : Answer) (new : CallerSeen ReceiptSeen) : Type 0 where
+  pub taken : CallerSeen ReceiptSeen
+  pub takes : Takes old event came answer taken
+  pub values : List ℕ
+  pub none_come_back : evicts ≡ false → asks_queryables event ≡ false → values ≡ []
+  pub finishes : AddsFinishes values taken new
 
 -- an accepted event is answered a number exactly where its kind draws one, or asks for a status
 abbrev pub IsNumbered : Event → Answer → Type 0
@@ -38,20 +48,20 @@ IsRefusal answer NoMemory = ⊥
 IsRefusal answer OtherSession = ⊥
 
 -- the session took the event and accepted it, with that number
-abbrev pub Accepts : CallerSeen ReceiptSeen → CallerSeen ReceiptSeen → Event → Bool → Option ℕ → Type 0
-Accepts old new event came number = Steps old event came (accepted number) new
+abbrev pub Accepts : Bool → CallerSeen ReceiptSeen → CallerSeen ReceiptSeen → Event → Bool → Option ℕ → Type 0
+Accepts evicts old new event came number = Steps evicts old event came (accepted number) new
 
 -- the session took the event and refused it, or, where the call says another reason, didn't take it
-abbrev pub Stops : CallerSeen ReceiptSeen → CallerSeen ReceiptSeen → Event → Bool → SessionError → Type 0
-Stops old new event came (Refused refusal) = Steps old event came (refused refusal) new
-Stops old new event came NoMemory = new ≡ old
-Stops old new event came OtherSession = ⊥
+abbrev pub Stops : Bool → CallerSeen ReceiptSeen → CallerSeen ReceiptSeen → Event → Bool → SessionError → Type 0
+Stops evicts old new event came (Refused refusal) = Steps evicts old event came (refused refusal) new
+Stops evicts old new event came NoMemory = new ≡ old
+Stops evicts old new event came OtherSession = ⊥
 
 -- the same where the call may also be handed another session's value: then nothing was stepped either
-abbrev pub StopsOr : CallerSeen ReceiptSeen → CallerSeen ReceiptSeen → Event → Bool → SessionError → Type 0
-StopsOr old new event came (Refused refusal) = Steps old event came (refused refusal) new
-StopsOr old new event came NoMemory = new ≡ old
-StopsOr old new event came OtherSession = new ≡ old
+abbrev pub StopsOr : Bool → CallerSeen ReceiptSeen → CallerSeen ReceiptSeen → Event → Bool → SessionError → Type 0
+StopsOr evicts old new event came (Refused refusal) = Steps evicts old event came (refused refusal) new
+StopsOr evicts old new event came NoMemory = new ≡ old
+StopsOr evicts old new event came OtherSession = new ≡ old
 
 -- the last receipt says that the session was asked for the gate of that key, if there is one, and whether it still held it
 abbrev pub Asks : CallerSeen ReceiptSeen → Option Key → Bool → Type 0

@@ -1,5 +1,5 @@
 -- What an event that a session took leaves to do.
-use Rattle.std.specs.Prelude.{Bool, true, false, List, [], ◌∷◌, Option, Some, None, if◌then◌else◌}
+use Rattle.std.specs.Prelude.{ℕ, ◌==◌, Bool, true, false, List, [], ◌∷◌, Option, Some, None, if◌then◌else◌}
 use Rattle.std.specs.List.{flat_map}
 use Rattle.zs_events.specs.declared.turn.Answer.{Answer}
 use Rattle.zs_events.specs.Turn.{was_refused}
@@ -20,10 +20,10 @@ pub record WorkSeen (H : Type 0) : Type 0 where
   pub lents : List LentSeen
   pub waits : Bool
 
--- the passes of calls that were made, and the queries that came back
-pub record WorkedSeen : Type 0 where
+-- the passes of calls that were made, and what became of each item
+pub record WorkedSeen (D : Type 0) : Type 0 where
   pub lents : List LentSeen
-  pub queries : List QuerySeen
+  pub reports : List (Handed Item D)
 
 -- the handler that goes back: that of a refused event
 abbrev pub back_at : {H : Type 0} → Answer → Option H → Option H
@@ -35,19 +35,20 @@ asked_at accepted None held old = old
 asked_at false (Some key) held old = old
 asked_at true (Some key) held old = asked_of (Some key) held
 
--- the query that an item is, if it is one
-abbrev pub query_in : Item → List QuerySeen
-query_in (Query query) = query ∷ []
-query_in (Sample sample) = []
-query_in (Reply reply) = []
-query_in (Matching matching) = []
+-- the query that an item is, if it is one of the session of that tag
+abbrev pub query_in : ℕ → Item → List QuerySeen
+query_in tag (Query query) = if query.tag == tag then query ∷ [] else []
+query_in tag (Sample sample) = []
+query_in tag (Reply reply) = []
+query_in tag (Matching matching) = []
 
--- the query that came back in a report: the handler gave it up, or wasn't called with it
-abbrev pub returned_in : {D : Type 0} → Handed Item D → List QuerySeen
-returned_in (Called done) = []
-returned_in (Evicted item done) = query_in item
-returned_in (Skipped item) = query_in item
+-- the query of that session that came back in a report: the handler gave it up, or wasn't called with it, as can be where the call's
+-- event asks queryables
+abbrev pub returned_in : {D : Type 0} → ℕ → Bool → Handed Item D → List QuerySeen
+returned_in tag asks (Called done) = []
+returned_in tag asks (Evicted item done) = query_in tag item
+returned_in tag asks (Skipped item) = if asks then query_in tag item else []
 
 -- those that came back in all reports, in order
-abbrev pub returned : {D : Type 0} → List (Handed Item D) → List QuerySeen
-returned reports = flat_map returned_in reports
+abbrev pub returned : {D : Type 0} → ℕ → Bool → List (Handed Item D) → List QuerySeen
+returned tag asks reports = flat_map (returned_in tag asks) reports

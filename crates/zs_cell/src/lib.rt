@@ -5,6 +5,7 @@
 pub use clock::Clock;
 pub use error::{KeyBack, NotSubmitted, SessionError};
 pub use key_args::key_arg;
+pub use requests::asks_queryables;
 pub use session::Session;
 pub use token::SessionToken;
 pub use zs_books::{Books, EntryLedger, Three};
@@ -20,6 +21,8 @@ mod clock;
 mod ending;
 mod error;
 mod key_args;
+mod reports;
+mod requests;
 mod session;
 mod taking;
 mod token;

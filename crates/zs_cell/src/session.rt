@@ -4,6 +4,7 @@ ghost use Rattle.zs_core.specs.Settings.{is_valid};
 ghost use Rattle.zs_books.specs.Callers.{new_caller};
 
 mod calls;
+mod finishing;
 mod keys;
 mod looking;
 mod stepping;

@@ -1,11 +1,12 @@
 //! One event, taken into a session that is held.
-ghost use Rattle.std.specs.Prelude.{◌≡◌, None, Some, true, false, not, is_some, option_map, map, IfOk, IfErr, OnErr, if◌then◌else◌};
+ghost use Rattle.std.specs.Prelude.{◌≡◌, None, Some, true, false, not, is_some, option_map, map, IfOk, IfErr, OnErr, OnOk, if◌then◌else◌};
 ghost use Rattle.std.specs.Arc.{arc_value};
 ghost use Rattle.zs_turns.specs.Gates.{takes_handler};
 ghost use Rattle.zs_events.specs.Turn.{was_refused};
 ghost use Rattle.zs_posts.specs.Calls.{call_seen, all_lents};
 ghost use Rattle.zs_hands.specs.Answers.{AreOfRoom};
-ghost use Rattle.zs_cell.specs.Steps.{Steps, Asks, IsNumbered};
+ghost use Rattle.zs_cell.specs.Further.{Adds};
+ghost use Rattle.zs_cell.specs.Steps.{Takes, Asks, IsNumbered};
 ghost use Rattle.zs_cell.specs.Works.{asked_at, back_at};
 
 use crate::work::Work;
@@ -118,7 +119,7 @@ pub(crate) fn take_held<H: Drop, D: Drop, B: Books>(
     caller: &mut Caller<B>,
 ) -> Result<Work<H, D>, NotNow<H>>
     requires { is_some handler ≡ true → takes_handler event ≡ true }
-    ensures ok { IfOk result (λ work. Steps caller.old event (is_some handler) work.answer caller.new) }
+    ensures ok { IfOk result (λ work. Takes caller.old event (is_some handler) work.answer caller.new) }
     ensures numbered { IfOk result (λ work. IsNumbered event work.answer) }
     ensures back { IfOk result (λ work. work.back ≡ back_at work.answer (option_map arc_value handler)) }
     ensures lents { IfOk result (λ work. AreOfRoom held.old.session.exchange.posts.room work.lents) }
@@ -133,5 +134,48 @@ pub(crate) fn take_held<H: Drop, D: Drop, B: Books>(
     match held.take(event, handler, caller) {
         Ok(given) => Ok(receive(held, given, key, caller)),
         Err(refused) => Err(not_now(refused)),
+    }
+}
+
+// What is to be done of an event whose receipt goes.
+#[tactic(none)]
+fn without_receipt<H: Drop, D: Drop, B: Books>(given: (Handing<H, D>, Receipt<B>)) -> Work<H, D>
+    ensures lents { result.lents ≡ all_lents (map call_seen given.0.calls) }
+    ensures waits { result.waits ≡ false }
+{
+    let (handing, receipt) = given;
+    drop(receipt);
+    Work::of(handing, None)
+}
+
+// Why an event without a handler wasn't taken.
+#[tactic(none)]
+fn why_not<H: Drop>(refused: NotTaken<H>) -> NoPass {
+    let NotTaken {
+        why,
+        event,
+        handler,
+    } = refused;
+    drop(event);
+    drop(handler);
+    why
+}
+
+/// Takes one event more, without a handler. The caller counts it, and keeps the receipt that it has.
+#[tactic(none)]
+pub(crate) fn take_more<H: Drop, D: Drop, B: Books>(
+    held: &mut Held<H, B>,
+    event: Shared<Event>,
+    caller: &mut Caller<B>,
+) -> Result<Work<H, D>, NoPass>
+    ensures ok { OnOk result (Adds event caller.old caller.new) }
+    ensures lents { IfOk result (λ work. AreOfRoom held.old.session.exchange.posts.room work.lents) }
+    ensures waits { IfOk result (λ work. work.waits ≡ false) }
+    ensures room { held.new.session.exchange.posts.room ≡ held.old.session.exchange.posts.room }
+    ensures err { OnErr result (caller.new ≡ caller.old) }
+{
+    match held.take(event, None, caller) {
+        Ok(given) => Ok(without_receipt(given)),
+        Err(refused) => Err(why_not(refused)),
     }
 }

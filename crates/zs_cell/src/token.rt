@@ -67,9 +67,9 @@ impl<H: Handler<Item> + Drop, B: Books> SessionToken<H, B> {
     ///
     /// `Refused` where the event was taken and refused, else `NoMemory`.
     pub fn cancel<R: Wait>(&self, rt: &R, caller: &mut Caller<B>) -> Result<(), SessionError>
-        ensures ok { OnOk result (Accepts caller.old caller.new (Cancel self.now.number) false None) }
+        ensures ok { OnOk result (Accepts H.evicts caller.old caller.new (Cancel self.now.number) false None) }
         ensures waits { OnOk result (AsksFor caller.new (Key.CancelToken self.now.number)) }
-        ensures err { IfErr result (λ why. Stops caller.old caller.new (Cancel self.now.number) false why) }
+        ensures err { IfErr result (λ why. Stops H.evicts caller.old caller.new (Cancel self.now.number) false why) }
     {
         let event = Event::Cancel { token: self.number };
         self.session

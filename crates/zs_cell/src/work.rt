@@ -1,16 +1,18 @@
 //! What is to be done, outside of a session's lock, of an event that the session took.
-ghost use Rattle.std.specs.Prelude.{◌≡◌, None, false, is_some, map, option_map};
+ghost use Rattle.std.specs.Prelude.{◌≡◌, ℕ, [], None, false, is_some, map, option_map};
 ghost use Rattle.std.specs.Arc.{arc_value};
 ghost use Rattle.atomic_table.specs.Seated.{TableId};
 ghost use Rattle.zs_posts.specs.Calls.{call_seen, all_lents};
 ghost use Rattle.zs_hands.specs.Answers.{AreOfRoom};
+ghost use Rattle.zs_cell.specs.Works.{returned};
 
+use crate::reports::Reports;
 use std::marker::Model;
 use std::sync::{Arc, Wait};
 use zs_books::Books;
 use zs_events::Answer;
 use zs_handlers::Handler;
-use zs_hands::{Closing, Handed, Ran};
+use zs_hands::{Closing, Ran};
 use zs_held::Held;
 use zs_session_cell::Handing;
 use zs_turns::Item;
@@ -32,34 +34,18 @@ impl<H, D> Model for Work<H, D> {
     ghost view = { λ w. record { answer = w.handing.turn.answer; back = w.handing.back; lents = all_lents (map call_seen w.handing.calls); waits = is_some w.closing } };
 }
 
-/// Calls that were made, with the passes that go back. Contracts see the passes, and the queries that came back.
+/// Calls that were made, with the passes that go back. Contracts see the passes, and what became of each item.
 pub(crate) struct Worked<D> {
     ran: Ran<Item, D>,
 }
 
 impl<D> Model for Worked<D> {
     ghost use Rattle.zs_hands.specs.Answers.{ran_lents, reports_of};
-    ghost use Rattle.zs_cell.specs.Works.{WorkedSeen, returned};
+    ghost use Rattle.zs_cell.specs.Works.{WorkedSeen};
 
-    ghost Value = { WorkedSeen };
+    ghost Value = { WorkedSeen D };
 
-    ghost view = { λ w. record { lents = ran_lents w.ran.ran.items; queries = returned (reports_of w.ran.ran.items) } };
-}
-
-/// What became of each item. Contracts see the queries that came back.
-#[derive(Drop)]
-pub(crate) struct Reports<D> {
-    items: Vec<Handed<Item, D>>,
-}
-
-impl<D> Model for Reports<D> {
-    ghost use Rattle.std.specs.Prelude.{List};
-    ghost use Rattle.zs_turns.specs.Queries.{QuerySeen};
-    ghost use Rattle.zs_cell.specs.Works.{returned};
-
-    ghost Value = { List QuerySeen };
-
-    ghost view = { λ r. returned r.items.items };
+    ghost view = { λ w. record { lents = ran_lents w.ran.ran.items; reports = reports_of w.ran.ran.items } };
 }
 
 impl<H: Drop, D: Drop> Work<H, D> {
@@ -93,6 +79,7 @@ impl<H: Drop, D: Drop> Work<H, D> {
         H: Handler<Item, Done = D>,
         ensures room { (room : TableId) → AreOfRoom room self.lents → AreOfRoom room result.0.lents }
         ensures closing { is_some result.1 ≡ self.waits }
+        ensures kept { H.evicts ≡ false → (tag : ℕ) → returned tag false result.0.reports ≡ [] }
     {
         let Work { handing, closing } = self;
         let ran = handing.run(rt);
@@ -105,11 +92,11 @@ impl<D: Drop> Worked<D> {
     #[tactic(none)]
     pub(crate) fn give_back<H: Drop, B: Books>(self, held: &mut Held<H, B>) -> Reports<D>
         requires { AreOfRoom held.old.session.exchange.posts.room self.lents }
-        ensures queries { result ≡ self.queries }
+        ensures reports { result ≡ self.reports }
         ensures room { held.new.session.exchange.posts.room ≡ held.old.session.exchange.posts.room }
     {
         let Worked { ran } = self;
-        let items = held.give_back(ran);
-        Reports { items }
+        let reports = held.give_back(ran);
+        Reports::of(reports)
     }
 }

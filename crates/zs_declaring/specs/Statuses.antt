@@ -7,7 +7,7 @@ use Rattle.zs_held.specs.Receipts.{ReceiptSeen}
 use Rattle.zs_cell.specs.Steps.{Accepts}
 
 -- the session was asked for it, and answered a number: 0 exactly where no one matches
-pub record Tells (old new : CallerSeen ReceiptSeen) (parent : ParentKind) (id : ℕ) (matching : Bool) : Type 0 where
+pub record Tells (evicts : Bool) (old new : CallerSeen ReceiptSeen) (parent : ParentKind) (id : ℕ) (matching : Bool) : Type 0 where
   pub number : ℕ
-  pub accepts : Accepts old new (Status parent id) false (Some number)
+  pub accepts : Accepts evicts old new (Status parent id) false (Some number)
   pub matching_is : matching ≡ not (number == 0)

@@ -90,9 +90,9 @@ impl<'a, H: Handler<Item> + Drop, B: Books> LivelinessToken<'a, H, B> {
         waits: bool,
         caller: &mut Caller<B>,
     ) -> Result<Option<Drained>, SessionError>
-        ensures ok { OnOk result (Accepts caller.old caller.new (Undeclare token_kind self.now.id) false None) }
+        ensures ok { OnOk result (Accepts H.evicts caller.old caller.new (Undeclare token_kind self.now.id) false None) }
         ensures at_once { waits ≡ false → IfOk result (λ drained. drained ≡ None) }
-        ensures err { IfErr result (λ why. Stops caller.old caller.new (Undeclare token_kind self.now.id) false why) }
+        ensures err { IfErr result (λ why. Stops H.evicts caller.old caller.new (Undeclare token_kind self.now.id) false why) }
     {
         undeclare(self.session, rt, EntityKind::Token, self.id, waits, caller)
     }
@@ -109,9 +109,9 @@ impl<'a, H: Handler<Item> + Drop, B: Books> Undeclaration<LivelinessToken<'a, H,
         rt: &R,
         caller: &mut Caller<B>,
     ) -> Result<Option<Drained>, Unspent<LivelinessToken<'a, H, B>>>
-        ensures ok { OnOk result (Accepts caller.old caller.new (Undeclare token_kind self.entry.value.id) false None) }
+        ensures ok { OnOk result (Accepts H.evicts caller.old caller.new (Undeclare token_kind self.entry.value.id) false None) }
         ensures at_once { self.entry.waits ≡ false → IfOk result (λ drained. drained ≡ None) }
-        ensures err { IfErr result (λ back. Stops caller.old caller.new (Undeclare token_kind self.entry.value.id) false back.why) }
+        ensures err { IfErr result (λ back. Stops H.evicts caller.old caller.new (Undeclare token_kind self.entry.value.id) false back.why) }
         ensures back { IfErr result (λ back. back.value ≡ self.entry.value) }
     {
         let (value, waits) = self.into_parts();

@@ -157,8 +157,8 @@ impl<'a, H: Handler<Item> + Drop, B: Books> Querier<'a, H, B> {
         rt: &R,
         caller: &mut Caller<B>,
     ) -> Result<MatchingStatus, SessionError>
-        ensures ok { IfOk result (λ matching. Tells caller.old caller.new querier_parent self.now.id matching) }
-        ensures err { IfErr result (λ why. Stops caller.old caller.new (Status querier_parent self.now.id) false why) }
+        ensures ok { IfOk result (λ matching. Tells H.evicts caller.old caller.new querier_parent self.now.id matching) }
+        ensures err { IfErr result (λ why. Stops H.evicts caller.old caller.new (Status querier_parent self.now.id) false why) }
     {
         status(self.session, rt, ParentKind::Querier, self.id, caller)
     }
@@ -170,9 +170,9 @@ impl<'a, H: Handler<Item> + Drop, B: Books> Querier<'a, H, B> {
         waits: bool,
         caller: &mut Caller<B>,
     ) -> Result<Option<Drained>, SessionError>
-        ensures ok { OnOk result (Accepts caller.old caller.new (Undeclare querier_kind self.now.id) false None) }
+        ensures ok { OnOk result (Accepts H.evicts caller.old caller.new (Undeclare querier_kind self.now.id) false None) }
         ensures at_once { waits ≡ false → IfOk result (λ drained. drained ≡ None) }
-        ensures err { IfErr result (λ why. Stops caller.old caller.new (Undeclare querier_kind self.now.id) false why) }
+        ensures err { IfErr result (λ why. Stops H.evicts caller.old caller.new (Undeclare querier_kind self.now.id) false why) }
     {
         undeclare(
             self.session,
@@ -197,9 +197,9 @@ impl<'a, H: Handler<Item> + Drop, B: Books> Undeclaration<Querier<'a, H, B>> {
         rt: &R,
         caller: &mut Caller<B>,
     ) -> Result<Option<Drained>, Unspent<Querier<'a, H, B>>>
-        ensures ok { OnOk result (Accepts caller.old caller.new (Undeclare querier_kind self.entry.value.id) false None) }
+        ensures ok { OnOk result (Accepts H.evicts caller.old caller.new (Undeclare querier_kind self.entry.value.id) false None) }
         ensures at_once { self.entry.waits ≡ false → IfOk result (λ drained. drained ≡ None) }
-        ensures err { IfErr result (λ back. Stops caller.old caller.new (Undeclare querier_kind self.entry.value.id) false back.why) }
+        ensures err { IfErr result (λ back. Stops H.evicts caller.old caller.new (Undeclare querier_kind self.entry.value.id) false back.why) }
         ensures back { IfErr result (λ back. back.value ≡ self.entry.value) }
     {
         let (value, waits) = self.into_parts();

@@ -90,8 +90,8 @@ impl<'a, H: Handler<Item> + Drop, B: Books> Queryable<'a, H, B> {
         rt: &R,
         caller: &mut Caller<B>,
     ) -> Result<(), Unspent<Queryable<'a, H, B>>>
-        ensures ok { OnOk result (Accepts caller.old caller.new (Background left_queryable self.entry.id) false None) }
-        ensures err { IfErr result (λ back. Stops caller.old caller.new (Background left_queryable self.entry.id) false back.why) }
+        ensures ok { OnOk result (Accepts H.evicts caller.old caller.new (Background left_queryable self.entry.id) false None) }
+        ensures err { IfErr result (λ back. Stops H.evicts caller.old caller.new (Background left_queryable self.entry.id) false back.why) }
         ensures back { IfErr result (λ back. back.value ≡ self.entry) }
     {
         match leave(self.session, rt, BackgroundKind::Queryable, self.id, caller) {
@@ -110,9 +110,9 @@ impl<'a, H: Handler<Item> + Drop, B: Books> Queryable<'a, H, B> {
         waits: bool,
         caller: &mut Caller<B>,
     ) -> Result<Option<Drained>, SessionError>
-        ensures ok { OnOk result (Accepts caller.old caller.new (Undeclare queryable_kind self.now.id) false None) }
+        ensures ok { OnOk result (Accepts H.evicts caller.old caller.new (Undeclare queryable_kind self.now.id) false None) }
         ensures at_once { waits ≡ false → IfOk result (λ drained. drained ≡ None) }
-        ensures err { IfErr result (λ why. Stops caller.old caller.new (Undeclare queryable_kind self.now.id) false why) }
+        ensures err { IfErr result (λ why. Stops H.evicts caller.old caller.new (Undeclare queryable_kind self.now.id) false why) }
     {
         undeclare(
             self.session,
@@ -137,9 +137,9 @@ impl<'a, H: Handler<Item> + Drop, B: Books> Undeclaration<Queryable<'a, H, B>> {
         rt: &R,
         caller: &mut Caller<B>,
     ) -> Result<Option<Drained>, Unspent<Queryable<'a, H, B>>>
-        ensures ok { OnOk result (Accepts caller.old caller.new (Undeclare queryable_kind self.entry.value.id) false None) }
+        ensures ok { OnOk result (Accepts H.evicts caller.old caller.new (Undeclare queryable_kind self.entry.value.id) false None) }
         ensures at_once { self.entry.waits ≡ false → IfOk result (λ drained. drained ≡ None) }
-        ensures err { IfErr result (λ back. Stops caller.old caller.new (Undeclare queryable_kind self.entry.value.id) false back.why) }
+        ensures err { IfErr result (λ back. Stops H.evicts caller.old caller.new (Undeclare queryable_kind self.entry.value.id) false back.why) }
         ensures back { IfErr result (λ back. back.value ≡ self.entry.value) }
     {
         let (value, waits) = self.into_parts();

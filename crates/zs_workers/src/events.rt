@@ -1,6 +1,7 @@
 //! The events of a run.
-ghost use Rattle.std.specs.Prelude.{◌≡◌, ◌++◌, true, None, IfOk, codes, decimal};
+ghost use Rattle.std.specs.Prelude.{◌≡◌, ◌++◌, true, false, None, IfOk, codes, decimal};
 ghost use Rattle.zs_turns.specs.Gates.{takes_handler};
+ghost use Rattle.zs_cell.specs.Further.{asks_queryables};
 
 use std::alloc::{AllocError, Global};
 use zs_events::{Chan, Event, KeyArg, PublicationQuality, PushBody, Shared, Update};
@@ -9,7 +10,8 @@ use zs_sample::{CongestionControl, Locality, QoSType, Text, ZBytes};
 /// A subscriber is declared, to whatever the callers put.
 #[tactic(auto, unfolding(zs_turns::specs::Gates::takes_handler))]
 pub(crate) fn subscription() -> Event
-    ensures { takes_handler result ≡ true }
+    ensures takes { takes_handler result ≡ true }
+    ensures asks { asks_queryables result ≡ false }
 {
     Event::Sub {
         origin: Locality::Any,
@@ -41,7 +43,9 @@ fn update(alloc: Global) -> Result<Shared<Update>, AllocError> {
 }
 
 /// The caller of that number puts.
-pub(crate) fn publication(alloc: Global, number: u64) -> Result<Event, AllocError> {
+pub(crate) fn publication(alloc: Global, number: u64) -> Result<Event, AllocError>
+    ensures { IfOk result (λ event. asks_queryables event ≡ false) }
+{
     let key = key_of(alloc, number)?;
     let update = update(alloc)?;
     Ok(Event::Publish {

@@ -1,6 +1,7 @@
 //! Callers that put.
-ghost use Rattle.std.specs.Prelude.{◌≡◌, ◌<◌, ◌+◌, ◌*◌, true, is_some, vec_len, All, IfOk, OnOk};
+ghost use Rattle.std.specs.Prelude.{◌≡◌, ◌<◌, ◌+◌, ◌*◌, true, false, is_some, vec_len, All, IfOk, OnOk};
 ghost use Rattle.zs_turns.specs.Gates.{takes_handler};
+ghost use Rattle.zs_cell.specs.Further.{asks_queryables};
 ghost use Rattle.zs_workers.specs.Workers.{Counts, IsNew, HasPut, Lends};
 
 use crate::events::publication;
@@ -12,7 +13,7 @@ use std::thread::Threads;
 use zs_cell::{Books, Caller, EntryLedger, NoHandler, NotSubmitted, Session, SessionError, Three};
 use zs_events::Event;
 
-/// Steps the session by an event, with its handler, if it has one. A refused event counts as any other.
+/// Steps the session by an event that asks no queryables, with its handler, if it has one. A refused event counts as any other.
 ///
 /// # Errors
 ///
@@ -24,7 +25,8 @@ pub(crate) fn step<B: Books, R: Wait>(
     handler: Option<Arc<NoHandler>>,
     caller: &mut Caller<B>,
 ) -> Result<(), AllocError>
-    requires { is_some handler ≡ true → takes_handler event ≡ true }
+    requires handler { is_some handler ≡ true → takes_handler event ≡ true }
+    requires asks { asks_queryables event ≡ false }
     ensures { OnOk result (Counts 1 caller.old caller.new) }
 {
     match session.submit(rt, event, handler, caller) {

@@ -4,16 +4,19 @@ ghost use Rattle.std.specs.Arc.{arc_value};
 ghost use Rattle.zs_turns.specs.Gates.{takes_handler};
 ghost use Rattle.zs_hands.specs.Answers.{AreOfRoom};
 ghost use Rattle.zs_held.specs.Numbers.{numbered_at};
-ghost use Rattle.zs_cell.specs.Steps.{Steps, Accepts, Asks, Stops, IsNumbered, IsRefusal};
+ghost use Rattle.zs_cell.specs.Further.{AddsSome};
+ghost use Rattle.zs_cell.specs.Steps.{Takes, Accepts, Asks, Stops, IsNumbered, IsRefusal};
 ghost use Rattle.zs_cell.specs.Works.{back_at};
 ghost use Rattle.zs_events.specs.Turn.{was_refused};
 ghost use Rattle.zs_events.specs.declared.turn.Answer.TheVariants.{Ok as accepted};
 
 use crate::ending::{AllTold, next_ending};
 use crate::error::{NotSubmitted, SessionError};
+use crate::reports::Reports;
+use crate::requests::asks_queryables;
 use crate::session::Session;
 use crate::taking::{NotNow, take_held};
-use crate::work::{Reports, Work, Worked};
+use crate::work::{Work, Worked};
 use std::sync::{Arc, Wait};
 use zs_books::Books;
 use zs_events::{Answer, Event};
@@ -46,7 +49,7 @@ impl<H: Handler<Item> + Drop, B: Books> Session<H, B> {
         caller: &mut Caller<B>,
     ) -> Result<Work<H, H::Done>, NotNow<H>>
         requires { is_some handler ≡ true → takes_handler event.now ≡ true }
-        ensures ok { IfOk result (λ work. Steps caller.old event.now (is_some handler) work.answer caller.new) }
+        ensures ok { IfOk result (λ work. Takes caller.old event.now (is_some handler) work.answer caller.new) }
         ensures numbered { IfOk result (λ work. IsNumbered event.now work.answer) }
         ensures back { IfOk result (λ work. work.back ≡ back_at work.answer (option_map arc_value handler)) }
         ensures lents { IfOk result (λ work. AreOfRoom self.now.lock.key work.lents) }
@@ -78,7 +81,7 @@ impl<H: Handler<Item> + Drop, B: Books> Session<H, B> {
         caller: &mut Caller<B>,
     ) -> Result<Work<H, H::Done>, Option<Arc<H>>>
         requires { is_some handler ≡ true → takes_handler event.now ≡ true }
-        ensures ok { IfOk result (λ work. Steps caller.old event.now (is_some handler) work.answer caller.new) }
+        ensures ok { IfOk result (λ work. Takes caller.old event.now (is_some handler) work.answer caller.new) }
         ensures numbered { IfOk result (λ work. IsNumbered event.now work.answer) }
         ensures back { IfOk result (λ work. work.back ≡ back_at work.answer (option_map arc_value handler)) }
         ensures lents { IfOk result (λ work. AreOfRoom self.now.lock.key work.lents) }
@@ -131,11 +134,15 @@ impl<H: Handler<Item> + Drop, B: Books> Session<H, B> {
     }
 
     // Gives the passes of calls that were made outside of the lock back in another hold of it, and tells the handlers that have
-    // ended: what became of each item, with the queries that came back.
+    // ended: what became of each item.
     #[tactic(none)]
-    fn finish<R: Wait>(&self, rt: &R, worked: Worked<H::Done>) -> (Reports<H::Done>, AllTold)
+    pub(crate) fn settle<R: Wait>(
+        &self,
+        rt: &R,
+        worked: Worked<H::Done>,
+    ) -> (Reports<H::Done>, AllTold)
         requires { AreOfRoom self.now.lock.key worked.lents }
-        ensures { result.0 ≡ worked.queries }
+        ensures { result.0 ≡ worked.reports }
     {
         let (mut held, taken) = self.shared.lock.take(rt);
         let reports = worked.give_back(&mut held);
@@ -144,22 +151,30 @@ impl<H: Handler<Item> + Drop, B: Books> Session<H, B> {
         (reports, told)
     }
 
-    // Makes the calls of an event that was taken: what it was answered.
-    fn answer<R: Wait>(&self, rt: &R, work: Work<H, H::Done>) -> Result<Stepped<H>, NotSubmitted<H>>
+    // Makes the calls of an event that was taken, and gives the queries back that came back: what the event was answered.
+    fn answer<R: Wait>(
+        &self,
+        rt: &R,
+        work: Work<H, H::Done>,
+        asks: bool,
+        caller: &mut Caller<B>,
+    ) -> Result<Stepped<H>, NotSubmitted<H>>
         requires lents { AreOfRoom self.now.lock.key work.lents }
         requires closing { was_refused work.answer ≡ true → work.waits ≡ false }
         ensures number { IfOk result (λ stepped. work.answer ≡ accepted stepped.number) }
         ensures closing { IfOk result (λ stepped. is_some stepped.closing ≡ work.waits) }
         ensures refusal { IfErr result (λ back. IsRefusal work.answer back.why) }
         ensures handler { IfErr result (λ back. option_map arc_value back.handler ≡ work.back) }
+        ensures further { AddsSome caller.old caller.new }
+        ensures kept { H.evicts ≡ false → asks ≡ false → caller.new ≡ caller.old }
     {
         let mut work = work;
         let answer = work.answer();
         let handler = work.refused();
         let (worked, closing) = work.run(rt);
-        let (reports, told) = self.finish(rt, worked);
-        drop(reports);
+        let (reports, told) = self.settle(rt, worked);
         drop(told);
+        self.give_up(rt, asks, reports, caller);
         match answer {
             Answer::Ok(number) => {
                 drop(handler);
@@ -183,15 +198,16 @@ impl<H: Handler<Item> + Drop, B: Books> Session<H, B> {
         caller: &mut Caller<B>,
     ) -> Result<Stepped<H>, NotSubmitted<H>>
         requires { is_some handler ≡ true → takes_handler event.now ≡ true }
-        ensures ok { IfOk result (λ stepped. Accepts caller.old caller.new event.now (is_some handler) stepped.number) }
+        ensures ok { IfOk result (λ stepped. Accepts H.evicts caller.old caller.new event.now (is_some handler) stepped.number) }
         ensures numbered { IfOk result (λ stepped. is_some stepped.number ≡ numbered_at event.now) }
         ensures none { key ≡ None → IfOk result (λ stepped. stepped.closing ≡ None) }
         ensures asked { IfOk result (λ stepped. Asks caller.new key (is_some stepped.closing)) }
-        ensures err { IfErr result (λ back. Stops caller.old caller.new event.now (is_some handler) back.why) }
+        ensures err { IfErr result (λ back. Stops H.evicts caller.old caller.new event.now (is_some handler) back.why) }
         ensures handler { IfErr result (λ back. option_map arc_value back.handler ≡ option_map arc_value handler) }
     {
+        let asks = asks_queryables(event.get());
         match self.take(rt, event, handler, key, caller) {
-            Ok(work) => self.answer(rt, work),
+            Ok(work) => self.answer(rt, work, asks, caller),
             Err(handler) => Err(NotSubmitted {
                 why: SessionError::NoMemory,
                 handler,
@@ -210,11 +226,11 @@ impl<H: Handler<Item> + Drop, B: Books> Session<H, B> {
         caller: &mut Caller<B>,
     ) -> Result<Stepped<H>, NotSubmitted<H>>
         requires { is_some handler ≡ true → takes_handler event ≡ true }
-        ensures ok { IfOk result (λ stepped. Accepts caller.old caller.new event (is_some handler) stepped.number) }
+        ensures ok { IfOk result (λ stepped. Accepts H.evicts caller.old caller.new event (is_some handler) stepped.number) }
         ensures numbered { IfOk result (λ stepped. is_some stepped.number ≡ numbered_at event) }
         ensures none { key ≡ None → IfOk result (λ stepped. stepped.closing ≡ None) }
         ensures asked { IfOk result (λ stepped. Asks caller.new key (is_some stepped.closing)) }
-        ensures err { IfErr result (λ back. Stops caller.old caller.new event (is_some handler) back.why) }
+        ensures err { IfErr result (λ back. Stops H.evicts caller.old caller.new event (is_some handler) back.why) }
         ensures handler { IfErr result (λ back. option_map arc_value back.handler ≡ option_map arc_value handler) }
     {
         let Ok(event) = Shared::new(self.shared.alloc, event) else {

@@ -56,9 +56,9 @@ impl<H: Handler<Item> + Drop, B: Books> Session<H, B> {
         caller: &mut Caller<B>,
     ) -> Result<Option<Closing<H>>, SessionError>
         requires { numbered_at event ≡ false }
-        ensures ok { OnOk result (Accepts caller.old caller.new event false None) }
+        ensures ok { OnOk result (Accepts H.evicts caller.old caller.new event false None) }
         ensures asked { IfOk result (λ closing. Asks caller.new (undeclared_key event) (is_some closing)) }
-        ensures err { IfErr result (λ why. Stops caller.old caller.new event false why) }
+        ensures err { IfErr result (λ why. Stops H.evicts caller.old caller.new event false why) }
     {
         let key = undeclared_key(&event);
         self.tell_and_drain(rt, event, key, caller)

@@ -9,14 +9,14 @@ use Rattle.zs_cell.specs.Steps.{IsNumbered}
 use Rattle.zs_cell.specs.Works.{back_at}
 use Rattle.zs_books.specs.Callers.{CallerSeen}
 use Rattle.zs_held.specs.Receipts.{ReceiptSeen}
-use Rattle.zs_cell.proofs.Stepping.{asks, steps, numbered}
+use Rattle.zs_cell.proofs.Stepping.{asks, takes, numbered}
 use Rattle.zs_cell.proofs.taking.take_held.Goals as goal
 
 pub take-requires : goal.take-requires
 take-requires g c = c.requires
 
 pub returns-in-Ok-clause-ok : goal.returns-in-Ok-clause-ok
-returns-in-Ok-clause-ok g c = steps (length c.args.held.now.session.journal) _ c.in-Ok.ensures.receipt c.in-Ok.ensures.caller c.receive.ensures.caller c.receive.ensures.answer
+returns-in-Ok-clause-ok g c = takes (length c.args.held.now.session.journal) _ c.in-Ok.ensures.receipt c.in-Ok.ensures.caller c.receive.ensures.caller c.receive.ensures.answer
 
 pub returns-in-Ok-clause-numbered : goal.returns-in-Ok-clause-numbered
 returns-in-Ok-clause-numbered g c =

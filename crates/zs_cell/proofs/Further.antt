@@ -1,0 +1,100 @@
+-- Queries that come back and are given back.
+use Rattle.std.proofs.Common.{◌≡◌, ◌∙◌, ℕ, ◌+◌, Bool, List, [], ◌∷◌, ◌++◌, length, Option, Some, true, false, ap, subst, refl, arith}
+use Rattle.std.specs.Prelude.{Result, IfOk, IfErr, Ok as Done, Err as Failed}
+use Rattle.zs_events.specs.declared.event.Event.{Event}
+use Rattle.zs_events.specs.declared.event.Event.TheVariants.{Finish}
+use Rattle.zs_events.specs.declared.turn.Answer.{Answer}
+use Rattle.zs_events.specs.declared.turn.Answer.TheVariants.{Ok as accepted}
+use Rattle.zs_hands.specs.declared.handed.Handed.{Handed}
+use Rattle.zs_hands.specs.declared.handed.Handed.TheVariants.{Called, Evicted, Skipped}
+use Rattle.zs_hands.specs.declared.handed.RanCall.{RanCall}
+use Rattle.zs_hands.specs.Answers.{AreKept, IsKept, reports_of}
+use Rattle.zs_turns.specs.declared.item.Item.{Item}
+use Rattle.zs_turns.specs.Queries.{QuerySeen}
+use Rattle.zs_books.specs.Callers.{CallerSeen}
+use Rattle.zs_held.specs.Held.{receipt_of}
+use Rattle.zs_held.specs.Receipts.{ReceiptSeen}
+use Rattle.zs_cell.specs.declared.error.SessionError.{SessionError}
+use Rattle.zs_cell.specs.Further.{Adds, AddsFinishes, AddsSome, asks_queryables}
+use Rattle.zs_cell.specs.Steps.{Accepts, IsRefusal, Steps, Stops, Takes}
+use Rattle.zs_cell.specs.Works.{returned, returned_in}
+use Rattle.zs_cell.proofs.Stepping.{stops}
+
+-- no query
+pub adds_none : {old new : CallerSeen ReceiptSeen} → new ≡ old → AddsSome old new
+adds_none same = record { values = []; finishes = same }
+
+-- one query
+pub adds_one : {old new : CallerSeen ReceiptSeen} (value : ℕ) → Adds (Finish value) old new → AddsSome old new
+adds_one {old} {new} value adds = record { values = value ∷ []; finishes = (new, (adds, refl)) }
+
+-- some behind others
+adds_all : (vs ws : List ℕ) (old mid new : CallerSeen ReceiptSeen) → AddsFinishes vs old mid → AddsFinishes ws mid new → AddsFinishes (vs ++ ws) old new
+adds_all [] ws old mid new same more = subst (λ (c : CallerSeen ReceiptSeen). AddsFinishes ws c new) same more
+adds_all (v ∷ vs) ws old mid new (next, (adds, rest)) more = (next, (adds, adds_all vs ws next mid new rest more))
+
+pub adds_more : {old mid new : CallerSeen ReceiptSeen} → AddsSome old mid → AddsSome mid new → AddsSome old new
+adds_more {old} {mid} {new} first more = record { values = first.values ++ more.values; finishes = adds_all first.values more.values old mid new first.finishes more.finishes }
+
+-- the last receipt is what it was
+pub all_keep : (values : List ℕ) (old new : CallerSeen ReceiptSeen) → AddsFinishes values old new → new.last ≡ old.last
+all_keep [] old new same = ap (λ (c : CallerSeen ReceiptSeen). c.last) same
+all_keep (v ∷ vs) old new (mid, (adds, rest)) = all_keep vs mid new rest ∙ ap (λ (c : CallerSeen ReceiptSeen). c.last) adds.caller_is
+
+pub keeps_last : {old new : CallerSeen ReceiptSeen} → AddsSome old new → new.last ≡ old.last
+keeps_last {old} {new} some = all_keep some.values old new some.finishes
+
+-- the event that was taken first, and the queries that were given back behind it
+pub steps_of : {old mid new : CallerSeen ReceiptSeen} {event : Event} {came : Bool} {answer : Answer} (evicts asks : Bool) → asks ≡ asks_queryables event
+    → Takes old event came answer mid → AddsSome mid new → (evicts ≡ false → asks ≡ false → new ≡ mid) → Steps evicts old event came answer new
+steps_of {mid} false false is takes some kept = record { taken = mid; takes = takes; values = []; none_come_back = λ _ _. refl; finishes = kept refl refl }
+steps_of {mid} true asks is takes some kept =
+    record { taken = mid; takes = takes; values = some.values; none_come_back = λ no _. let wrong : true ≡ false = no in cc; finishes = some.finishes }
+steps_of {mid} false true is takes some kept =
+    record { taken = mid; takes = takes; values = some.values; none_come_back = λ _ no. let wrong : true ≡ false = is ∙ no in cc; finishes = some.finishes }
+
+-- an accepted event, by its answer
+pub accepts : {A E : Type 0} {old new : CallerSeen ReceiptSeen} {event : Event} {came evicts : Bool} (answer : Answer) (result : Result A E) (number : A → Option ℕ)
+    → IfOk result (λ s. answer ≡ accepted (number s)) → Steps evicts old event came answer new → IfOk result (λ s. Accepts evicts old new event came (number s))
+accepts {A} {E} {old} {new} {event} {came} {evicts} answer (Done s) number is by = subst (λ (a : Answer). Steps evicts old event came a new) is by
+accepts answer (Failed e) number is by = tt
+
+-- a refused one
+pub refuses : {A E : Type 0} {old new : CallerSeen ReceiptSeen} {event : Event} {came evicts : Bool} (answer : Answer) (result : Result A E) (why : E → SessionError)
+    → IfErr result (λ e. IsRefusal answer (why e)) → Steps evicts old event came answer new → IfErr result (λ e. Stops evicts old new event came (why e))
+refuses answer (Done s) why is by = tt
+refuses answer (Failed e) why is by = stops answer (why e) by is
+
+-- no query comes back in the report of a handler that keeps what it is given, where no call that was left out had one
+none_in : {D : Type 0} (tag : ℕ) (report : Handed Item D) → IsKept report → returned_in tag false report ≡ []
+none_in tag (Called done) kept = refl
+none_in tag (Evicted item done) kept = absurd kept
+none_in tag (Skipped item) kept = refl
+
+pub none_back : {D : Type 0} (tag : ℕ) (rans : List (RanCall Item D)) → AreKept rans → returned tag false (reports_of rans) ≡ []
+none_back tag [] kept = refl
+none_back tag (ran ∷ more) kept = ap (λ (qs : List QuerySeen). qs ++ returned tag false (reports_of more)) (none_in tag ran.report kept.0) ∙ none_back tag more kept.1
+
+-- nor where the event asks no queryables, as the flag tells
+pub none_come : {D : Type 0} (tag : ℕ) (asks : Bool) (reports told : List (Handed Item D)) → reports ≡ told → asks ≡ false → returned tag false told ≡ [] → returned tag asks reports ≡ []
+none_come tag asks reports told same so none =
+    ap (λ (rs : List (Handed Item _)). returned tag asks rs) same ∙ (ap (λ (b : Bool). returned tag b told) so ∙ none)
+
+-- the last receipt of a caller is that of the event that its call names
+pub last_is : {old new : CallerSeen ReceiptSeen} {event : Event} {came evicts : Bool} {answer : Answer} (steps : Steps evicts old event came answer new)
+    → let took = steps.takes.took in
+    new.last ≡ Some (record (receipt_of event came steps.takes.turn took.entries old.count) { asked = took.asked })
+last_is {old} {new} steps = all_keep steps.values steps.taken new steps.finishes ∙ ap (λ (c : CallerSeen ReceiptSeen). c.last) steps.takes.took.caller_is
+
+-- it counts one event more for each query that was given back
+all_count : (values : List ℕ) (old new : CallerSeen ReceiptSeen) → AddsFinishes values old new → new.count ≡ old.count + length values
+all_count [] old new same = omega (arith, ap (λ (c : CallerSeen ReceiptSeen). c.count) same)
+all_count (v ∷ vs) old new (mid, (adds, rest)) = omega (arith, all_count vs mid new rest, ap (λ (c : CallerSeen ReceiptSeen). c.count) adds.caller_is)
+
+pub count_is : {old new : CallerSeen ReceiptSeen} {event : Event} {came evicts : Bool} {answer : Answer} (steps : Steps evicts old event came answer new)
+    → new.count ≡ old.count + 1 + length steps.values
+count_is {old} {new} steps = omega (arith, all_count steps.values steps.taken new steps.finishes, ap (λ (c : CallerSeen ReceiptSeen). c.count) steps.takes.took.caller_is)
+
+-- a list with an element isn't empty
+pub no_cons : {X : Type 0} {x : X} {xs : List X} → x ∷ xs ≡ [] → ⊥
+no_cons {X} {x} {xs} is = let wrong : x ∷ xs ≡ [] = is in cc
