@@ -1,0 +1,4 @@
+mod Joining
+mod Staying
+mod Taken
+mod Filled

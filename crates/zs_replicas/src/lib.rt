@@ -1,0 +1,7 @@
+//! Stores over two linked sessions: what the one subscriber of each side is handed fills its store, and that is all that both
+//! sides wrote.
+#![tactic(auto)]
+
+pub use laws::stores_hold_what_was_written;
+
+mod laws;
