@@ -1,6 +1,6 @@
 //! A view of a group.
 
-ghost use Rattle.std.specs.Prelude.{◌≡◌, ◌+◌, ◌-◌, [], map, None, OnOk, OnErr};
+ghost use Rattle.std.specs.Prelude.{◌≡◌, ◌+◌, ◌-◌, [], map, None, IfOk, OnOk, OnErr};
 ghost use Rattle.zs_members.specs.Members.{Ascend, AreThere, count_of, raised, lowered, told, member_of};
 
 use crate::name::name_in;
@@ -73,8 +73,27 @@ impl View {
         }
     }
 
-    // Counts one more of a name.
-    fn raise(&mut self, name: &str) -> Result<(), AllocError>
+    /// The same view, in memory of its own.
+    ///
+    /// # Errors
+    ///
+    /// Want of memory alone.
+    pub fn try_clone(&self) -> Result<View, AllocError>
+        ensures { IfOk result (λ copy. copy ≡ self.now) }
+    {
+        let counts = self.counts.clone()?;
+        Ok(View {
+            alloc: self.alloc,
+            counts,
+        })
+    }
+
+    /// Counts one more of a name.
+    ///
+    /// # Errors
+    ///
+    /// Want of memory alone, which also stands for a count that can't rise any more; the view is as it was then.
+    pub fn raise(&mut self, name: &str) -> Result<(), AllocError>
         ensures ok { OnOk result (self.new ≡ raised name.now self.old) }
         ensures err { OnErr result (self.new ≡ self.old) }
     {
