@@ -1,11 +1,10 @@
 -- The stores of two linked sessions hold what both sides wrote.
-use Rattle.std.proofs.Common.{◌≡◌, ◌⊎◌, inl, inr, ℕ, List, [], ◌∷◌, ◌++◌, Bool, true, false, Option, Some, None, refl, sym, ◌∙◌, ap, subst, cond}
+use Rattle.std.proofs.Common.{◌≡◌, inl, inr, ℕ, List, [], ◌∷◌, ◌++◌, Bool, true, false, Option, Some, None, refl, sym, ◌∙◌, ap, subst, cond}
 use Rattle.std.specs.Prelude.{not, ◌&&◌, filter, drop, if◌then◌else◌}
 use Rattle.std.specs.List.{AllByRecursion, flat_map}
 use Rattle.std.specs.Str.{all_scalars, chars, IsUtf8}
 use Rattle.std.proofs.lemmas.Str.{scalars-chars}
 use Rattle.zs_wire.specs.declared.message.Message.{Message}
-use Rattle.zs_sample.specs.declared.locality.Locality.{Locality}
 use Rattle.zs_sample.specs.declared.locality.Locality.TheVariants.{Any}
 use Rattle.zs_sample.specs.declared.sample_fields.SampleFields.{SampleFields}
 use Rattle.zs_tables.specs.Recipients.{has_network}
@@ -30,14 +29,13 @@ use Rattle.zs_delivery.specs.Links.{is_net, AreOwn, AreSpelledLines}
 use Rattle.zs_arrivals.specs.Arrivals.{pushes, Arrive, BothArrive, ArrivalsAreInOrder}
 use Rattle.zs_arrivals.specs.Publications.{unless_refused, made_by, publications, goes_out, came_in, samples_of, published, arrived}
 use Rattle.zs_arrivals.specs.Samples.{samples_to, handed_by, SamplesFollowPublications}
-use Rattle.zs_store.specs.Store.{Write, joined, store_of}
+use Rattle.zs_store.specs.Store.{Write, store_of}
 use Rattle.zs_store.specs.Laws.{HoldsBest, StoresHoldBest, StoresJoin}
-use Rattle.zs_keeping.specs.Keeping.{with_effects}
 use Rattle.zs_replicas.specs.Written.{written_by, written}
-use Rattle.zs_replicas.specs.Replicas.{keeper, keeper_row, keeping, answering, first_events, first_links, Starts, effects_at, stored, IsReplicaEvent, IsReplicaLine, AreReplicaLines, took, BothStore}
+use Rattle.zs_replicas.specs.Replicas.{keeper, keeper_row, keeping, answering, first_events, first_links, Starts, effects_at, stored, IsReplicaEvent, AreReplicaLines, took, BothStore}
 use Rattle.zs_replicas.proofs.Joining.{store_more, store_turned, store_sorted, drop_singles}
 use Rattle.zs_replicas.proofs.Staying.{Stays, subs_stay, open_stays}
-use Rattle.zs_replicas.proofs.Taken.{kept_of, with_samples, by_samples, one_taken, IsOwnWrite, Makes, makes_nothing, makes_message, makes_event, message_stays, event_stays}
+use Rattle.zs_replicas.proofs.Taken.{kept_of, with_samples, by_samples, one_taken, Makes, makes_message, makes_event, message_stays, event_stays}
 
 -- each sample writes once
 abbrev pub AreSingle : List ℕ → List SampleFields → Type 0

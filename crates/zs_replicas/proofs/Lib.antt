@@ -2,3 +2,4 @@ mod Joining
 mod Staying
 mod Taken
 mod Filled
+mod Starting

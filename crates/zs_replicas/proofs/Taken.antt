@@ -1,7 +1,6 @@
 -- What a store takes of an event: the write of its publication.
 use Rattle.std.proofs.Common.{◌≡◌, ◌⊎◌, inl, inr, ℕ, List, [], ◌∷◌, ◌++◌, Bool, true, false, Option, Some, None, refl, sym, ◌∙◌, ap, subst, cond, map}
-use Rattle.std.specs.Prelude.{◌==◌, ◌&&◌, not, filter, encode_utf8_all, if◌then◌else◌}
-use Rattle.std.specs.List.{AllByRecursion, flat_map}
+use Rattle.std.specs.Prelude.{◌==◌, ◌&&◌, encode_utf8_all, if◌then◌else◌}
 use Rattle.zs_keys.specs.Matching.{intersects}
 use Rattle.zs_keys.specs.Text.{is_canonical}
 use Rattle.zs_wire.specs.declared.origin.Timestamp.{Timestamp}
@@ -12,16 +11,14 @@ use Rattle.zs_sample.specs.declared.locality.Locality.{Locality}
 use Rattle.zs_sample.specs.declared.locality.Locality.TheVariants.{Any}
 use Rattle.zs_sample.specs.declared.sample_fields.SampleFields.{SampleFields}
 use Rattle.zs_tables.specs.declared.subscriber.SubRow.{SubRow}
-use Rattle.zs_tables.specs.Recipients.{has_session, has_network}
+use Rattle.zs_tables.specs.Recipients.{has_session}
 use Rattle.zs_events.specs.declared.event.Event.{Event}
 use Rattle.zs_events.specs.declared.event.Event.TheVariants.{Publish, Get, Reply, Finish, Net}
 use Rattle.zs_events.specs.declared.key_arg.KeyArg.TheVariants.{Text, Number, Declared}
 use Rattle.zs_events.specs.declared.publication.PublicationQuality.{PublicationQuality}
 use Rattle.zs_events.specs.declared.turn.Effect.{Effect}
 use Rattle.zs_events.specs.declared.turn.Effect.TheVariants.{Send, Hand, End, Matching}
-use Rattle.zs_events.specs.declared.turn.HandOver.{HandOver}
 use Rattle.zs_events.specs.declared.turn.HandOver.TheVariants.{Sample as sample_for, Reply as reply_for, Query as query_for}
-use Rattle.zs_events.specs.declared.turn.Kind.{Kind}
 use Rattle.zs_events.specs.declared.turn.Kind.TheVariants.{Subscriber}
 use Rattle.zs_events.specs.declared.turn.Refusal.{Refusal}
 use Rattle.zs_events.specs.declared.update.PushBody.{PushBody}
@@ -38,8 +35,8 @@ use Rattle.zs_model.specs.Effects.{publication_on}
 use Rattle.zs_delivery.proofs.Accepting.{first_cause}
 use Rattle.zs_store.specs.Store.{Write, joined}
 use Rattle.zs_keeping.specs.Keeping.{write_at, with_timed, with_sample, with_effects}
-use Rattle.zs_arrivals.specs.Publications.{unless_refused, made_by, goes_out, came_in}
-use Rattle.zs_arrivals.specs.Samples.{sample_in, samples_to, handed_by}
+use Rattle.zs_arrivals.specs.Publications.{unless_refused, made_by}
+use Rattle.zs_arrivals.specs.Samples.{samples_to, handed_by}
 use Rattle.zs_replicas.specs.Written.{write_by, timed_write, written_by}
 use Rattle.zs_replicas.specs.Replicas.{keeper, keeper_row, IsWrite, IsReplicaEvent}
 use Rattle.zs_replicas.proofs.Staying.{Stays}

@@ -1,5 +1,5 @@
 -- Two linked sessions with a store each, which the first subscriber of each fills.
-use Rattle.std.specs.Prelude.{◌≡◌, ℕ, true, false, List, [], ◌∷◌, ◌++◌, drop, Some, IsUtf8, encode_utf8_all}
+use Rattle.std.specs.Prelude.{◌≡◌, ℕ, true, false, List, [], ◌∷◌, ◌++◌, drop, Some, IsUtf8, codes, encode_utf8_all}
 use Rattle.std.specs.List.{AllByRecursion}
 use Rattle.std.specs.Str.{chars}
 use Rattle.zs_keys.specs.Key.{undeclared}
@@ -17,6 +17,7 @@ use Rattle.zs_events.specs.declared.key_arg.KeyArg.TheVariants.{Text}
 use Rattle.zs_events.specs.declared.turn.Effect.{Effect}
 use Rattle.zs_events.specs.declared.update.Update.{Update}
 use Rattle.zs_model.specs.declared.settings.Settings.{Settings}
+use Rattle.zs_model.specs.Settings.{default_settings}
 use Rattle.zs_model.specs.Entry.{is_closed}
 use Rattle.zs_model.specs.Live.{live_subs}
 use Rattle.zs_model.specs.Past.{past_of}
@@ -56,6 +57,11 @@ first_links keys = Take B (answering keys) ∷ Take B (keeping keys) ∷ Take A 
 pub record Starts (s : Settings) (keys : List ℕ) (first : List Event) : Type 0 where
   pub unshut : is_closed (past_of s first) ≡ false
   pub subs : live_subs (past_of s first) ≡ keeper_row keys ∷ []
+
+-- so do the sessions of a program, where all keys below `r` are replicated
+pub record DefaultSessionsStart : Type 0 where
+  pub first : Starts default_settings (codes "r/**") (first_events (codes "r/**"))
+  pub second : Starts (other default_settings) (codes "r/**") (first_events (codes "r/**"))
 
 -- what an event brings about behind a history
 unfoldable pub effects_at : Settings → List Event → Event → List Effect

@@ -1,6 +1,6 @@
 //! The law of stores over linked sessions: the contract of a function that does nothing but call the laws that it rests on.
 
-ghost use Rattle.zs_replicas.specs.Replicas.{StoresHoldWhatWasWritten};
+ghost use Rattle.zs_replicas.specs.Replicas.{DefaultSessionsStart, StoresHoldWhatWasWritten};
 
 use zs_arrivals::{arrivals_are_in_order, samples_follow_publications};
 use zs_store::laws::{stores_hold_best, stores_join};
@@ -16,3 +16,9 @@ pub fn stores_hold_what_was_written()
     stores_hold_best();
     stores_join();
 }
+
+/// Sessions of the default settings accept the first declarations where all keys below `r` are replicated: so the law above says
+/// something of them.
+pub fn default_sessions_start()
+    ensures { DefaultSessionsStart }
+{}

@@ -2,6 +2,6 @@
 //! sides wrote.
 #![tactic(auto)]
 
-pub use laws::stores_hold_what_was_written;
+pub use laws::{default_sessions_start, stores_hold_what_was_written};
 
 mod laws;
