@@ -1,0 +1,12 @@
+mod Starting
+mod Staying
+mod Naming
+mod Viewing
+mod Counts
+mod Heard
+mod Effects
+mod Following
+mod Holding
+mod Same
+mod Standing
+mod Seeing

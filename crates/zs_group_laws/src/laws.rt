@@ -1,0 +1,18 @@
+//! Laws of groups. Each function does nothing: its contract is the law.
+
+ghost use Rattle.zs_group_laws.specs.Groups.{DefaultSessionsStart, SidesSeeMembers};
+
+use zs_delivery::told_tokens_are_declared;
+
+/// Behind every schedule of joins, leaves and deliveries, a side sees of each name as many as it holds tokens itself and as it
+/// was told tokens of the other side that were not ended; and where nothing waits, both sides see the same.
+pub fn sides_see_members()
+    ensures { SidesSeeMembers }
+{
+    told_tokens_are_declared();
+}
+
+/// Sessions of the default settings accept the first declaration: so the law above says something of them.
+pub fn default_sessions_start()
+    ensures { DefaultSessionsStart }
+{}
