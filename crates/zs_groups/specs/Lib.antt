@@ -1,0 +1,5 @@
+pub mod Told
+pub mod Sides
+pub mod Language
+pub mod Behind
+pub mod Running

@@ -1,0 +1,9 @@
+//! A group whose members are liveliness tokens, over two linked sessions: who joined under which name, how often, and whom each
+//! side sees.
+#![tactic(auto)]
+
+pub use running::group_run;
+
+mod machine;
+mod running;
+mod sides;
