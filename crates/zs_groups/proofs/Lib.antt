@@ -1,3 +1,5 @@
 pub mod Rows
 mod Steps
 mod Owing
+mod Lines
+mod Views

@@ -2,8 +2,10 @@
 //! side sees.
 #![tactic(auto)]
 
+pub use laws::views_show_members;
 pub use running::group_run;
 
+mod laws;
 mod machine;
 mod running;
 mod sides;
