@@ -1,3 +1,5 @@
+pub mod Called
 pub mod Held
 pub mod Opening
+pub mod Received
 pub mod Through

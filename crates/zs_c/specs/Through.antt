@@ -19,4 +19,4 @@ IsLonger line None = ⊥
 pub record GivesText (old new : List ℕ) (moved : ℕ) (before after : Lined) : Type 0 where
   pub count : moved ≡ min (length old) (length before.text)
   pub written : new ≡ take moved before.text ++ drop moved old
-  pub left : after ≡ record { world = before.world; text = drop moved before.text; line_max = before.line_max }
+  pub left : after ≡ record before { text = drop moved before.text }

@@ -2,11 +2,18 @@
 //! C holds a slot; a session is behind it from `yq_open` to `yq_free`. Each call answers a status.
 #![tactic(auto)]
 
+mod asking;
+mod declaring;
+mod defaults;
+mod effects;
 mod handle;
 mod lines;
 mod loose;
 mod opening;
+mod publishing;
+mod receiving;
 mod settings;
 mod slot;
 mod status;
+mod taking;
 mod texts;

@@ -17,6 +17,7 @@ use zs_line_session::LineSession;
 #[unsafe(no_mangle)]
 pub extern "C" fn yq_open(alloc: Global, slot: &mut Slot, form: &SettingsForm) -> u32
     ensures done { result ≡ 0 → slot.new.handle.value ≡ Some (opened (settings_of form.now)) }
+    ensures fresh { result ≡ 0 → slot.old.handle.value ≡ None }
     ensures kept { ¬ (result ≡ 0) → slot.new.handle.value ≡ slot.old.handle.value }
     ensures live { result ≡ 2 → IsSome slot.old.handle.value }
     ensures bad { result ≡ 3 → is_valid (settings_of form.now) ≡ false }

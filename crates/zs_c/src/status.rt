@@ -14,3 +14,5 @@ pub(crate) const TOO_LONG: u32 = 4;
 pub(crate) const NO_EVENT: u32 = 5;
 /// Want of memory.
 pub(crate) const NO_MEMORY: u32 = 6;
+/// There is no effect.
+pub(crate) const NOTHING: u32 = 7;

@@ -1,19 +1,21 @@
 //! The session and what it keeps.
 
-ghost use Rattle.std.specs.Prelude.{◌≡◌, ◌≤◌, ◌<◌, [], ◌++◌, length, take, drop, min, None, IsTrue, IfOk, OnOk, OnErr, IfErr};
+ghost use Rattle.std.specs.Prelude.{◌≡◌, ◌≤◌, ◌<◌, [], ◌++◌, length, take, drop, min, None, IsTrue, IfOk, OnOk, OnErr, IfErr, slice_get};
+ghost use Rattle.std.specs.Option.{option_copied};
 ghost use Rattle.zs_core.specs.Changes.{Fits, with_change};
 ghost use Rattle.zs_core.specs.Settings.{is_valid};
 ghost use Rattle.zs_events.specs.declared.event.Event.TheVariants.{Close};
 ghost use Rattle.zs_line_session.specs.declared.session.LineFault.TheVariants.{NoMemory};
-ghost use Rattle.zs_line_session.specs.Lined.{opened, session_event, Takes, TakesLine, IsCause};
+ghost use Rattle.zs_line_session.specs.Lined.{opened, session_event, Takes, TakesLine, Makes, IsCause};
 ghost use Rattle.zs_grammar.specs.Grammar.{event_of};
 ghost use Rattle.zs_printing.specs.Printing.{turn_text};
 
 use crate::kept::KeptText;
 use std::alloc::{AllocError, Global};
+use std::collections::VecDeque;
 use std::marker::Model;
 use thiserror::Error;
-use zs_core::{Change, Event, SessionState, Settings, Turn};
+use zs_core::{Answer, Change, Effect, Event, SessionState, Settings, Turn};
 use zs_events::ScriptEvent;
 use zs_script::{Line, append_turn, parse_event};
 
@@ -31,9 +33,9 @@ pub enum LineFault {
     NoMemory,
 }
 
-/// A session that takes lines and keeps the text of its turns.
+/// A session that takes lines and keeps the text of its turns, and takes events and keeps their effects.
 ///
-/// Contracts see the tables of its session, the text that was not read yet, and the longest line that it takes.
+/// Contracts see the tables of its session, the text and the effects that were not read yet, and the longest line that it takes.
 #[derive(Drop)]
 pub struct LineSession {
     alloc: Global,
@@ -42,6 +44,7 @@ pub struct LineSession {
     /// Where each turn's text is printed; its memory outlives the turns.
     printed: String,
     kept: KeptText,
+    effects: VecDeque<Effect>,
 }
 
 impl Model for LineSession {
@@ -49,11 +52,11 @@ impl Model for LineSession {
 
     ghost Value = { Lined };
 
-    ghost view = { λ s. record { world = s.state; text = s.kept; line_max = s.line_max } };
+    ghost view = { λ s. record { world = s.state; text = s.kept; effects = s.effects.items; line_max = s.line_max } };
 }
 
 impl LineSession {
-    /// An open session in which nothing is declared, with no text. It keeps the allocator.
+    /// An open session in which nothing is declared, with no text and no effects. It keeps the allocator.
     pub fn open(alloc: Global, settings: &Settings) -> Result<LineSession, AllocError>
         requires { IsTrue (is_valid settings.now) }
         ensures { IfOk result (λ made. made ≡ opened settings.now) }
@@ -65,6 +68,7 @@ impl LineSession {
             line_max: settings.line_max,
             printed: String::new(alloc),
             kept: KeptText::new(alloc),
+            effects: VecDeque::new(alloc),
         })
     }
 
@@ -132,7 +136,7 @@ impl LineSession {
 
     /// Keeps the text of a turn.
     fn keep(&mut self, number: u64, turn: &Turn) -> Result<(), AllocError>
-        ensures ok { OnOk result (self.new ≡ record { world = self.old.world; text = self.old.text ++ turn_text number turn.now; line_max = self.old.line_max }) }
+        ensures ok { OnOk result (self.new ≡ record self.old { text = self.old.text ++ turn_text number turn.now }) }
         ensures err { OnErr result (self.new ≡ self.old) }
     {
         self.printed.clear();
@@ -144,8 +148,8 @@ impl LineSession {
     fn apply(&mut self, change: Change, waiting: usize) -> Result<(), AllocError>
         requires fits { Fits self.old.world change }
         requires waiting { waiting ≤ length self.old.text }
-        ensures ok { OnOk result (self.new ≡ record { world = with_change change self.old.world; text = self.old.text; line_max = self.old.line_max }) }
-        ensures err { OnErr result (self.new ≡ record { world = self.old.world; text = take waiting self.old.text; line_max = self.old.line_max }) }
+        ensures ok { OnOk result (self.new ≡ record self.old { world = with_change change self.old.world }) }
+        ensures err { OnErr result (self.new ≡ record self.old { text = take waiting self.old.text }) }
     {
         match self.state.apply(change) {
             Ok(()) => Ok(()),
@@ -154,6 +158,55 @@ impl LineSession {
                 Err(AllocError)
             }
         }
+    }
+
+    /// Takes an event, and keeps its effects behind those that were kept. At an `Err` the session and what it keeps are as they were.
+    pub fn take(&mut self, event: &Event) -> Result<Answer, AllocError>
+        ensures ok { IfOk result (λ answer. Makes self.old self.new event.now answer) }
+        ensures err { OnErr result (self.new ≡ self.old) }
+    {
+        let made = self.state.plan(event)?;
+        let (turn, change) = made.into_parts();
+        let Turn { answer, effects } = turn;
+        let mut effects = VecDeque::from_vec(effects.into_vec());
+        if self.effects.reserve(effects.len()).is_err() {
+            drop(effects);
+            drop(change);
+            return Err(AllocError);
+        }
+        match self.state.apply(change) {
+            Ok(()) => {
+                // There is room, so it succeeds.
+                let _moved = self.effects.append(&mut effects);
+                drop(effects);
+                Ok(answer)
+            }
+            Err(_) => {
+                drop(effects);
+                Err(AllocError)
+            }
+        }
+    }
+
+    /// The first effect that waits, if one does.
+    pub fn first_effect(&self) -> Option<&Effect>
+        ensures { option_copied result ≡ slice_get self.now.effects 0 }
+    {
+        self.effects.front()
+    }
+
+    /// Lets go of the first effect that waits.
+    pub fn drop_effect(&mut self)
+        ensures { self.new ≡ record self.old { effects = drop 1 self.old.effects } }
+    {
+        drop(self.effects.pop_front());
+    }
+
+    /// How many effects wait.
+    pub fn effect_count(&self) -> usize
+        ensures { result ≡ length self.now.effects }
+    {
+        self.effects.len()
     }
 
     /// How many bytes of text wait to be read.
@@ -167,7 +220,7 @@ impl LineSession {
     pub fn read_text(&mut self, out: &mut [u8]) -> usize
         ensures count { result ≡ min (length out.old) (length self.old.text) }
         ensures written { out.new ≡ take result self.old.text ++ drop result out.old }
-        ensures left { self.new ≡ record { world = self.old.world; text = drop result self.old.text; line_max = self.old.line_max } }
+        ensures left { self.new ≡ record self.old { text = drop result self.old.text } }
     {
         self.kept.read(out)
     }

@@ -1,0 +1,4 @@
+use Rattle.zs_c.proofs.declaring.yq_declare_key.Goals as goal
+
+pub returns : goal.returns
+returns c = c.take_read.ensures _ c.declare_key-read.ensures

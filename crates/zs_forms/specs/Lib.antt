@@ -1,0 +1,10 @@
+pub mod Answers
+pub mod Declarations
+pub mod Keys
+pub mod Kinds
+pub mod Origins
+pub mod Publications
+pub mod Quality
+pub mod Questions
+pub mod Texts
+pub mod Updates

@@ -1,0 +1,5 @@
+pub mod Answers
+pub mod Contents
+pub mod Messages
+pub mod Numbers
+pub mod Parts
