@@ -2,3 +2,5 @@ pub mod Rows
 mod Steps
 mod Own
 mod Owing
+mod Saying
+mod Dumps

@@ -3,3 +3,4 @@ pub mod Sides
 pub mod Language
 pub mod Behind
 pub mod Running
+pub mod Laws

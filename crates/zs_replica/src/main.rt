@@ -9,6 +9,7 @@ use std::rt::Env;
 use std::{env, io};
 use zs_driving::{StdSink, StdSource};
 
+mod laws;
 mod machine;
 mod running;
 mod sides;

@@ -7,7 +7,9 @@ ghost use Rattle.zs_replica.specs.Sides.{AreBehind};
 ghost use Rattle.zs_replica.specs.Told.{first_links};
 ghost use Rattle.zs_replica.specs.Language.{replica_task, Goes};
 ghost use Rattle.zs_replica.specs.Running.{bad_words, Runs};
+ghost use Rattle.zs_replica.specs.Laws.{RunsShowBest};
 
+use crate::laws::runs_show_best;
 use crate::sides::Sides;
 use std::alloc::Global;
 use zs_core::Settings;
@@ -18,6 +20,9 @@ use zs_keys::{Sink, Source};
 ///
 /// There are no words. Each line is for one side, `a` or `b`, or delivers what waits at one; the answers and what the stores
 /// and the gets have go to the sink. Both sessions have the default settings but for the identifier and the tag of the second.
+///
+/// Whatever lines were read, what `dump` shows of a side is at each key the greatest entry of what the side wrote and of what was
+/// delivered to it of the other's writes, and no other key; where no push waits, both sides show the same.
 ///
 /// The status is 0 at the end of input. 2 says that there are words; then nothing is read or written. 3 says that a line is
 /// none of the program's, 4 that a line is too long, 5 that there were too many reads, 6 that the source failed, 7 that the
@@ -41,7 +46,9 @@ pub fn replica_run<S: Source, K: Sink, C: Sink>(
         (record { written = C.written complaints.old; faults = C.faults complaints.old })
         (record { written = C.written complaints.new; faults = C.faults complaints.new }) }
     ensures quiet { result ≡ 0 → complaints.new ≡ complaints.old }
+    ensures dumps { RunsShowBest }
 {
+    runs_show_best();
     if words.is_empty() {
         return run_default(alloc, source, sink, complaints);
     }
