@@ -1,0 +1,6 @@
+ghost use Rattle.zs_message_laws.specs.Passing.{MessagesPass};
+
+/// What one session tells of a message, another reads as that message.
+pub fn messages_pass()
+    ensures { MessagesPass }
+{}
