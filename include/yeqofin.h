@@ -387,7 +387,8 @@ enum { YQ_KEY = 1, YQ_PAYLOAD = 2, YQ_ENCODING = 3, YQ_PARAMETERS = 4, YQ_ATTACH
  * YQ_OK, YQ_NOT_OPEN, YQ_NOTHING (nothing is written but for YQ_OK). */
 uint32_t yq_effect(yq_session *session, yq_effect_numbers *effect);
 
-/* Copies as much of one of its texts and bytes as fits into `room` bytes to the front of `out`, and writes how many bytes.
+/* Copies as much of one of its texts and bytes as fits into `room` bytes to the front of `out`, and writes how many bytes. Another
+ * number than those above names nothing, of which no byte is copied.
  * YQ_OK, YQ_NOT_OPEN, YQ_NOTHING (then *count is 0). */
 uint32_t yq_effect_bytes(yq_session *session, uint8_t part, uint8_t *out, size_t room, size_t *count);
 
