@@ -3,8 +3,9 @@ ghost use Rattle.std.specs.Arc.{arc_value};
 ghost use Rattle.zs_events.specs.declared.event.Event.TheVariants.{Status, Undeclare, Background};
 ghost use Rattle.zs_turns.specs.Gates.{takes_handler};
 ghost use Rattle.zs_held.specs.Numbers.{numbered_at};
-ghost use Rattle.zs_cell.specs.Steps.{Accepts, Stops};
+ghost use Rattle.zs_cell.specs.Steps.{Accepts, Stops, Asks};
 ghost use Rattle.zs_declaring.specs.Statuses.{Tells};
+ghost use Rattle.zs_declaring.specs.Waits.{waited_key};
 
 use crate::events::{background, matching_status, undeclaration};
 use std::sync::{Arc, Wait};
@@ -113,6 +114,7 @@ pub fn undeclare<H: Handler<Item> + Drop, B: Books, R: Wait>(
 ) -> Result<Option<Drained>, SessionError>
     ensures ok { OnOk result (Accepts H.evicts caller.old caller.new (Undeclare kind id) false None) }
     ensures at_once { waits ≡ false → IfOk result (λ drained. drained ≡ None) }
+    ensures asked { IfOk result (λ drained. Asks caller.new (waited_key waits (Undeclare kind id)) (is_some drained)) }
     ensures err { IfErr result (λ why. Stops H.evicts caller.old caller.new (Undeclare kind id) false why) }
 {
     let event = undeclaration(kind, id);
