@@ -31,13 +31,25 @@ impl<H, B: Books> Fact<Held<H, B>, Room> for OfRoom {
     ghost holds = { λ room held. held.session.exchange.posts.room ≡ room };
 }
 
-#[derive(Drop)]
 pub(crate) struct Inner<H, B: Books> {
     alloc: Global,
     zid: u128,
     entity: u32,
     tag: u64,
     lock: KeyedLock<Held<H, B>, Room, OfRoom>,
+}
+
+impl<H: Drop, B: Books> Drop for Inner<H, B> {
+    fn drop(self) {
+        let Inner {
+            alloc: _,
+            zid: _,
+            entity: _,
+            tag: _,
+            lock,
+        } = self;
+        drop(lock);
+    }
 }
 
 /// A session that callers share. Contracts see which session it is, and what its settings say of it.

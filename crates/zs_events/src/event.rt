@@ -13,7 +13,7 @@ use zs_shared::Shared;
 use zs_wire::{Message, Value};
 
 /// What can happen to a session. It is small: what it carries stands in places that can be shared.
-#[derive(Debug, Drop)]
+#[derive(Debug)]
 pub enum Event {
     /// The application declares a key, which is from then on held under a number.
     Key {
@@ -146,6 +146,83 @@ pub enum Event {
     Close,
     /// A message comes in from the network.
     Net(Shared<Message>),
+}
+
+impl Drop for Event {
+    fn drop(self) {
+        match self {
+            Event::Key { key } => drop(key),
+            Event::UndeclareKey { key } => drop(key),
+            Event::Sub {
+                origin: _,
+                key,
+                to: _,
+            } => drop(key),
+            Event::Pub { key, settings } => {
+                drop(key);
+                drop(settings);
+            }
+            Event::Queryable {
+                origin: _,
+                complete: _,
+                key,
+            } => drop(key),
+            Event::Querier { key, settings: _ } => drop(key),
+            Event::Listen { parent: _, id: _ } => {}
+            Event::Status { parent: _, id: _ } => {}
+            Event::Token { key } => drop(key),
+            Event::Lsub { history: _, key } => drop(key),
+            Event::Undeclare { kind: _, id: _ } => {}
+            Event::Background { kind: _, id: _ } => {}
+            Event::Publish {
+                destination: _,
+                key,
+                update,
+                quality: _,
+            } => {
+                drop(key);
+                drop(update);
+            }
+            Event::PublishBy { id: _, update } => drop(update),
+            Event::CancelToken => {}
+            Event::Cancel { token: _ } => {}
+            Event::Get {
+                key,
+                settings: _,
+                inquiry,
+                to: _,
+            } => {
+                drop(key);
+                drop(inquiry);
+            }
+            Event::QuerierGet {
+                id: _,
+                inquiry,
+                to: _,
+            } => drop(inquiry),
+            Event::LivelinessGet {
+                key,
+                timeout: _,
+                cancellation_token: _,
+                to: _,
+            } => drop(key),
+            Event::Reply {
+                value: _,
+                key,
+                update,
+                quality: _,
+            } => {
+                drop(key);
+                drop(update);
+            }
+            Event::ReplyErr { value: _, error } => drop(error),
+            Event::Share { value: _ } => {}
+            Event::Finish { value: _ } => {}
+            Event::Tick { now: _ } => {}
+            Event::Close => {}
+            Event::Net(message) => drop(message),
+        }
+    }
 }
 
 impl Event {

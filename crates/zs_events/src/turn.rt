@@ -56,7 +56,6 @@ pub enum Kind {
 }
 
 /// Something that is handed to the application. Who else is handed the same holds it in the same place.
-#[derive(Drop)]
 pub enum HandOver {
     /// A sample for a subscriber.
     Sample {
@@ -76,6 +75,28 @@ pub enum HandOver {
         value: u32,
         query: Shared<QueryData>,
     },
+}
+
+impl Drop for HandOver {
+    fn drop(self) {
+        match self {
+            HandOver::Sample {
+                kind: _,
+                id: _,
+                sample,
+            } => drop(sample),
+            HandOver::Reply {
+                kind: _,
+                id: _,
+                reply,
+            } => drop(reply),
+            HandOver::Query {
+                id: _,
+                value: _,
+                query,
+            } => drop(query),
+        }
+    }
 }
 
 impl HandOver {
@@ -104,7 +125,6 @@ impl HandOver {
 }
 
 /// One thing that an accepted event brings about.
-#[derive(Drop)]
 pub enum Effect {
     /// A message goes to the network.
     Send(Shared<Message>),
@@ -114,6 +134,17 @@ pub enum Effect {
     End { kind: Kind, id: u32 },
     /// A listener is told whether anyone matches, which is not what it was told before.
     Matching { id: u32, matching: bool },
+}
+
+impl Drop for Effect {
+    fn drop(self) {
+        match self {
+            Effect::Send(message) => drop(message),
+            Effect::Hand(item) => drop(item),
+            Effect::End { kind: _, id: _ } => {}
+            Effect::Matching { id: _, matching: _ } => {}
+        }
+    }
 }
 
 impl Effect {

@@ -30,13 +30,26 @@ use zs_wire::Message;
 
 /// The gates of a session with the handlers behind them, and the messages that are to be sent. Contracts see both, the
 /// session's tag, and whether messages are kept.
-#[derive(Drop)]
 pub struct Exchange<H> {
     alloc: Global,
     tag: u64,
     posts: Posts<H>,
     outbox: VecDeque<Shared<Message>>,
     keeps: bool,
+}
+
+impl<H: Drop> Drop for Exchange<H> {
+    fn drop(self) {
+        let Exchange {
+            alloc: _,
+            tag: _,
+            posts,
+            outbox,
+            keeps: _,
+        } = self;
+        drop(posts);
+        drop(outbox);
+    }
 }
 
 impl<H> Model for Exchange<H> {

@@ -42,10 +42,17 @@ type Caller<B> = zs_books::Caller<B, Receipt<B>>;
 ///
 /// Its settings are those of the ledger of entries, and the books count the entries of its journal, the messages that their
 /// turns sent, and those that were drained: what waits to be drained is all but these.
-#[derive(Drop)]
 pub struct Held<H, B: Books> {
     cell: SessionCell<H>,
     accounts: Accounts<B>,
+}
+
+impl<H: Drop, B: Books> Drop for Held<H, B> {
+    fn drop(self) {
+        let Held { cell, accounts } = self;
+        drop(cell);
+        drop(accounts);
+    }
 }
 
 impl<H, B: Books> Model for Held<H, B> {

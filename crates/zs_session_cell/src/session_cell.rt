@@ -29,11 +29,23 @@ use zs_wire::Message;
 
 /// A session: its core, the handlers with their gates, the messages that are to be sent, and the journal of all events with
 /// their turns. Contracts see the settings, the journal, the posts and the messages.
-#[derive(Drop)]
 pub struct SessionCell<H> {
     settings: Settings,
     cell: CellState<H>,
     journal: Vec<Entry>,
+}
+
+impl<H: Drop> Drop for SessionCell<H> {
+    fn drop(self) {
+        let SessionCell {
+            settings,
+            cell,
+            journal,
+        } = self;
+        drop(settings);
+        drop(cell);
+        drop(journal);
+    }
 }
 
 impl<H> Model for SessionCell<H> {

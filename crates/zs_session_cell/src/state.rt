@@ -27,11 +27,22 @@ use zs_turns::Item;
 use zs_wire::Message;
 
 /// A session's core with what stands between it and its callers. It keeps no journal, so it doesn't grow with every event.
-#[derive(Drop)]
 pub struct CellState<H> {
     alloc: Global,
     core: SessionState,
     exchange: Exchange<H>,
+}
+
+impl<H: Drop> Drop for CellState<H> {
+    fn drop(self) {
+        let CellState {
+            alloc: _,
+            core,
+            exchange,
+        } = self;
+        drop(core);
+        drop(exchange);
+    }
 }
 
 impl<H> Model for CellState<H> {

@@ -37,7 +37,6 @@ mod values;
 /// What a session holds: what the application declared and the network told, and the numbers that it draws next. It changes by `apply`
 /// alone.
 /// Contracts see it as a `World` of plain lists and counters.
-#[derive(Drop)]
 pub struct SessionTables {
     pub alloc: Global,
     pub settings: Settings,
@@ -58,6 +57,46 @@ pub struct SessionTables {
     pub handing: RequestTable,
     pub next_cancellation_token: u32,
     pub taken_cancellation_tokens: IdSet,
+}
+
+impl Drop for SessionTables {
+    fn drop(self) {
+        let SessionTables {
+            alloc: _,
+            settings,
+            closed: _,
+            next_entity: _,
+            next_key: _,
+            tables,
+            holders,
+            publishers,
+            queryables,
+            queriers,
+            left_subs,
+            left_queryables,
+            groups,
+            asking,
+            liveliness,
+            matching,
+            handing,
+            next_cancellation_token: _,
+            taken_cancellation_tokens,
+        } = self;
+        drop(settings);
+        drop(tables);
+        drop(holders);
+        drop(publishers);
+        drop(queryables);
+        drop(queriers);
+        drop(left_subs);
+        drop(left_queryables);
+        drop(groups);
+        drop(asking);
+        drop(liveliness);
+        drop(matching);
+        drop(handing);
+        drop(taken_cancellation_tokens);
+    }
 }
 
 impl Model for SessionTables {
