@@ -1,11 +1,12 @@
 -- What a call inside of its gates tells.
-use Rattle.std.specs.Prelude.{◌≡◌, Bool, true, false, ◌||◌, List, [], ◌∷◌, ◌++◌, Option, Some, None, option_map}
+use Rattle.std.specs.Prelude.{◌≡◌, ℕ, Bool, true, false, ◌||◌, List, [], ◌∷◌, ◌++◌, Option, Some, None, option_map}
 use Rattle.std.specs.List.{AllByRecursion}
 use Rattle.atomic_table.specs.Seated.{TableId}
 use Rattle.zs_posts.specs.Passes.{LentSeen}
 use Rattle.zs_posts.specs.Calls.{passes_lents}
 use Rattle.zs_posts.specs.declared.call.Call.{Call}
 use Rattle.zs_posts.specs.declared.passes.Passes.{Passes}
+use Rattle.zs_hands.specs.declared.calling.Under.{Under}
 use Rattle.zs_hands.specs.declared.handed.Handed.{Handed}
 use Rattle.zs_hands.specs.declared.handed.Handed.TheVariants.{Called, Evicted, Skipped}
 use Rattle.zs_hands.specs.declared.handed.RanCall.{RanCall}
@@ -17,6 +18,19 @@ unnoted lent = record lent { noted = false }
 -- the pass that came back is the one that was lent
 abbrev pub AreSame : Option LentSeen → Option LentSeen → Type 0
 AreSame lent back = option_map unnoted lent ≡ option_map unnoted back
+
+-- the number of a pass, if there is one
+abbrev pub number_lent : Option LentSeen → Option ℕ
+number_lent lent = option_map (λ l. l.number) lent
+
+-- the gates of passes, by their numbers
+abbrev pub numbers_of : Passes → Under
+numbers_of p = record {
+  session = number_lent p.session;
+  parent = number_lent p.parent;
+  token = number_lent p.token;
+  own = p.own.number;
+}
 
 -- there is a pass whose last step found its gate's mark
 abbrev pub is_noted : Option LentSeen → Bool
@@ -41,6 +55,12 @@ module _ {T D : Type 0} where
   IsFor item noted (Evicted other done) = noted ≡ false
   IsFor item noted (Skipped back) = (noted ≡ true) × (back ≡ item)
 
+  -- where the handler was called, that was inside of these gates
+  abbrev pub IsInside : Under → Handed T D → Option Under → Type 0
+  IsInside gates (Called done) under = under ≡ Some gates
+  IsInside gates (Evicted other done) under = under ≡ Some gates
+  IsInside gates (Skipped back) under = Unit {0}
+
   -- the handler kept what it was given, or wasn't called
   abbrev pub IsKept : Handed T D → Type 0
   IsKept (Called done) = Unit {0}
@@ -50,6 +70,7 @@ module _ {T D : Type 0} where
   -- what a call with that item and those passes tells
   pub record Answers (item : T) (lent : Passes) (ran : RanCall T D) : Type 0 where
     pub report : IsFor item (is_any_noted ran.passes) ran.report
+    pub inside : IsInside (numbers_of lent) ran.report ran.under
     pub passes : AreBack lent ran.passes
 
   -- of calls in turn

@@ -1,4 +1,5 @@
 //! What became of an item that was to be handed to a handler.
+use crate::calling::Under;
 use zs_posts::Passes;
 
 /// What became of an item that was to be handed to a handler. Only a call of the handler gives a `Done`.
@@ -12,9 +13,10 @@ pub enum Handed<T, D> {
     Skipped(T),
 }
 
-/// A call that was made or skipped: what it tells, and the passes, to be given back.
+/// A call that was made or skipped: what it tells, which gates it was made inside of, and the passes, to be given back.
 #[derive(Drop)]
 pub struct RanCall<T, D> {
     pub report: Handed<T, D>,
+    pub under: Option<Under>,
     pub passes: Passes,
 }

@@ -103,7 +103,12 @@ impl<T: Drop, D: Drop> Ran<T, D> {
         let Ran { ran, mut reports } = self;
         let mut left = ran.into_iter();
         while let Some(call) = left.next() {
-            let RanCall { report, passes } = call;
+            let RanCall {
+                report,
+                under,
+                passes,
+            } = call;
+            drop(under);
             posts.give_all_back(passes);
             reports.push_reserved(report);
         }

@@ -7,11 +7,13 @@
 //! A type of this crate that stands for a duty has no `Drop`: a program that lets it go doesn't compile.
 #![tactic(auto)]
 
+mod calling;
 mod ending;
 mod handed;
 mod hands;
 mod run;
 
+pub use calling::Under;
 pub use ending::{Closing, Ending};
 pub use handed::{Handed, RanCall};
 pub use hands::{Hands, HandsRoom, Ran};

@@ -1,45 +1,33 @@
 //! One call inside of its gates: a function a gate, each straight through.
-ghost use Rattle.std.specs.Prelude.{◌≡◌, false, ◌||◌};
-ghost use Rattle.zs_hands.specs.Answers.{unnoted, is_noted, AreSame, IsFor, IsKept, Answers};
+ghost use Rattle.std.specs.Prelude.{◌≡◌, false, ◌||◌, option_map};
+ghost use Rattle.zs_hands.specs.Answers.{unnoted, is_noted, number_lent, AreSame, IsFor, IsInside, IsKept, Answers};
 
+use crate::calling::{Under, call};
 use crate::handed::{Handed, RanCall};
 use std::sync::{Arc, Wait};
-use zs_gate::Inside;
-use zs_handlers::{Handled, Handler};
-use zs_posts::{Call, Lent, Passes};
+use zs_handlers::Handler;
+use zs_posts::{Call, Lent, Passes, Within};
 
-// Calls a handler, inside of its gate.
-fn call<T, H: Handler<T>, R: Wait>(
-    rt: &R,
-    handler: &Arc<H>,
-    inside: &Inside,
-    item: T,
-) -> Handed<T, H::Done>
-    ensures report { IsFor item false result }
-    ensures kept { H.evicts ≡ false → IsKept result }
-{
-    match handler.on(rt, inside, item) {
-        Handled::Taken(done) => Handed::Called(done),
-        Handled::Evicted(item, done) => Handed::Evicted(item, done),
-    }
-}
-
-// Enters the handler's own gate.
+// Enters the handler's own gate, and calls it there.
 fn in_own<T, H: Handler<T>, R: Wait>(
     rt: &R,
     handler: &Arc<H>,
     item: T,
+    session: Option<&Within>,
+    parent: Option<&Within>,
+    token: Option<&Within>,
     own: Lent,
-) -> (Handed<T, H::Done>, Lent)
-    ensures report { IsFor item result.1.noted result.0 }
+) -> (Handed<T, H::Done>, Option<Under>, Lent)
+    ensures report { IsFor item result.2.noted result.0 }
+    ensures inside { IsInside (record { session = option_map (λ w. w.now.number) session.entry; parent = option_map (λ w. w.now.number) parent.entry; token = option_map (λ w. w.now.number) token.entry; own = own.number }) result.0 result.1 }
     ensures kept { H.evicts ≡ false → IsKept result.0 }
-    ensures own { unnoted own ≡ unnoted result.1 }
+    ensures own { unnoted own ≡ unnoted result.2 }
 {
     match own.enter() {
-        Err(own) => (Handed::Skipped(item), own),
+        Err(own) => (Handed::Skipped(item), None, own),
         Ok(within) => {
-            let report = call(rt, handler, within.inside(), item);
-            (report, within.leave())
+            let (report, under) = call(rt, handler, item, session, parent, token, &within);
+            (report, Some(under), within.leave())
         }
     }
 }
@@ -49,23 +37,34 @@ fn in_token<T, H: Handler<T>, R: Wait>(
     rt: &R,
     handler: &Arc<H>,
     item: T,
+    session: Option<&Within>,
+    parent: Option<&Within>,
     token: Option<Lent>,
     own: Lent,
-) -> (Handed<T, H::Done>, Option<Lent>, Lent)
-    ensures report { IsFor item (is_noted result.1 || result.2.noted) result.0 }
+) -> (Handed<T, H::Done>, Option<Under>, Option<Lent>, Lent)
+    ensures report { IsFor item (is_noted result.2 || result.3.noted) result.0 }
+    ensures inside { IsInside (record { session = option_map (λ w. w.now.number) session.entry; parent = option_map (λ w. w.now.number) parent.entry; token = number_lent token; own = own.number }) result.0 result.1 }
     ensures kept { H.evicts ≡ false → IsKept result.0 }
-    ensures token { AreSame token result.1 }
-    ensures own { unnoted own ≡ unnoted result.2 }
+    ensures token { AreSame token result.2 }
+    ensures own { unnoted own ≡ unnoted result.3 }
 {
     let Some(token) = token else {
-        let (report, own) = in_own(rt, handler, item, own);
-        return (report, None, own);
+        let (report, under, own) = in_own(rt, handler, item, session, parent, None, own);
+        return (report, under, None, own);
     };
     match token.enter() {
-        Err(token) => (Handed::Skipped(item), Some(token), own),
+        Err(token) => (Handed::Skipped(item), None, Some(token), own),
         Ok(within) => {
-            let (report, own) = in_own(rt, handler, item, own);
-            (report, Some(within.leave()), own)
+            let (report, under, own) = in_own(
+                rt,
+                handler,
+                item,
+                session,
+                parent,
+                Some(&within),
+                own,
+            );
+            (report, under, Some(within.leave()), own)
         }
     }
 }
@@ -75,25 +74,41 @@ fn in_parent<T, H: Handler<T>, R: Wait>(
     rt: &R,
     handler: &Arc<H>,
     item: T,
+    session: Option<&Within>,
     parent: Option<Lent>,
     token: Option<Lent>,
     own: Lent,
-) -> (Handed<T, H::Done>, Option<Lent>, Option<Lent>, Lent)
-    ensures report { IsFor item (is_noted result.1 || (is_noted result.2 || result.3.noted)) result.0 }
+) -> (
+    Handed<T, H::Done>,
+    Option<Under>,
+    Option<Lent>,
+    Option<Lent>,
+    Lent,
+)
+    ensures report { IsFor item (is_noted result.2 || (is_noted result.3 || result.4.noted)) result.0 }
+    ensures inside { IsInside (record { session = option_map (λ w. w.now.number) session.entry; parent = number_lent parent; token = number_lent token; own = own.number }) result.0 result.1 }
     ensures kept { H.evicts ≡ false → IsKept result.0 }
-    ensures parent { AreSame parent result.1 }
-    ensures token { AreSame token result.2 }
-    ensures own { unnoted own ≡ unnoted result.3 }
+    ensures parent { AreSame parent result.2 }
+    ensures token { AreSame token result.3 }
+    ensures own { unnoted own ≡ unnoted result.4 }
 {
     let Some(parent) = parent else {
-        let (report, token, own) = in_token(rt, handler, item, token, own);
-        return (report, None, token, own);
+        let (report, under, token, own) = in_token(rt, handler, item, session, None, token, own);
+        return (report, under, None, token, own);
     };
     match parent.enter() {
-        Err(parent) => (Handed::Skipped(item), Some(parent), token, own),
+        Err(parent) => (Handed::Skipped(item), None, Some(parent), token, own),
         Ok(within) => {
-            let (report, token, own) = in_token(rt, handler, item, token, own);
-            (report, Some(within.leave()), token, own)
+            let (report, under, token, own) = in_token(
+                rt,
+                handler,
+                item,
+                session,
+                Some(&within),
+                token,
+                own,
+            );
+            (report, under, Some(within.leave()), token, own)
         }
     }
 }
@@ -115,14 +130,20 @@ fn in_session<T, H: Handler<T>, R: Wait>(
         token,
     } = passes;
     let Some(session) = session else {
-        let (report, parent, token, own) = in_parent(rt, handler, item, parent, token, own);
+        let (report, under, parent, token, own) = in_parent(
+            rt, handler, item, None, parent, token, own,
+        );
         let passes = Passes {
             own,
             session: None,
             parent,
             token,
         };
-        return RanCall { report, passes };
+        return RanCall {
+            report,
+            under,
+            passes,
+        };
     };
     match session.enter() {
         Err(session) => {
@@ -133,17 +154,28 @@ fn in_session<T, H: Handler<T>, R: Wait>(
                 token,
             };
             let report = Handed::Skipped(item);
-            RanCall { report, passes }
+            RanCall {
+                report,
+                under: None,
+                passes,
+            }
         }
         Ok(within) => {
-            let (report, parent, token, own) = in_parent(rt, handler, item, parent, token, own);
+            let inside = Some(&within);
+            let (report, under, parent, token, own) = in_parent(
+                rt, handler, item, inside, parent, token, own,
+            );
             let passes = Passes {
                 own,
                 session: Some(within.leave()),
                 parent,
                 token,
             };
-            RanCall { report, passes }
+            RanCall {
+                report,
+                under,
+                passes,
+            }
         }
     }
 }

@@ -73,6 +73,13 @@ impl Within {
         &self.inside
     }
 
+    /// The number of its tag. In one room no two gates have one number.
+    pub fn number(&self) -> u64
+        ensures { result ≡ self.now.number }
+    {
+        self.tag.number()
+    }
+
     /// Steps outside.
     pub fn leave(self) -> Lent
         ensures { result ≡ self }
