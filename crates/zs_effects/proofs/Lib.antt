@@ -1,0 +1,6 @@
+mod Rising
+mod Rows
+mod Standing
+mod Sending
+mod Ascending
+mod Answered
