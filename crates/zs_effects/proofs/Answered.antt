@@ -386,12 +386,6 @@ module _ (n : ℕ) where
       quiet_due live (others_of known number text e ++ cut_effects (QuerierEnds id) known.gets)
       (all_append Quiet (others_of known number text e) (cut_effects (QuerierEnds id) known.gets) (others_quiet known number text e tt)
       (mapped end_get (λ m. refl) (ended_numbers (QuerierEnds id) known.gets)))
-  all_due known number text (Undeclare sub_kind id) up live is = quiet_due live (effects_on known number text (Undeclare sub_kind id)) (others_quiet known number text (Undeclare sub_kind id) tt)
-  all_due known number text (Undeclare pub_kind id) up live is = quiet_due live (effects_on known number text (Undeclare pub_kind id)) (others_quiet known number text (Undeclare pub_kind id) tt)
-  all_due known number text (Undeclare queryable_sort id) up live is = quiet_due live (effects_on known number text (Undeclare queryable_sort id)) (others_quiet known number text (Undeclare queryable_sort id) tt)
-  all_due known number text (Undeclare listener_sort id) up live is = quiet_due live (effects_on known number text (Undeclare listener_sort id)) (others_quiet known number text (Undeclare listener_sort id) tt)
-  all_due known number text (Undeclare token_sort id) up live is = quiet_due live (effects_on known number text (Undeclare token_sort id)) (others_quiet known number text (Undeclare token_sort id) tt)
-  all_due known number text (Undeclare lsub_sort id) up live is = quiet_due live (effects_on known number text (Undeclare lsub_sort id)) (others_quiet known number text (Undeclare lsub_sort id) tt)
   all_due known number text (Cancel token) up live is =
       quiet_due live (cut_effects (CancelledBy token) known.gets ++ cancelled_ends token known.watch.gets) (gets_quiet (ended_numbers (CancelledBy token) known.gets) (numbers_with token known.watch.gets))
   all_due known number text (Tick moment) up live is = moment_due moment known.gets known.watch.gets up live is
