@@ -1,0 +1,5 @@
+pub mod Steps
+pub mod Asked
+pub mod Newest
+pub mod Responding
+pub mod Gets
