@@ -49,12 +49,12 @@ use Rattle.zs_replica.specs.Language.{Said, To, Move, with_line, links_behind, r
 use Rattle.zs_replica.specs.Laws.{took_at, BothHold, DumpsShowBest}
 use Rattle.zs_replica.proofs.Saying.{IsAsked, IsSaid, all_said}
 
-same_effects : (s : Settings) (h : List Event) (e : Event) → effects_at s h e ≡ (turn_at s h e).effects
+pub same_effects : (s : Settings) (h : List Event) (e : Event) → effects_at s h e ≡ (turn_at s h e).effects
 unfolding effects_at turn_at
 same_effects s h e = refl
 
 -- what the hand-overs leave, in both words
-same_kept : (s : Settings) (h : List Event) → stored s h ≡ kept s h
+pub same_kept : (s : Settings) (h : List Event) → stored s h ≡ kept s h
 same_kept s [] = refl
 same_kept s (e ∷ h) =
     ap (λ (effects : List Effect). with_effects keeper effects (stored s h)) (same_effects s h e)
@@ -274,7 +274,7 @@ module _ (law : StoresHoldWhatWasWritten) (utf8 : IsUtf8 all_keys) (s : Settings
         ∙ same_kept (other s) (linked_after s links).b.history;
   }
 
-keys_utf8 : IsUtf8 all_keys
+pub keys_utf8 : IsUtf8 all_keys
 keys_utf8 =
     IsUtf8-from_ascii all_keys
     (IsAscii-cons 114 (codes "/**") (lit< tt) (IsAscii-cons 47 (codes "**") (lit< tt) (IsAscii-cons 42 (codes "*") (lit< tt) (IsAscii-cons 42 [] (lit< tt) IsAscii-nil))))

@@ -4,3 +4,4 @@ mod Own
 mod Owing
 mod Saying
 mod Dumps
+mod Stepping

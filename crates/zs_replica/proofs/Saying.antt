@@ -3,7 +3,7 @@ use Rattle.std.proofs.Common.{◌≡◌, ◌<◌, ℕ, ◌+◌, Bool, true, fals
 use Rattle.std.specs.Prelude.{◌==◌, not, codes, encode_utf8_all, option_map, if◌then◌else◌}
 use Rattle.std.specs.List.{AllByRecursion}
 use Rattle.std.specs.Option.{IfSome}
-use Rattle.std.specs.Str.{bytes_eq, chars, all_scalars, is_utf8, IsUtf8}
+use Rattle.std.specs.Str.{bytes_eq, chars, is_utf8, IsUtf8}
 use Rattle.std.proofs.lemmas.Bool.Decides.{nat_tests}
 use Rattle.std.proofs.lemmas.Str.{scalars-chars, encodes-chars, IsUtf8-from_is_utf8, IsUtf8-drop, IsCharBoundary-after_ascii}
 use Rattle.zs_keys.specs.Matching.{is_free, chunk_meets, includes, intersects}
@@ -13,6 +13,7 @@ use Rattle.zs_keys.proofs.IncludeMeets.{includes-meets}
 use Rattle.zs_keys.proofs.Symmetry.{meets_comm, chunk_meets_comm}
 use Rattle.zs_lines.specs.Lines.{fields}
 use Rattle.zs_wire.specs.declared.origin.Timestamp.{Timestamp}
+use Rattle.zs_sample.specs.declared.locality.Locality.TheVariants.{Any}
 use Rattle.zs_events.specs.declared.event.Event.{Event}
 use Rattle.zs_events.specs.declared.update.PushBody.{PushBody}
 use Rattle.zs_events.specs.declared.update.PushBody.TheVariants.{Put, Delete}
@@ -24,17 +25,29 @@ use Rattle.zs_driving.specs.Languages.{events_of}
 use Rattle.zs_laws.specs.Spelled.{IsSpelled}
 use Rattle.zs_delivery.specs.declared.side.LinkSide.{LinkSide}
 use Rattle.zs_delivery.specs.declared.side.LinkSide.TheVariants.{A, B}
-use Rattle.zs_replicas.specs.Replicas.{IsReplicaEvent}
+use Rattle.zs_delivery.specs.Linked.{LinkLine, Take}
+use Rattle.zs_replicas.specs.Replicas.{IsWrite, IsReplicaEvent}
+use Rattle.zs_replica_gets.specs.Steps.{Step, Writes, Asks, actor, event_of, line_of as step_line, IsReplicaStep}
 use Rattle.zs_replica_lines.specs.declared.line.ReplicaLine.{ReplicaLine}
 use Rattle.zs_replica_lines.specs.declared.line.ReplicaLine.TheVariants.{Take as take_line, Refuse, Dump}
 use Rattle.zs_replica_lines.specs.declared.line.ReplicaRefusal.{ReplicaRefusal}
 use Rattle.zs_replica_lines.specs.declared.line.ReplicaRefusal.TheVariants.{BadKeyExpr, WildKey, Outside}
-use Rattle.zs_replica_lines.specs.Lines.{all_keys, has_star, write_refusal, question_refusal, unless_refused, publication, question, write_line, put_of, delete_of, get_of, line_of}
+use Rattle.zs_replica_lines.specs.Lines.{all_keys, has_star, write_refusal, question_refusal, unless_refused, plain_quality, publication, question, write_line, put_of, delete_of, get_of, line_of}
+use Rattle.zs_replica.specs.Gets.{steps_by}
 use Rattle.zs_replica.specs.Language.{Said, To, Move, named_by, line_named, said_in, said_of, replica_language}
+
+-- an event that is a step of its side
+pub record IsStep (side : LinkSide) (e : Event) : Type 0 where
+  pub step : Step
+  pub alone : steps_by side e ≡ step ∷ []
+  pub acts : actor step ≡ side
+  pub takes : (s : Settings) (links : List LinkLine) → event_of s step links ≡ Some e
+  pub line : step_line step ≡ Take side e
+  pub replica : IsReplicaStep all_keys step
 
 -- what a line has its side take
 abbrev pub IsAsked : ReplicaLine → Type 0
-IsAsked (take_line e) = IsReplicaEvent all_keys e × IsSpelled e
+IsAsked (take_line e) = IsReplicaEvent all_keys e × IsSpelled e × ((side : LinkSide) → IsStep side e)
 IsAsked (Refuse refusal) = Unit {0}
 IsAsked Dump = Unit {0}
 
@@ -62,18 +75,31 @@ meets_all text inside =
     meets_comm is_double_star is_free chunk_meets chunk_meets_comm double_star-free (chunks text) (chunks all_keys)
     ∙ includes-meets all_keys text inside
 
+its_write : (text : List ℕ) (body : PushBody) (time : Timestamp) → IsUtf8 text → IsWritable text
+    → IsWrite all_keys Any (chars text) (record { body = body; timestamp = Some time; source = None; attachment = None })
+its_write text body time utf8 fine =
+    let spelled : encode_utf8_all (chars text) ≡ text = encodes-chars text utf8 in
+    record {
+      time = time;
+      anywhere = refl;
+      canonical = ap is_canonical spelled ∙ fine.canonical;
+      replicated = ap (λ (key : List ℕ). intersects key all_keys) spelled ∙ meets_all text fine.included;
+      timed = refl;
+    }
+
 asked_write : (text : List ℕ) (body : PushBody) (time : Timestamp) → IsUtf8 text → IsWritable text → IsAsked (take_line (publication text body time))
-asked_write text body time utf8 fine =
-    let spelled : encode_utf8_all (chars text) ≡ text = encodes-chars text utf8 in (
-      record {
-        time = time;
-        anywhere = refl;
-        canonical = ap is_canonical spelled ∙ fine.canonical;
-        replicated = ap (λ (key : List ℕ). intersects key all_keys) spelled ∙ meets_all text fine.included;
-        timed = refl;
-      },
-      scalars-chars text utf8,
-    )
+asked_write text body time utf8 fine = (
+  its_write text body time utf8 fine,
+  scalars-chars text utf8,
+  λ side. record {
+    step = Writes side (chars text) (record { body = body; timestamp = Some time; source = None; attachment = None }) plain_quality;
+    alone = refl;
+    acts = refl;
+    takes = λ s links. refl;
+    line = refl;
+    replica = (its_write text body time utf8 fine, scalars-chars text utf8);
+  },
+)
 
 asked_line : (text : List ℕ) (body : PushBody) (time : Timestamp) → IsUtf8 text → IsAsked (write_line text body time)
 asked_line text body time utf8 = go (write_refusal text) refl
@@ -86,7 +112,18 @@ asked_get : (text : List ℕ) → IsUtf8 text → IsAsked (get_of text)
 asked_get text utf8 = go (question_refusal text)
   where
     go : (o : Option ReplicaRefusal) → IsAsked (unless_refused o (question text))
-    go None = (tt, scalars-chars text utf8)
+    go None = (
+      tt,
+      scalars-chars text utf8,
+      λ side. record {
+        step = Asks side (chars text);
+        alone = refl;
+        acts = refl;
+        takes = λ s links. refl;
+        line = refl;
+        replica = scalars-chars text utf8;
+      },
+    )
     go (Some refusal) = tt
 
 asked_delete : (text : List ℕ) (time : Option Timestamp) → IsUtf8 text → IfSome (delete_of text time) IsAsked

@@ -4,3 +4,4 @@ pub mod Language
 pub mod Behind
 pub mod Running
 pub mod Laws
+pub mod Gets

@@ -8,8 +8,9 @@ ghost use Rattle.zs_replica.specs.Told.{first_links};
 ghost use Rattle.zs_replica.specs.Language.{replica_task, Goes};
 ghost use Rattle.zs_replica.specs.Running.{bad_words, Runs};
 ghost use Rattle.zs_replica.specs.Laws.{RunsShowBest};
+ghost use Rattle.zs_replica.specs.Gets.{RunsShowGets};
 
-use crate::laws::runs_show_best;
+use crate::laws::{runs_show_best, runs_show_gets};
 use crate::sides::Sides;
 use std::alloc::Global;
 use zs_core::Settings;
@@ -22,7 +23,9 @@ use zs_keys::{Sink, Source};
 /// and the gets have go to the sink. Both sessions have the default settings but for the identifier and the tag of the second.
 ///
 /// Whatever lines were read, what `dump` shows of a side is at each key the greatest entry of what the side wrote and of what was
-/// delivered to it of the other's writes, and no other key; where no push waits, both sides show the same.
+/// delivered to it of the other's writes, and no other key; where no push waits, both sides show the same. A get prints replies
+/// in the line alone that delivers its final, and ends there: at each key that meets its own one reply, with the latest timestamp
+/// of what its side had when it asked and of what the other one had when it took the request.
 ///
 /// The status is 0 at the end of input. 2 says that there are words; then nothing is read or written. 3 says that a line is
 /// none of the program's, 4 that a line is too long, 5 that there were too many reads, 6 that the source failed, 7 that the
@@ -47,8 +50,10 @@ pub fn replica_run<S: Source, K: Sink, C: Sink>(
         (record { written = C.written complaints.new; faults = C.faults complaints.new }) }
     ensures quiet { result ≡ 0 → complaints.new ≡ complaints.old }
     ensures dumps { RunsShowBest }
+    ensures gets { RunsShowGets }
 {
     runs_show_best();
+    runs_show_gets();
     if words.is_empty() {
         return run_default(alloc, source, sink, complaints);
     }
