@@ -86,9 +86,9 @@ pub fn decide_close(world: &SessionTables) -> Result<Decision, AllocError>
     let asking = world.liveliness.gets().numbers(world.alloc)?;
     let mut effects = Effects::new(world.alloc);
     push_send(world.alloc, &mut effects, Message::Close)?;
-    push_queryable_ends(&mut effects, world.queryables.rows())?;
-    push_ends(&mut effects, world.tables.rows())?;
-    push_lsub_ends(&mut effects, world.liveliness.subs().rows())?;
+    push_queryable_ends(&mut effects, &world.queryables)?;
+    push_ends(&mut effects, &world.tables)?;
+    push_lsub_ends(&mut effects, world.liveliness.subs())?;
     push_get_ends(&gets, &mut effects)?;
     push_asking_ends(&asking, &mut effects)?;
     Ok(Decision::of(effects, Change::Shut))

@@ -1,17 +1,14 @@
 -- No event hands a subscriber anything but samples of what it publishes: nothing else that it brings about is one.
 use Rattle.std.proofs.Common.{◌≡◌, ℕ, Bool, true, false, List, [], ◌∷◌, ◌++◌, Option, Some, None, refl, sym, ap, ◌∙◌}
-use Rattle.std.specs.Prelude.{◌==◌, ◌&&◌, not, map, filter, is_some, nat_le, option_map, if◌then◌else◌}
+use Rattle.std.specs.Prelude.{◌==◌, ◌&&◌, not, map, filter, is_some, if◌then◌else◌}
 use Rattle.std.specs.List.{flat_map, find}
 use Rattle.std.proofs.lemmas.List.{append_assoc}
-use Rattle.zs_wire.specs.declared.message.Message.{Message}
-use Rattle.zs_wire.specs.declared.message.Message.TheVariants.{Request as request_message, ResponseFinal, DeclareKeyExpr, UndeclareKeyExpr}
-use Rattle.zs_wire.specs.declared.interest.InterestMode.TheVariants.{Current}
+use Rattle.zs_wire.specs.declared.message.Message.TheVariants.{Request as request_message, ResponseFinal}
 use Rattle.zs_wire.specs.declared.response.Answered.{Answered}
 use Rattle.zs_wire.specs.declared.response.Answered.TheVariants.{Reply, Err as Error}
 use Rattle.zs_wire.specs.declared.response.Response.{Response}
 use Rattle.zs_wire.specs.declared.sample_kind.SampleKind.{SampleKind}
 use Rattle.zs_wire.specs.declared.sample_kind.SampleKind.TheVariants.{Put as put_kind, Delete as delete_kind}
-use Rattle.zs_wire.specs.declared.wire_expr.WireExpr.{WireExpr}
 use Rattle.zs_sample.specs.Reply.{Replied}
 use Rattle.zs_sample.specs.declared.sample_fields.SampleFields.{SampleFields}
 use Rattle.zs_query.specs.Gets.{get_at, peek_at, final_outcome, ends_at, timeout_error}
@@ -20,9 +17,7 @@ use Rattle.zs_query.specs.declared.outcome.Outcome.{Outcome}
 use Rattle.zs_query.specs.declared.outcome.Outcome.TheVariants as outcome
 use Rattle.zs_query.specs.declared.outcome.Peek.{Peek}
 use Rattle.zs_query.specs.declared.outcome.Peek.TheVariants as peek
-use Rattle.zs_query.specs.declared.query_value.QueryValue.{QueryValue}
-use Rattle.zs_query.specs.declared.requests.Finished.{Finished}
-use Rattle.zs_query.specs.declared.requests.Finished.TheVariants.{Unknown, MoreLeft, Last}
+use Rattle.zs_query.specs.Types.{QueryValue, Finished, Unknown, MoreLeft, Last}
 use Rattle.zs_query.specs.declared.side.Side.TheVariants.{Network, Local}
 use Rattle.zs_query.specs.Asked.{QuerierEnds, CancelledBy}
 use Rattle.zs_query.specs.Unfinished.{value_at, finished}
@@ -30,22 +25,17 @@ use Rattle.zs_tables.specs.MatchingLaws.{differ}
 use Rattle.zs_tables.specs.Recipients.{has_network}
 use Rattle.zs_tables.specs.LivelinessGets.{is_asking, over_at, numbers_with}
 use Rattle.zs_tables.specs.Liveliness.{met_keys, hearers}
-use Rattle.zs_tables.specs.declared.liveliness_get.LivelinessGet.{LivelinessGet as a_liveliness_get}
+use Rattle.zs_tables.specs.Types.{LivelinessGet as a_liveliness_get, LivelinessSub, ToldToken}
 use Rattle.zs_tables.specs.declared.listener.ListenerRow.{ListenerRow}
-use Rattle.zs_tables.specs.declared.liveliness_sub.LivelinessSub.{LivelinessSub}
 use Rattle.zs_tables.specs.declared.queryable.QueryableRow.{QueryableRow}
 use Rattle.zs_tables.specs.declared.subscriber.SubRow.{SubRow}
-use Rattle.zs_tables.specs.declared.told_token.ToldToken.{ToldToken}
-use Rattle.zs_tables.specs.declared.group_kind.GroupKind.TheVariants.{Subscribers, Publishers, Queriers}
 use Rattle.zs_events.specs.declared.event.Event.{Event}
-use Rattle.zs_events.specs.declared.event.Event.TheVariants.{Key, UndeclareKey, Sub, Pub, Queryable, Querier, Undeclare, Close, Token, Lsub, LivelinessGet}
-use Rattle.zs_events.specs.declared.entity_kind.EntityKind.TheVariants.{Sub as sub_kind, Pub as pub_kind, Queryable as queryable_sort, Querier as querier_sort, Token as token_sort, Lsub as lsub_sort}
-use Rattle.zs_events.specs.declared.key_arg.KeyArg.{KeyArg}
-use Rattle.zs_events.specs.declared.key_arg.KeyArg.TheVariants.{Text, Number, Declared as declared_text}
+use Rattle.zs_events.specs.declared.event.Event.TheVariants.{Undeclare, Close}
+use Rattle.zs_events.specs.declared.entity_kind.EntityKind.TheVariants.{Sub as sub_kind, Queryable as queryable_sort, Lsub as lsub_sort}
 use Rattle.zs_events.specs.declared.turn.Effect.{Effect}
 use Rattle.zs_events.specs.declared.turn.Effect.TheVariants.{Matching, Send, End}
 use Rattle.zs_events.specs.declared.turn.Kind.TheVariants.{Subscriber, Queryable as queryable_kind, LivelinessSubscriber, Listener}
-use Rattle.zs_events.specs.Kinds.{NamedKey, Publishes, NoContent, OwnContent, ByPublisher, ToGets, NoGet, Asks, AsksBy, Answers, EndsSide, Reaches, EndsQuerier, Cancels, EndsAll, ToValues, NoValue, Requested, AnswersBy, AnswersError, SharesValue, GivesBack, ToLiveliness, NoToken, Subscribes, AsksTokens, TellsToken, EndsToken, EndsAnswers, row_of}
+use Rattle.zs_events.specs.Kinds.{NamedKey, Publishes, ToGets, NoGet, Asks, AsksBy, Answers, EndsSide, Reaches, EndsQuerier, Cancels, EndsAll, ToValues, NoValue, Requested, AnswersBy, AnswersError, SharesValue, GivesBack, ToLiveliness, NoToken, Subscribes, AsksTokens, TellsToken, EndsToken, EndsAnswers, row_of}
 use Rattle.zs_model.specs.declared.publisher.PubRow.{PubRow}
 use Rattle.zs_model.specs.Entry.{Entry}
 use Rattle.zs_model.specs.Gets.{sample_reply}
@@ -53,19 +43,17 @@ use Rattle.zs_model.specs.Listeners.{is_listener, listener_ends}
 use Rattle.zs_model.specs.Live.{live_listeners}
 use Rattle.zs_model.specs.Matching.{is_matched, turned, listener_effects}
 use Rattle.zs_model.specs.Answers.{local_reply, local_error}
-use Rattle.zs_model.specs.Publishers.{pub_at, resolved}
-use Rattle.zs_model.specs.Subscribers.{sub_at, sub_ends}
-use Rattle.zs_model.specs.Queryables.{queryable_at, queryable_ends}
-use Rattle.zs_model.specs.Queriers.{querier_at}
+use Rattle.zs_model.specs.Subscribers.{sub_ends}
+use Rattle.zs_model.specs.Queryables.{queryable_ends}
 use Rattle.zs_model.specs.Questions.{request_of}
-use Rattle.zs_model.specs.Groups.{Company, Shared, sub_shared, pub_shared, querier_shared, last_number, sends_if, last_sends, leaving, subscriber_end, interest_end, querier_end}
-use Rattle.zs_model.specs.Sends.{OwnKeys, full_wire, wire_form, declaration_of, key_sends, return_sends, is_sent, push_with, publication_sends, sends_of}
+use Rattle.zs_model.specs.Sends.{OwnKeys, wire_form, declaration_of, publication_sends, sends_of}
 use Rattle.zs_model.specs.Tokens.{answers, is_told}
 use Rattle.zs_model.specs.LivelinessEffects.{Watch, hand_token, hand_told, hand_answer, end_asking, cancelled_ends, asking_ends, lsub_ends, token_hands, history_hands, told_hands, answer_hands, ended_text, watch_effects}
 use Rattle.zs_model.specs.GetEffects.{hand_reply, hand_query, end_get, last_hands, request_sends, ends_effects, reply_effects, response_effects, final_effects, ended_numbers, cut_effects, told_effects, request_effects, with_gets}
 use Rattle.zs_model.specs.ValueEffects.{Answering, error_effects, replied_effects, reply_for_value, answer_effects, answer_error_effects, finish_effects, value_effects, with_values}
-use Rattle.zs_model.specs.Effects.{Known, to_gets_for, draws_of, answering, queryable_leaves, declared_sends, token_declaration, token_interest, lsub_mode, entity_sends, hands_of, ends_of, effects_on}
+use Rattle.zs_model.specs.Effects.{Known, to_gets_for, draws_of, answering, entity_sends, hands_of, ends_of, effects_on}
 use Rattle.zs_arrivals.specs.Samples.{sample_in, samples_to}
+use Rattle.zs_laws.proofs.Sends.{entity_cases, publication_cases, sends_cases}
 
 -- effects that hand no subscriber a sample
 abbrev pub IsMute : List Effect → Type 0
@@ -95,84 +83,19 @@ mute_if : (b : Bool) (xs ys : List Effect) → IsMute xs → IsMute ys → IsMut
 mute_if true xs ys x y = x
 mute_if false xs ys x y = y
 
--- one message is silent, and one if it is sent
-mute_sends_if : (b : Bool) (message : Message) → IsMute (sends_if b message)
-mute_sends_if true message id = refl
-mute_sends_if false message id = refl
-
 -- what is sent of keys and publications
-mute_key : (k : OwnKeys) (number : Option ℕ) (text : Option (List ℕ)) → IsMute (key_sends k number text)
-mute_key k number None = mute_none
-mute_key k None (Some text) = mute_none
-mute_key k (Some number) (Some text) = mute_if (is_some (k.number_of text)) [] (Send (DeclareKeyExpr number (full_wire text)) ∷ []) mute_none (λ id. refl)
-
-mute_return : (k : OwnKeys) (number : ℕ) → IsMute (return_sends k number)
-mute_return k number = mute_if (nat_le (k.count_of number) 1) (Send (UndeclareKeyExpr number) ∷ []) [] (λ id. refl) mute_none
-
-mute_push : (k : OwnKeys) (key : NamedKey) (text : Option (List ℕ)) (p : Publishes) → IsMute (publication_sends k key text p)
-mute_push k key text NoContent = mute_none
-mute_push k key None (OwnContent c) = mute_none
-mute_push k key None (ByPublisher id c) = mute_none
-mute_push k key (Some text) (ByPublisher id c) = mute_none
-mute_push k key (Some text) (OwnContent c) = mute_if (is_sent c) (Send (push_with (wire_form k text (declaration_of k text key)) c) ∷ []) [] (λ id. refl) mute_none
-
 mute_sent : (k : OwnKeys) (pubs : List PubRow) (number : Option ℕ) (text : Option (List ℕ)) (e : Event) → IsMute (sends_of k pubs number text e)
-mute_sent k pubs number text (Key key) = mute_key k number text
-mute_sent k pubs number text (UndeclareKey (Text whole)) = mute_none
-mute_sent k pubs number text (UndeclareKey (Number n suffix)) = mute_return k n
-mute_sent k pubs number text (UndeclareKey (declared_text whole n prefix_len)) = mute_return k n
-mute_sent k pubs number text Close = λ id. refl
-mute_sent k pubs number text e = mute_push k (row_of e).key text (resolved pubs (row_of e).publishes)
+mute_sent k pubs number text e = sends_cases IsMute mute_none k pubs number text e (λ n t drew named id. refl) (λ n id. refl) (λ id. refl) (λ t c named is sent id. refl)
 
 -- what is sent of entities
-mute_leaving : (c : Company) (end : ℕ → Message) (x : Option Shared) → IsMute (leaving c end x)
-mute_leaving c end None = mute_none
-mute_leaving c end (Some x) = go (last_number c x)
-  where
-    go : (o : Option ℕ) → IsMute (last_sends end o)
-    go None = mute_none
-    go (Some n) = λ id. refl
-
-mute_queryable_end : (o : Option QueryableRow) → IsMute (queryable_leaves o)
-mute_queryable_end None = mute_none
-mute_queryable_end (Some row) = mute_sends_if _ _
-
-mute_declared : (message : ℕ → WireExpr → Message) (k : OwnKeys) (number : Option ℕ) (text : Option (List ℕ)) (key : KeyArg) → IsMute (declared_sends message k number text key)
-mute_declared message k (Some id) (Some text) key = λ other. refl
-mute_declared message k (Some id) None key = mute_none
-mute_declared message k None text key = mute_none
-
 mute_entity : (known : Known) (number : Option ℕ) (text : Option (List ℕ)) (e : Event) → IsMute (entity_sends known e number text)
-mute_entity known (Some id) (Some text) (Sub origin key to) = mute_sends_if _ _
-mute_entity known (Some id) None (Sub origin key to) = mute_none
-mute_entity known None text (Sub origin key to) = mute_none
-mute_entity known (Some id) (Some text) (Pub key settings) = mute_sends_if _ _
-mute_entity known (Some id) None (Pub key settings) = mute_none
-mute_entity known None text (Pub key settings) = mute_none
-mute_entity known (Some id) (Some text) (Queryable origin complete key) = mute_sends_if _ _
-mute_entity known (Some id) None (Queryable origin complete key) = mute_none
-mute_entity known None text (Queryable origin complete key) = mute_none
-mute_entity known (Some id) (Some text) (Querier key settings) = mute_sends_if _ _
-mute_entity known (Some id) None (Querier key settings) = mute_none
-mute_entity known None text (Querier key settings) = mute_none
-mute_entity known number text (Undeclare querier_sort id) = mute_leaving (known.company Queriers) querier_end (option_map querier_shared (querier_at id known.queriers))
-mute_entity known number text (Undeclare sub_kind id) = mute_leaving (known.company Subscribers) subscriber_end (option_map sub_shared (sub_at id known.subs))
-mute_entity known number text (Undeclare pub_kind id) = mute_leaving (known.company Publishers) interest_end (option_map pub_shared (pub_at id known.pubs))
-mute_entity known number text (Undeclare queryable_sort id) = mute_queryable_end (queryable_at id known.queryables)
-mute_entity known number text (Undeclare token_sort id) = λ other. refl
-mute_entity known number text (Undeclare lsub_sort id) = λ other. refl
-mute_entity known number text (Token key) = mute_declared token_declaration known.keys number text key
-mute_entity known number text (Lsub history key) = mute_declared (token_interest (lsub_mode history)) known.keys number text key
-mute_entity known number text (LivelinessGet key timeout token to) = mute_declared (token_interest Current) known.keys number text key
-mute_entity known number text (Key key) = mute_none
-mute_entity known number text e = mute_none
+mute_entity known number text e = entity_cases IsMute mute_none known e number text (λ what id t key is named other. refl) (λ what id is other. refl)
 
 -- what ends
 mute_ends : (queryables : List QueryableRow) (rows : List SubRow) (lsubs : List LivelinessSub) (e : Event) → IsMute (ends_of queryables rows lsubs e)
 mute_ends queryables rows lsubs (Undeclare sub_kind id) = λ other. refl
 mute_ends queryables rows lsubs (Undeclare queryable_sort id) = λ other. refl
 mute_ends queryables rows lsubs (Undeclare lsub_sort id) = λ other. refl
-mute_ends queryables rows lsubs (Undeclare sort id) = mute_none
 mute_ends queryables rows lsubs Close =
     mute_append (queryable_ends queryables ++ sub_ends rows) (lsub_ends lsubs)
     (mute_append (queryable_ends queryables) (sub_ends rows)
@@ -367,7 +290,7 @@ mute_others known number text e nothing =
 
 -- what a publication sends hands nothing over
 pub mute_publication : (k : OwnKeys) (key : NamedKey) (text : Option (List ℕ)) (p : Publishes) → IsMute (publication_sends k key text p)
-mute_publication k key text p = mute_push k key text p
+mute_publication k key text p = publication_cases IsMute mute_none k key text p (λ t c named is sent id. refl)
 
 -- nor does what listeners hear
 mute_turned : (before after : ListenerRow → Bool) (rows : List ListenerRow) → IsMute (turned before after rows)

@@ -35,10 +35,17 @@ impl From<AllocError> for TextError {
 /// Bytes in slices that are shared and never copied: a clone, and what is appended to a writer, use the same memory.
 ///
 /// Contracts see the list of the slices. What a payload means is only their bytes, one slice behind the other.
-#[derive(Debug, Drop)]
+#[derive(Debug)]
 pub struct ZBytes {
     slices: Slices,
     len: usize,
+}
+
+impl Drop for ZBytes {
+    fn drop(self) {
+        let ZBytes { slices, len: _ } = self;
+        drop(slices);
+    }
 }
 
 impl Model for ZBytes {
@@ -201,7 +208,8 @@ impl ZBytes {
         requires { vec_len list.old + length self ≤ vec_capacity list.old }
         ensures { list.new.items ≡ list.old.items ++ self }
     {
-        match self.slices {
+        let ZBytes { slices, len: _ } = self;
+        match slices {
             Slices::Nothing => (),
             Slices::One(slice) => list.push_reserved(slice),
             Slices::Many(mut slices) => {

@@ -35,9 +35,15 @@ impl Held {
 }
 
 /// A text that is never changed. Its copies share its memory. Contracts see it as the list of its characters.
-#[derive(Drop)]
 pub struct Text {
     held: Held,
+}
+
+impl Drop for Text {
+    fn drop(self) {
+        let Text { held } = self;
+        drop(held);
+    }
 }
 
 impl Model for Text {

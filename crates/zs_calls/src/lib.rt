@@ -10,7 +10,7 @@ pub use publication::{
     PublisherDeleteBuilder, PublisherPutBuilder, SessionDeleteBuilder, SessionPutBuilder,
 };
 pub use querier_get::QuerierGetBuilder;
-pub use query_calls::{QueryCalls, QueryValues};
+pub use query_calls::{QueryCalls, QuerySamples, QueryValues};
 pub use reply::{ReplyBuilder, ReplyBuilderDelete, ReplyBuilderPut};
 pub use reply_err::ReplyErrBuilder;
 pub use reply_sample::ReplySample;

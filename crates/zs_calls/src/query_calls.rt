@@ -43,7 +43,10 @@ pub trait QueryCalls {
         session: &'a Session<H, B>,
         payload: ZBytes,
     ) -> ReplyErrBuilder<'a, H, B>;
+}
 
+/// How a query is answered by a sample that is there already.
+pub trait QuerySamples {
     /// An answer: a sample, with all that it says itself.
     fn reply_sample<'a, H, B: Books>(
         &'a self,
@@ -111,7 +114,9 @@ impl QueryCalls for Query {
     {
         ReplyErrBuilder::of(self, session, payload)
     }
+}
 
+impl QuerySamples for Query {
     fn reply_sample<'a, H, B: Books>(
         &'a self,
         session: &'a Session<H, B>,

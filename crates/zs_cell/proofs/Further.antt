@@ -1,5 +1,5 @@
 -- Queries that come back and are given back.
-use Rattle.std.proofs.Common.{◌≡◌, ◌∙◌, ℕ, ◌+◌, Bool, List, [], ◌∷◌, ◌++◌, length, Option, Some, true, false, ap, subst, refl, arith}
+use Rattle.std.proofs.Common.{◌≡◌, ◌∙◌, ℕ, ◌+◌, Bool, List, [], ◌∷◌, ◌++◌, length, Option, Some, true, false, ap, sym, subst, refl, arith}
 use Rattle.std.specs.Prelude.{Result, IfOk, IfErr, Ok as Done, Err as Failed}
 use Rattle.zs_events.specs.declared.event.Event.{Event}
 use Rattle.zs_events.specs.declared.event.Event.TheVariants.{Finish}
@@ -11,12 +11,14 @@ use Rattle.zs_hands.specs.declared.handed.RanCall.{RanCall}
 use Rattle.zs_hands.specs.Answers.{AreKept, IsKept, reports_of}
 use Rattle.zs_turns.specs.declared.item.Item.{Item}
 use Rattle.zs_turns.specs.Queries.{QuerySeen}
+use Rattle.zs_posts.specs.declared.key.Key.{Key}
 use Rattle.zs_books.specs.Callers.{CallerSeen}
+use Rattle.zs_held.specs.declared.asked.Asked.{Asked}
 use Rattle.zs_held.specs.Held.{receipt_of}
 use Rattle.zs_held.specs.Receipts.{ReceiptSeen}
 use Rattle.zs_cell.specs.declared.error.SessionError.{SessionError}
 use Rattle.zs_cell.specs.Further.{Adds, AddsFinishes, AddsSome, asks_queryables}
-use Rattle.zs_cell.specs.Steps.{Accepts, IsRefusal, Steps, Stops, Takes}
+use Rattle.zs_cell.specs.Steps.{AcceptsFor, IsRefusal, Steps, Stops, Takes, asked_for}
 use Rattle.zs_cell.specs.Works.{returned, returned_in}
 use Rattle.zs_cell.proofs.Stepping.{stops}
 
@@ -45,8 +47,8 @@ pub keeps_last : {old new : CallerSeen ReceiptSeen} → AddsSome old new → new
 keeps_last {old} {new} some = all_keep some.values old new some.finishes
 
 -- the event that was taken first, and the queries that were given back behind it
-pub steps_of : {old mid new : CallerSeen ReceiptSeen} {event : Event} {came : Bool} {answer : Answer} (evicts asks : Bool) → asks ≡ asks_queryables event
-    → Takes old event came answer mid → AddsSome mid new → (evicts ≡ false → asks ≡ false → new ≡ mid) → Steps evicts old event came answer new
+pub steps_of : {old mid new : CallerSeen ReceiptSeen} {event : Event} {came : Bool} {answer : Answer} {asked : Option Asked} (evicts asks : Bool) → asks ≡ asks_queryables event
+    → Takes old event came answer asked mid → AddsSome mid new → (evicts ≡ false → asks ≡ false → new ≡ mid) → Steps evicts old event came answer asked new
 steps_of {mid} false false is takes some kept = record { taken = mid; takes = takes; values = []; none_come_back = λ _ _. refl; finishes = kept refl refl }
 steps_of {mid} true asks is takes some kept =
     record { taken = mid; takes = takes; values = some.values; none_come_back = λ no _. let wrong : true ≡ false = no in cc; finishes = some.finishes }
@@ -54,16 +56,19 @@ steps_of {mid} false true is takes some kept =
     record { taken = mid; takes = takes; values = some.values; none_come_back = λ _ no. let wrong : true ≡ false = is ∙ no in cc; finishes = some.finishes }
 
 -- an accepted event, by its answer
-pub accepts : {A E : Type 0} {old new : CallerSeen ReceiptSeen} {event : Event} {came evicts : Bool} (answer : Answer) (result : Result A E) (number : A → Option ℕ)
-    → IfOk result (λ s. answer ≡ accepted (number s)) → Steps evicts old event came answer new → IfOk result (λ s. Accepts evicts old new event came (number s))
-accepts {A} {E} {old} {new} {event} {came} {evicts} answer (Done s) number is by = subst (λ (a : Answer). Steps evicts old event came a new) is by
-accepts answer (Failed e) number is by = tt
+pub accepts : {A E : Type 0} {old new : CallerSeen ReceiptSeen} {event : Event} {came evicts : Bool} (answer : Answer) (key : Option Key) (waits : Bool) (result : Result A E) (number : A → Option ℕ) (held : A → Bool)
+    → IfOk result (λ s. answer ≡ accepted (number s)) → IfOk result (λ s. held s ≡ waits) → Steps evicts old event came answer (asked_for answer key waits) new
+    → IfOk result (λ s. AcceptsFor evicts old new event came (number s) key (held s))
+accepts {A} {E} {old} {new} {event} {came} {evicts} answer key waits (Done s) number held is same by =
+    subst (λ (b : Bool). AcceptsFor evicts old new event came (number s) key b) (sym same)
+    (subst (λ (a : Answer). Steps evicts old event came a (asked_for a key waits) new) is by)
+accepts answer key waits (Failed e) number held is same by = tt
 
 -- a refused one
-pub refuses : {A E : Type 0} {old new : CallerSeen ReceiptSeen} {event : Event} {came evicts : Bool} (answer : Answer) (result : Result A E) (why : E → SessionError)
-    → IfErr result (λ e. IsRefusal answer (why e)) → Steps evicts old event came answer new → IfErr result (λ e. Stops evicts old new event came (why e))
-refuses answer (Done s) why is by = tt
-refuses answer (Failed e) why is by = stops answer (why e) by is
+pub refuses : {A E : Type 0} {old new : CallerSeen ReceiptSeen} {event : Event} {came evicts : Bool} (answer : Answer) (key : Option Key) (waits : Bool) (result : Result A E) (why : E → SessionError)
+    → IfErr result (λ e. IsRefusal answer (why e)) → Steps evicts old event came answer (asked_for answer key waits) new → IfErr result (λ e. Stops evicts old new event came (why e))
+refuses answer key waits (Done s) why is by = tt
+refuses answer key waits (Failed e) why is by = stops answer key waits (why e) by is
 
 -- no query comes back in the report of a handler that keeps what it is given, where no call that was left out had one
 none_in : {D : Type 0} (tag : ℕ) (report : Handed Item D) → IsKept report → returned_in tag false report ≡ []
@@ -81,9 +86,8 @@ none_come tag asks reports told same so none =
     ap (λ (rs : List (Handed Item _)). returned tag asks rs) same ∙ (ap (λ (b : Bool). returned tag b told) so ∙ none)
 
 -- the last receipt of a caller is that of the event that its call names
-pub last_is : {old new : CallerSeen ReceiptSeen} {event : Event} {came evicts : Bool} {answer : Answer} (steps : Steps evicts old event came answer new)
-    → let took = steps.takes.took in
-    new.last ≡ Some (record (receipt_of event came steps.takes.turn took.entries old.count) { asked = took.asked })
+pub last_is : {old new : CallerSeen ReceiptSeen} {event : Event} {came evicts : Bool} {answer : Answer} {asked : Option Asked} (steps : Steps evicts old event came answer asked new)
+    → new.last ≡ Some (record (receipt_of event came steps.takes.turn (length steps.takes.took.before) old.count) { asked = asked })
 last_is {old} {new} steps = all_keep steps.values steps.taken new steps.finishes ∙ ap (λ (c : CallerSeen ReceiptSeen). c.last) steps.takes.took.caller_is
 
 -- it counts one event more for each query that was given back
@@ -91,7 +95,7 @@ all_count : (values : List ℕ) (old new : CallerSeen ReceiptSeen) → AddsFinis
 all_count [] old new same = omega (arith, ap (λ (c : CallerSeen ReceiptSeen). c.count) same)
 all_count (v ∷ vs) old new (mid, (adds, rest)) = omega (arith, all_count vs mid new rest, ap (λ (c : CallerSeen ReceiptSeen). c.count) adds.caller_is)
 
-pub count_is : {old new : CallerSeen ReceiptSeen} {event : Event} {came evicts : Bool} {answer : Answer} (steps : Steps evicts old event came answer new)
+pub count_is : {old new : CallerSeen ReceiptSeen} {event : Event} {came evicts : Bool} {answer : Answer} {asked : Option Asked} (steps : Steps evicts old event came answer asked new)
     → new.count ≡ old.count + 1 + length steps.values
 count_is {old} {new} steps = omega (arith, all_count steps.values steps.taken new steps.finishes, ap (λ (c : CallerSeen ReceiptSeen). c.count) steps.takes.took.caller_is)
 

@@ -1,13 +1,14 @@
 -- What a step makes of a caller.
-use Rattle.std.proofs.Common.{◌≡◌, ◌∙◌, ℕ, Bool, List, Option, Some, None, is_some, true, false, not, ap, sym, subst, refl}
-use Rattle.std.specs.Prelude.{option_and_then, Result, IfOk, Ok as Done, Err as Failed}
+use Rattle.std.proofs.Common.{◌≡◌, ◌∙◌, ℕ, ◌+◌, Bool, List, [], ◌∷◌, length, Option, Some, None, is_some, true, false, not, cond, ap, sym, subst, refl, arith}
 use Rattle.zs_events.specs.declared.event.Event.{Event}
 use Rattle.zs_events.specs.declared.turn.Answer.{Answer}
 use Rattle.zs_events.specs.declared.turn.Answer.TheVariants.{Ok as accepted, Refused as refused}
 use Rattle.zs_events.specs.declared.turn.Turn.{Turn}
 use Rattle.zs_events.specs.Turn.{was_refused}
 use Rattle.zs_core.specs.Types.{Settings}
+use Rattle.zs_session_cell.specs.declared.entry.Entry.{Entry}
 use Rattle.zs_session_cell.specs.Core.{turn_at}
+use Rattle.zs_session_cell.specs.Journals.{history}
 use Rattle.zs_posts.specs.declared.key.Key.{Key}
 use Rattle.zs_books.specs.Callers.{CallerSeen}
 use Rattle.zs_held.specs.declared.asked.Asked.{Asked}
@@ -16,46 +17,54 @@ use Rattle.zs_held.specs.Numbers.{NumbersAreTold}
 use Rattle.zs_held.specs.Receipts.{ReceiptSeen, asked_of}
 use Rattle.zs_cell.specs.declared.error.SessionError.{SessionError}
 use Rattle.zs_cell.specs.declared.error.SessionError.TheVariants.{Refused, OtherSession, NoMemory}
-use Rattle.zs_cell.specs.Steps.{Took, Takes, Steps, Stops, IsNumbered, IsRefusal}
+use Rattle.zs_cell.specs.Steps.{Took, Takes, Steps, Stops, IsNumbered, IsRefusal, asked_for}
 use Rattle.zs_cell.specs.Works.{asked_at, back_at}
 
+-- a journal has as many events as entries
+history_longer : (before : List Event) (journal : List Entry) → length (history before journal) ≡ length journal + length before
+history_longer before [] = omega arith
+history_longer before (entry ∷ journal) = omega (arith, history_longer (entry.event ∷ before) journal)
+
+pub history_long : (journal : List Entry) → length journal ≡ length (history [] journal)
+history_long journal = omega (arith, history_longer [] journal)
+
 -- the receipt of an event that was taken is the caller's last
-pub took : {old mid new : CallerSeen ReceiptSeen} {event : Event} {came : Bool} {turn : Turn} (entries : ℕ) (asked : Option Asked) {receipt : ReceiptSeen}
-    → receipt ≡ receipt_of event came turn entries old.count → mid ≡ entered turn old → new ≡ record mid { last = Some (record receipt { asked = asked }) }
-    → Took old event came turn new
-took {old} {mid} {new} {event} {came} {turn} entries asked {receipt} is counted kept = record {
-  entries = entries;
-  asked = asked;
+took : {old mid new : CallerSeen ReceiptSeen} {event : Event} {came : Bool} {turn : Turn} (s : Settings) (journal : List Entry) (asked : Option Asked) {receipt : ReceiptSeen}
+    → turn ≡ turn_at s (history [] journal) event → receipt ≡ receipt_of event came turn (length journal) old.count → mid ≡ entered turn old
+    → new ≡ record mid { last = Some (record receipt { asked = asked }) } → Took old event came turn asked new
+took {old} {mid} {new} {event} {came} {turn} s journal asked {receipt} turn_is is counted kept = record {
+  settings = s;
+  before = history [] journal;
+  turn_is = turn_is;
   caller_is =
       kept
       ∙ (ap (λ (m : CallerSeen ReceiptSeen). record m { last = Some (record receipt { asked = asked }) }) counted
-      ∙ ap (λ (r : ReceiptSeen). record (entered turn old) { last = Some (record r { asked = asked }) }) is);
+      ∙ ap (λ (r : ReceiptSeen). record (entered turn old) { last = Some (record r { asked = asked }) })
+      (is ∙ ap (λ (n : ℕ). receipt_of event came turn n old.count) (history_long journal)));
 }
 
--- by the answer of its turn
-pub takes : {old mid new : CallerSeen ReceiptSeen} {event : Event} {came : Bool} {turn : Turn} {answer : Answer} (entries : ℕ) (asked : Option Asked) {receipt : ReceiptSeen}
-    → receipt ≡ receipt_of event came turn entries old.count → mid ≡ entered turn old → new ≡ record mid { last = Some (record receipt { asked = asked }) }
-    → answer ≡ turn.answer → Takes old event came answer new
-takes {turn} entries asked is counted kept same = record { turn = turn; answer_is = sym same; took = took entries asked is counted kept }
-
--- the receipt of an event that was accepted says which gate was asked for with it
-pub asks : (last : Option ReceiptSeen) (receipt : ReceiptSeen) (key : Option Key) (held was : Bool)
-    → last ≡ Some (record receipt { asked = asked_at (not was) key held receipt.asked }) → receipt.asked ≡ None → was ≡ false
-    → option_and_then (λ r. r.asked) last ≡ asked_of key held
-asks last receipt key held was is nothing so =
-    ap (λ (o : Option ReceiptSeen). option_and_then (λ r. r.asked) o) is
-    ∙ (ap (λ (o : Option Asked). asked_at (not was) key held o) nothing ∙ (ap (λ (b : Bool). asked_at (not b) key held None) so ∙ by key))
+-- it says of the gate of a key what the session was asked for by the answer
+asked_is : (answer : Answer) (key : Option Key) (held : Bool) (before : Option Asked) → before ≡ None → asked_at (not (was_refused answer)) key held before ≡ asked_for answer key held
+asked_is answer key held before nothing = ap (λ (o : Option Asked). asked_at (not (was_refused answer)) key held o) nothing ∙ go (was_refused answer) key
   where
-    by : (k : Option Key) → asked_at true k held None ≡ asked_of k held
-    by None = refl
-    by (Some k) = refl
+    go : (b : Bool) (k : Option Key) → asked_at (not b) k held None ≡ cond b None (asked_of k held)
+    go true None = refl
+    go true (Some k) = refl
+    go false None = refl
+    go false (Some k) = refl
 
--- what is so by a fact of the work of an accepted event is so by that fact of its answer
-pub answered : {A E X : Type 0} (x : X) (f : Bool → X) (waits : Bool) (answer : Answer) (result : Result A E) (number : A → Option ℕ) (held : A → Bool)
-    → IfOk result (λ s. answer ≡ accepted (number s)) → IfOk result (λ s. held s ≡ waits) → (was_refused answer ≡ false → x ≡ f waits)
-    → IfOk result (λ s. x ≡ f (held s))
-answered x f waits answer (Done s) number held is same told = told (ap was_refused is) ∙ ap f (sym same)
-answered x f waits answer (Failed e) number held is same told = tt
+-- the same by the answer of its turn
+pub takes : {old mid new : CallerSeen ReceiptSeen} {event : Event} {came : Bool} {turn : Turn} {answer : Answer} (s : Settings) (journal : List Entry) (key : Option Key) (held : Bool) (receipt : ReceiptSeen)
+    → turn ≡ turn_at s (history [] journal) event → receipt ≡ receipt_of event came turn (length journal) old.count → mid ≡ entered turn old
+    → new ≡ record mid { last = Some (record receipt { asked = asked_at (not (was_refused turn.answer)) key held receipt.asked }) } → answer ≡ turn.answer
+    → Takes old event came answer (asked_for answer key held) new
+takes {old} {mid} {new} {event} {came} {turn} {answer} s journal key held receipt turn_is is counted kept same = record {
+  turn = turn;
+  answer_is = sym same;
+  took = took s journal (asked_for answer key held) turn_is is counted
+      (kept ∙ ap (λ (o : Option Asked). record mid { last = Some (record receipt { asked = o }) })
+      (asked_is turn.answer key held receipt.asked (ap (λ (r : ReceiptSeen). r.asked) is) ∙ ap (λ (a : Answer). asked_for a key held) (sym same)));
+}
 
 -- the turn of an event has a number where the law says so
 pub numbered : (s : Settings) (h : List Event) (event : Event) (turn : Turn) → NumbersAreTold → turn ≡ turn_at s h event → IsNumbered event turn.answer
@@ -66,11 +75,11 @@ numbered s h event turn told is = go turn.answer (ap (λ (t : Turn). t.answer) i
     go (refused refusal) same = tt
 
 -- a refused event stops, with its refusal
-pub stops : {old new : CallerSeen ReceiptSeen} {event : Event} {came evicts : Bool} (answer : Answer) (why : SessionError) → Steps evicts old event came answer new → IsRefusal answer why
-    → Stops evicts old new event came why
-stops {old} {new} {event} {came} {evicts} answer (Refused refusal) by is = subst (λ (a : Answer). Steps evicts old event came a new) is by
-stops answer NoMemory by is = absurd is
-stops answer OtherSession by is = is
+pub stops : {old new : CallerSeen ReceiptSeen} {event : Event} {came evicts : Bool} (answer : Answer) (key : Option Key) (held : Bool) (why : SessionError)
+    → Steps evicts old event came answer (asked_for answer key held) new → IsRefusal answer why → Stops evicts old new event came why
+stops {old} {new} {event} {came} {evicts} answer key held (Refused refusal) by is = subst (λ (a : Answer). Steps evicts old event came a (asked_for a key held) new) is by
+stops answer key held NoMemory by is = absurd is
+stops answer key held OtherSession by is = is
 
 -- and its handler goes back
 pub goes_back : {H : Type 0} (answer : Answer) (why : SessionError) (handler : Option H) → IsRefusal answer why → back_at answer handler ≡ handler

@@ -6,7 +6,7 @@ ghost use Rattle.zs_events.specs.Turn.{was_refused};
 ghost use Rattle.zs_posts.specs.Calls.{call_seen, all_lents};
 ghost use Rattle.zs_hands.specs.Answers.{AreOfRoom};
 ghost use Rattle.zs_cell.specs.Further.{Adds};
-ghost use Rattle.zs_cell.specs.Steps.{Takes, Asks, IsNumbered};
+ghost use Rattle.zs_cell.specs.Steps.{Takes, IsNumbered, asked_for};
 ghost use Rattle.zs_cell.specs.Works.{asked_at, back_at};
 
 use crate::work::Work;
@@ -49,6 +49,7 @@ fn drain_if<H: Drop, B: Books>(
     key: Option<Key>,
     receipt: &mut Receipt<B>,
 ) -> Option<Closing<H>>
+    requires { receipt.old.asked ≡ None }
     ensures none { key ≡ None → result ≡ None }
     ensures refused { accepted ≡ false → result ≡ None }
     ensures asked { receipt.new ≡ record receipt.old { asked = asked_at accepted key (is_some result) receipt.old.asked } }
@@ -74,6 +75,7 @@ fn work_of<H: Drop, D: Drop, B: Books>(
     key: Option<Key>,
     receipt: &mut Receipt<B>,
 ) -> Work<H, D>
+    requires { receipt.old.asked ≡ None }
     ensures answer { result.answer ≡ handing.turn.answer }
     ensures back { result.back ≡ handing.back }
     ensures lents { result.lents ≡ all_lents (map call_seen handing.calls) }
@@ -95,6 +97,7 @@ fn receive<H: Drop, D: Drop, B: Books>(
     key: Option<Key>,
     caller: &mut Caller<B>,
 ) -> Work<H, D>
+    requires { given.1.asked ≡ None }
     ensures answer { result.answer ≡ given.0.turn.answer }
     ensures back { result.back ≡ given.0.back }
     ensures lents { result.lents ≡ all_lents (map call_seen given.0.calls) }
@@ -119,13 +122,12 @@ pub(crate) fn take_held<H: Drop, D: Drop, B: Books>(
     caller: &mut Caller<B>,
 ) -> Result<Work<H, D>, NotNow<H>>
     requires { is_some handler ≡ true → takes_handler event ≡ true }
-    ensures ok { IfOk result (λ work. Takes caller.old event (is_some handler) work.answer caller.new) }
+    ensures ok { IfOk result (λ work. Takes caller.old event (is_some handler) work.answer (asked_for work.answer key work.waits) caller.new) }
     ensures numbered { IfOk result (λ work. IsNumbered event work.answer) }
     ensures back { IfOk result (λ work. work.back ≡ back_at work.answer (option_map arc_value handler)) }
     ensures lents { IfOk result (λ work. AreOfRoom held.old.session.exchange.posts.room work.lents) }
     ensures none { key ≡ None → IfOk result (λ work. work.waits ≡ false) }
     ensures closing { IfOk result (λ work. was_refused work.answer ≡ true → work.waits ≡ false) }
-    ensures asked { IfOk result (λ work. was_refused work.answer ≡ false → Asks caller.new key work.waits) }
     ensures room { held.new.session.exchange.posts.room ≡ held.old.session.exchange.posts.room }
     ensures handler { IfErr result (λ refused. refused.handler ≡ handler) }
     ensures err { OnErr result (caller.new ≡ caller.old) }

@@ -1,8 +1,8 @@
 //! Cancellation tokens of a session.
-ghost use Rattle.std.specs.Prelude.{◌≡◌, None, false, IfErr, OnOk};
+ghost use Rattle.std.specs.Prelude.{◌≡◌, false, IfErr, OnOk};
 ghost use Rattle.zs_events.specs.declared.event.Event.TheVariants.{Cancel};
 ghost use Rattle.zs_posts.specs.declared.key.Key.{Key};
-ghost use Rattle.zs_cell.specs.Steps.{Accepts, AsksFor, Stops};
+ghost use Rattle.zs_cell.specs.Steps.{AcceptsAsking, Stops};
 
 use crate::error::SessionError;
 use crate::session::Session;
@@ -67,8 +67,7 @@ impl<H: Handler<Item> + Drop, B: Books> SessionToken<H, B> {
     ///
     /// `Refused` where the event was taken and refused, else `NoMemory`.
     pub fn cancel<R: Wait>(&self, rt: &R, caller: &mut Caller<B>) -> Result<(), SessionError>
-        ensures ok { OnOk result (Accepts H.evicts caller.old caller.new (Cancel self.now.number) false None) }
-        ensures waits { OnOk result (AsksFor caller.new (Key.CancelToken self.now.number)) }
+        ensures ok { OnOk result (AcceptsAsking H.evicts caller.old caller.new (Cancel self.now.number) (Key.CancelToken self.now.number)) }
         ensures err { IfErr result (λ why. Stops H.evicts caller.old caller.new (Cancel self.now.number) false why) }
     {
         let event = Event::Cancel { token: self.number };

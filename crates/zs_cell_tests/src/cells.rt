@@ -1,22 +1,19 @@
 //! Subscribers that are called, refused, and told their ends.
-ghost use Rattle.std.specs.Prelude.{◌≡◌, true, map, IfOk};
+ghost use Rattle.std.specs.Prelude.{map};
 ghost use Rattle.zs_posts.specs.Calls.{call_seen, all_lents};
 ghost use Rattle.zs_hands.specs.Answers.{AreOfRoom};
-ghost use Rattle.zs_turns.specs.Gates.{takes_handler};
 
+use crate::events::{put, subscriber};
 use std::alloc::{AllocError, Global};
 use std::process::Abort;
 use std::sync::atomic::{AtomicU64, Ordering};
 use std::sync::{Arc, Wait};
 use zs_core::Settings;
-use zs_events::{
-    Chan, EntityKind, Event, KeyArg, Kind, PublicationQuality, PushBody, Shared, Update,
-};
+use zs_events::{EntityKind, Event, Kind, Shared};
 use zs_gate::{Drained, Inside};
 use zs_handlers::{Handled, Handler};
 use zs_hands::Handed;
 use zs_posts::Key;
-use zs_sample::{CongestionControl, Locality, QoSType, Text, ZBytes};
 use zs_session_cell::{Handing, NotTaken, SessionCell};
 use zs_turns::Item;
 
@@ -35,50 +32,6 @@ impl Handler<Item> for Count {
     fn ended<R: Wait>(&self, _rt: &R, _drained: &Drained) -> u64 {
         self.0.load(Ordering::SeqCst)
     }
-}
-
-// A subscriber on these keys, for publications of any origin.
-#[tactic(auto, using(crate::proofs::Takes::sub_takes))]
-fn subscriber(alloc: Global, keys: &str) -> Result<Shared<Event>, AllocError>
-    ensures { IfOk result (λ event. takes_handler event ≡ true) }
-{
-    let key = KeyArg::Text(Text::of(alloc, keys)?);
-    let event = Event::Sub {
-        origin: Locality::Any,
-        key,
-        to: Chan::Print,
-    };
-    let event = Shared::new(alloc, event)?;
-    Ok(event)
-}
-
-// A put on this key, for this session and the network.
-fn put(alloc: Global, key: &str) -> Result<Event, AllocError> {
-    let key = KeyArg::Text(Text::of(alloc, key)?);
-    let payload = ZBytes::from_str(alloc, "1")?;
-    let update = Update {
-        body: PushBody::Put {
-            payload,
-            encoding: None,
-        },
-        timestamp: None,
-        source: None,
-        attachment: None,
-    };
-    let qos = QoSType {
-        priority: 5,
-        congestion: CongestionControl::Drop,
-        express: false,
-    };
-    Ok(Event::Publish {
-        destination: Locality::Any,
-        key,
-        update: Shared::new(alloc, update)?,
-        quality: PublicationQuality {
-            qos,
-            reliable: true,
-        },
-    })
 }
 
 // What became of the item of a call, as a letter.
@@ -204,8 +157,8 @@ fn open(rt: &impl Abort, alloc: Global) -> SessionCell<Count> {
 fn run<R: Abort + Wait>(rt: &R, alloc: Global, cell: &mut SessionCell<Count>, log: &mut String) {
     declare(rt, alloc, cell, "a/**", log);
     declare(rt, alloc, cell, "**", log);
-    step(rt, alloc, cell, put(alloc, "a/b"), log);
-    step(rt, alloc, cell, put(alloc, "c"), log);
+    step(rt, alloc, cell, put(alloc, "a/b", "1"), log);
+    step(rt, alloc, cell, put(alloc, "c", "1"), log);
     declare(rt, alloc, cell, "a//b", log);
     let over = Event::Undeclare {
         kind: EntityKind::Sub,
@@ -213,7 +166,7 @@ fn run<R: Abort + Wait>(rt: &R, alloc: Global, cell: &mut SessionCell<Count>, lo
     };
     step(rt, alloc, cell, Ok(over), log);
     tell(rt, alloc, cell, log);
-    step(rt, alloc, cell, put(alloc, "a/b"), log);
+    step(rt, alloc, cell, put(alloc, "a/b", "1"), log);
     step(rt, alloc, cell, Ok(Event::Close), log);
     tell(rt, alloc, cell, log);
 }

@@ -1,4 +1,5 @@
 pub mod Types
+pub mod Keeping
 pub use Rattle.zs_world.specs.World
 pub use Rattle.zs_world.specs.Keys
 pub use Rattle.zs_world.specs.DeclaredKeys

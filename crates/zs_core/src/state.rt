@@ -7,6 +7,7 @@ ghost use Rattle.zs_world.specs.Changes.{Fits, with_change};
 ghost use Rattle.zs_world.specs.Turns.{decision, with_listeners};
 ghost use Rattle.zs_standing.specs.Stands.{world_after, Steps, Previews, ClosedIs, NowIs, IsHeld, IsLive, IsTaken};
 ghost use Rattle.zs_standing.specs.Plans.{Plans};
+ghost use Rattle.zs_core.specs.Keeping.{KeepsGroups};
 
 mod recipients;
 
@@ -34,6 +35,10 @@ impl Model for SessionState {
     ghost Value = { World };
 
     ghost view = { λ s. s.world };
+
+    ghost use Rattle.zs_core.specs.Keeping.{KeepsGroups};
+
+    ghost invariant = { λ s. KeepsGroups s.world };
 }
 
 impl SessionState {
@@ -100,6 +105,14 @@ impl SessionState {
         ensures err { OnErr result (self.new ≡ self.old) }
     {
         self.world.apply(change)
+    }
+
+    /// Of any session it is so, whatever was done to it: for each kind of entities that share declarations, a text has one group
+    /// at most, and its members are just those entities that share the text, in ascending number. It does nothing.
+    pub fn keeps_groups(&self)
+        ensures { KeepsGroups self.now }
+    {
+        let _ = &self.world;
     }
 
     /// The session's own identifier in the network, its ZenohId.

@@ -7,8 +7,7 @@ use Rattle.zs_keys.specs.Key.{Key, undeclared}
 use Rattle.zs_tables.proofs.ByKey.{by_test}
 use Rattle.zs_wire.specs.declared.body.Body.{Body}
 use Rattle.zs_wire.specs.declared.body.Value.{Value}
-use Rattle.zs_query.specs.declared.query_value.QueryValue.{QueryValue}
-use Rattle.zs_query.specs.declared.request_row.RequestRow.{RequestRow}
+use Rattle.zs_query.specs.Types.{QueryValue, RequestRow}
 use Rattle.zs_query.specs.Unfinished.{value_at, has_other, finished, IsFound}
 use Rattle.zs_events.specs.declared.event.Event.TheVariants.{Finish}
 use Rattle.zs_events.specs.declared.key_arg.KeyArg.{KeyArg}

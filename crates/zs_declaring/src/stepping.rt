@@ -3,7 +3,7 @@ ghost use Rattle.std.specs.Arc.{arc_value};
 ghost use Rattle.zs_events.specs.declared.event.Event.TheVariants.{Status, Undeclare, Background};
 ghost use Rattle.zs_turns.specs.Gates.{takes_handler};
 ghost use Rattle.zs_held.specs.Numbers.{numbered_at};
-ghost use Rattle.zs_cell.specs.Steps.{Accepts, Stops, Asks};
+ghost use Rattle.zs_cell.specs.Steps.{Accepts, AcceptsFor, Stops};
 ghost use Rattle.zs_declaring.specs.Statuses.{Tells};
 ghost use Rattle.zs_declaring.specs.Waits.{waited_key};
 
@@ -112,9 +112,8 @@ pub fn undeclare<H: Handler<Item> + Drop, B: Books, R: Wait>(
     waits: bool,
     caller: &mut Caller<B>,
 ) -> Result<Option<Drained>, SessionError>
-    ensures ok { OnOk result (Accepts H.evicts caller.old caller.new (Undeclare kind id) false None) }
+    ensures ok { IfOk result (λ drained. AcceptsFor H.evicts caller.old caller.new (Undeclare kind id) false None (waited_key waits (Undeclare kind id)) (is_some drained)) }
     ensures at_once { waits ≡ false → IfOk result (λ drained. drained ≡ None) }
-    ensures asked { IfOk result (λ drained. Asks caller.new (waited_key waits (Undeclare kind id)) (is_some drained)) }
     ensures err { IfErr result (λ why. Stops H.evicts caller.old caller.new (Undeclare kind id) false why) }
 {
     let event = undeclaration(kind, id);

@@ -18,7 +18,7 @@ use Rattle.zs_core.specs.Types.{Settings}
 use Rattle.zs_core.specs.Entry.{Entry, is_closed}
 use Rattle.zs_core.specs.Held.{wire_text}
 use Rattle.zs_core.specs.Live.{appended}
-use Rattle.zs_core.specs.Matching.{told_sub_row, renews_sub, told_queryable_row, renews_queryable, told_subs, told_queryables}
+use Rattle.zs_core.specs.Matching.{told_sub_row, renews_sub, told_queryable_row, renews_queryable, remote_subscribers, remote_queryables}
 use Rattle.zs_core.specs.Causes.{holds, in_order, first_that, refusal_of}
 use Rattle.zs_core.specs.Past.{entry_of, with_entry, past_with, past_of}
 use Rattle.zs_delivery.specs.Links.{given}
@@ -109,70 +109,70 @@ stands_in f s past e unshut accepted = go (refusal_of s past e) (is_closed past)
 
 -- an event that tells nothing of subscribers leaves them as they were
 pub subs_kept : (s : Settings) (past : List Entry) (e : Event) → ((text : Option (List ℕ)) (rows : List ToldSub) → subs_behind (row_of e).to_matching text rows ≡ rows)
-    → told_subs (past_with s e past) ≡ told_subs past
+    → remote_subscribers (past_with s e past) ≡ remote_subscribers past
 subs_kept s past e kept = go (refusal_of s past e) (is_closed past)
   where
-    go : (o : Option Refusal) (c : Bool) → told_subs (with_entry o c (entry_of s past e) past) ≡ told_subs past
+    go : (o : Option Refusal) (c : Bool) → remote_subscribers (with_entry o c (entry_of s past e) past) ≡ remote_subscribers past
     go (Some refusal) c = refl
     go None true = refl
-    go None false = kept (entry_of s past e).text (told_subs past)
+    go None false = kept (entry_of s past e).text (remote_subscribers past)
 
 pub queryables_kept : (s : Settings) (past : List Entry) (e : Event) → ((text : Option (List ℕ)) (rows : List ToldQueryable) → queryables_behind (row_of e).to_matching text rows ≡ rows)
-    → told_queryables (past_with s e past) ≡ told_queryables past
+    → remote_queryables (past_with s e past) ≡ remote_queryables past
 queryables_kept s past e kept = go (refusal_of s past e) (is_closed past)
   where
-    go : (o : Option Refusal) (c : Bool) → told_queryables (with_entry o c (entry_of s past e) past) ≡ told_queryables past
+    go : (o : Option Refusal) (c : Bool) → remote_queryables (with_entry o c (entry_of s past e) past) ≡ remote_queryables past
     go (Some refusal) c = refl
     go None true = refl
-    go None false = kept (entry_of s past e).text (told_queryables past)
+    go None false = kept (entry_of s past e).text (remote_queryables past)
 
 -- an end is accepted, or there was nothing to end
 pub sub_ended : (s : Settings) (past : List Entry) (number id : ℕ) → is_closed past ≡ false
-    → under sub_number id (told_subs (past_with s (Net (UndeclareSubscriber number)) past)) ≡ cond (number == id) None (under sub_number id (told_subs past))
+    → under sub_number id (remote_subscribers (past_with s (Net (UndeclareSubscriber number)) past)) ≡ cond (number == id) None (under sub_number id (remote_subscribers past))
 sub_ended s past number id unshut = go (refusal_of s past e) refl (is_closed past) unshut
   where
     e : Event
     e = Net (UndeclareSubscriber number)
 
     idle : Bool
-    idle = not (list_any (λ row. row.number == number) (told_subs past)) || false
+    idle = not (list_any (λ row. row.number == number) (remote_subscribers past)) || false
 
     cause : (refusal : Refusal) → refusal_of s past e ≡ Some refusal → idle ≡ true
     cause refusal is = sub_end number idle refusal (subst (λ (c : Bool). first_that (holds c (row_of e) (record (sight_of None) { idle = idle })) in_order ≡ Some refusal) unshut is)
 
-    none : (b : Bool) → (number == id) ≡ b → under sub_number number (told_subs past) ≡ None → under sub_number id (told_subs past) ≡ cond b None (under sub_number id (told_subs past))
+    none : (b : Bool) → (number == id) ≡ b → under sub_number number (remote_subscribers past) ≡ None → under sub_number id (remote_subscribers past) ≡ cond b None (under sub_number id (remote_subscribers past))
     none false at is = refl
-    none true at is = subst (λ (k : ℕ). under sub_number k (told_subs past) ≡ None) (eqb-true number id at) is
+    none true at is = subst (λ (k : ℕ). under sub_number k (remote_subscribers past) ≡ None) (eqb-true number id at) is
 
     go : (o : Option Refusal) → refusal_of s past e ≡ o → (c : Bool) → c ≡ false
-        → under sub_number id (told_subs (with_entry o c (entry_of s past e) past)) ≡ cond (number == id) None (under sub_number id (told_subs past))
-    go (Some refusal) is c at = none (number == id) refl (none_under sub_number number (told_subs past) (untold_is _ (cause refusal is)))
+        → under sub_number id (remote_subscribers (with_entry o c (entry_of s past e) past)) ≡ cond (number == id) None (under sub_number id (remote_subscribers past))
+    go (Some refusal) is c at = none (number == id) refl (none_under sub_number number (remote_subscribers past) (untold_is _ (cause refusal is)))
     go None is true at = cc
-    go None is false at = under_without sub_number number id (told_subs past)
+    go None is false at = under_without sub_number number id (remote_subscribers past)
 
 pub queryable_ended : (s : Settings) (past : List Entry) (number id : ℕ) → is_closed past ≡ false
-    → under queryable_number id (told_queryables (past_with s (Net (UndeclareQueryable number)) past)) ≡ cond (number == id) None (under queryable_number id (told_queryables past))
+    → under queryable_number id (remote_queryables (past_with s (Net (UndeclareQueryable number)) past)) ≡ cond (number == id) None (under queryable_number id (remote_queryables past))
 queryable_ended s past number id unshut = go (refusal_of s past e) refl (is_closed past) unshut
   where
     e : Event
     e = Net (UndeclareQueryable number)
 
     idle : Bool
-    idle = not (list_any (λ row. row.number == number) (told_queryables past)) || false
+    idle = not (list_any (λ row. row.number == number) (remote_queryables past)) || false
 
     cause : (refusal : Refusal) → refusal_of s past e ≡ Some refusal → idle ≡ true
     cause refusal is = queryable_end number idle refusal (subst (λ (c : Bool). first_that (holds c (row_of e) (record (sight_of None) { idle = idle })) in_order ≡ Some refusal) unshut is)
 
-    none : (b : Bool) → (number == id) ≡ b → under queryable_number number (told_queryables past) ≡ None
-        → under queryable_number id (told_queryables past) ≡ cond b None (under queryable_number id (told_queryables past))
+    none : (b : Bool) → (number == id) ≡ b → under queryable_number number (remote_queryables past) ≡ None
+        → under queryable_number id (remote_queryables past) ≡ cond b None (under queryable_number id (remote_queryables past))
     none false at is = refl
-    none true at is = subst (λ (k : ℕ). under queryable_number k (told_queryables past) ≡ None) (eqb-true number id at) is
+    none true at is = subst (λ (k : ℕ). under queryable_number k (remote_queryables past) ≡ None) (eqb-true number id at) is
 
     go : (o : Option Refusal) → refusal_of s past e ≡ o → (c : Bool) → c ≡ false
-        → under queryable_number id (told_queryables (with_entry o c (entry_of s past e) past)) ≡ cond (number == id) None (under queryable_number id (told_queryables past))
-    go (Some refusal) is c at = none (number == id) refl (none_under queryable_number number (told_queryables past) (untold_is _ (cause refusal is)))
+        → under queryable_number id (remote_queryables (with_entry o c (entry_of s past e) past)) ≡ cond (number == id) None (under queryable_number id (remote_queryables past))
+    go (Some refusal) is c at = none (number == id) refl (none_under queryable_number number (remote_queryables past) (untold_is _ (cause refusal is)))
     go None is true at = cc
-    go None is false at = under_without queryable_number number id (told_queryables past)
+    go None is false at = under_without queryable_number number id (remote_queryables past)
 
 -- what was told behind one more message
 pub told_message : (s : Settings) (past : List Entry) (before : List Message) (m : Message) → is_closed past ≡ false → Knows past before → IsDeclared before m
@@ -183,8 +183,8 @@ told_message s past before (DeclareSubscriber number wire) unshut knows readable
     sub_causes number wire (is_closed past) (wire_text past wire) readable.text unshut named readable.canonical in
     record {
       subs = λ id.
-          stands_in (λ (p : List Entry). under sub_number id (told_subs p)) s past (Net (DeclareSubscriber number wire)) unshut accepted
-          ∙ sub_declared number id (told_subs past) (wire_text past wire) readable.text named
+          stands_in (λ (p : List Entry). under sub_number id (remote_subscribers p)) s past (Net (DeclareSubscriber number wire)) unshut accepted
+          ∙ sub_declared number id (remote_subscribers past) (wire_text past wire) readable.text named
           ∙ ap (λ (o : Option ToldSub). cond (number == id) (Some (record { number = number; key = undeclared readable.text })) o) (told.subs id)
           ∙ ap (λ (o : Option (List ℕ)). cond (number == id) (option_map (λ (text : List ℕ). record { number = number; key = undeclared text }) o) (declared_sub id before)) (sym readable.reads);
       queryables = λ id. ap (under queryable_number id) (queryables_kept s past (Net (DeclareSubscriber number wire)) (λ text rows. all_kept queryable_number rows)) ∙ told.queryables id;
@@ -200,8 +200,8 @@ told_message s past before (DeclareQueryable number complete wire) unshut knows 
     record {
       subs = λ id. ap (under sub_number id) (subs_kept s past (Net (DeclareQueryable number complete wire)) (λ text rows. all_kept sub_number rows)) ∙ told.subs id;
       queryables = λ id.
-          stands_in (λ (p : List Entry). under queryable_number id (told_queryables p)) s past (Net (DeclareQueryable number complete wire)) unshut accepted
-          ∙ queryable_declared number id complete (told_queryables past) (wire_text past wire) readable.text named
+          stands_in (λ (p : List Entry). under queryable_number id (remote_queryables p)) s past (Net (DeclareQueryable number complete wire)) unshut accepted
+          ∙ queryable_declared number id complete (remote_queryables past) (wire_text past wire) readable.text named
           ∙ ap (λ (o : Option ToldQueryable). cond (number == id) (Some (record { number = number; complete = complete; key = undeclared readable.text })) o) (told.queryables id)
           ∙ ap (λ (o : Option (List ℕ)). cond (number == id) (option_map (λ (text : List ℕ). record { number = number; complete = complete; key = undeclared text }) o) (declared_queryable id before)) (sym readable.reads);
     }

@@ -10,8 +10,7 @@ use Rattle.zs_wire.specs.declared.message.Message.TheVariants.{DeclareToken, Und
 use Rattle.zs_wire.specs.declared.wire_expr.WireExpr.{WireExpr}
 use Rattle.zs_tables.specs.Ascending.{placed_by}
 use Rattle.zs_tables.specs.Liveliness.{put_new}
-use Rattle.zs_tables.specs.declared.liveliness_get.LivelinessGet.{LivelinessGet}
-use Rattle.zs_tables.specs.declared.told_token.ToldToken.{ToldToken}
+use Rattle.zs_tables.specs.Types.{LivelinessGet, ToldToken}
 use Rattle.zs_events.specs.declared.event.Event.{Event}
 use Rattle.zs_events.specs.declared.event.Event.TheVariants.{Net}
 use Rattle.zs_events.specs.declared.turn.Refusal.{Refusal}
@@ -19,7 +18,7 @@ use Rattle.zs_events.specs.Kinds.{row_of}
 use Rattle.zs_core.specs.Types.{Settings}
 use Rattle.zs_core.specs.Entry.{Entry, is_closed}
 use Rattle.zs_core.specs.Held.{wire_text}
-use Rattle.zs_core.specs.Tokens.{token_told, told_behind, told_tokens, is_told, asking_now}
+use Rattle.zs_core.specs.Tokens.{token_told, told_behind, remote_tokens, is_told, asking_now}
 use Rattle.zs_core.specs.Causes.{holds, in_order, first_that, refusal_of}
 use Rattle.zs_core.specs.Past.{entry_of, with_entry, past_with, past_of}
 use Rattle.zs_delivery.specs.Links.{given}
@@ -83,34 +82,34 @@ token_added gets number id tokens (Some t) text is none =
 -- an event that tells nothing of tokens leaves them as they were
 tokens_kept : (s : Settings) (past : List Entry) (e : Event)
     → ((gets : List LivelinessGet) (text : Option (List ℕ)) (tokens : List ToldToken) → told_behind gets (row_of e).to_liveliness text tokens ≡ tokens)
-    → told_tokens s (past_with s e past) ≡ told_tokens s past
+    → remote_tokens s (past_with s e past) ≡ remote_tokens s past
 tokens_kept s past e kept = go (refusal_of s past e) (is_closed past)
   where
-    go : (o : Option Refusal) (c : Bool) → told_tokens s (with_entry o c (entry_of s past e) past) ≡ told_tokens s past
+    go : (o : Option Refusal) (c : Bool) → remote_tokens s (with_entry o c (entry_of s past e) past) ≡ remote_tokens s past
     go (Some refusal) c = refl
     go None true = refl
-    go None false = kept (asking_now s past) (entry_of s past e).text (told_tokens s past)
+    go None false = kept (asking_now s past) (entry_of s past e).text (remote_tokens s past)
 
 -- a session was told just these tokens
 abbrev pub HasHeard : List ToldToken → List Message → Type 0
 HasHeard tokens messages = (id : ℕ) → find (λ t. t.number == id) tokens ≡ declared_token id messages
 
 heard_message : (s : Settings) (past : List Entry) (before : List Message) (m : Message) → is_closed past ≡ false → Knows past before → IsPlainToken before m
-    → HasHeard (told_tokens s past) before → HasHeard (told_tokens s (past_with s (Net m) past)) (m ∷ before)
+    → HasHeard (remote_tokens s past) before → HasHeard (remote_tokens s (past_with s (Net m) past)) (m ∷ before)
 heard_message s past before (DeclareToken number wire None) unshut knows plain heard = λ id.
     let text = plain.readable.text in
     let named : wire_text past wire ≡ Some text = wire_known past before wire text knows plain.readable.reads in
     let accepted : refusal_of s past (Net (DeclareToken number wire None)) ≡ None =
     token_causes number wire (is_closed past) (wire_text past wire) text unshut named plain.readable.canonical in
-    stands_in (λ (p : List Entry). find (λ t. t.number == id) (told_tokens s p)) s past (Net (DeclareToken number wire None)) unshut accepted
-    ∙ token_added (asking_now s past) number id (told_tokens s past) (wire_text past wire) text named (heard number ∙ plain.new)
+    stands_in (λ (p : List Entry). find (λ t. t.number == id) (remote_tokens s p)) s past (Net (DeclareToken number wire None)) unshut accepted
+    ∙ token_added (asking_now s past) number id (remote_tokens s past) (wire_text past wire) text named (heard number ∙ plain.new)
     ∙ ap (λ (o : Option ToldToken). cond (number == id) (Some (told_as number text)) o) (heard id)
     ∙ ap (λ (o : Option (List ℕ)). cond (number == id) (option_map (λ (t : List ℕ). record { number = number; key = undeclared t }) o) (declared_token id before)) (sym plain.readable.reads)
 heard_message s past before (DeclareToken number wire (Some interest)) unshut knows plain heard = let never : ⊥ = (let asked : Some interest ≡ None = plain.asked in cc) in absurd never
 heard_message s past before (UndeclareToken number None interest) unshut knows plain heard = λ id.
-    stands_in (λ (p : List Entry). find (λ t. t.number == id) (told_tokens s p)) s past (Net (UndeclareToken number None interest)) unshut
-    (end_causes number interest (is_told number (told_tokens s past)) (is_closed past) unshut)
-    ∙ under_without token_number number id (told_tokens s past)
+    stands_in (λ (p : List Entry). find (λ t. t.number == id) (remote_tokens s p)) s past (Net (UndeclareToken number None interest)) unshut
+    (end_causes number interest (is_told number (remote_tokens s past)) (is_closed past) unshut)
+    ∙ under_without token_number number id (remote_tokens s past)
     ∙ ap (λ (o : Option ToldToken). cond (number == id) None o) (heard id)
 heard_message s past before (UndeclareToken number (Some wire) interest) unshut knows plain heard = cc
 heard_message s past before m unshut knows plain heard = λ id.
@@ -118,11 +117,11 @@ heard_message s past before m unshut knows plain heard = λ id.
 
 heard_own : (s : Settings) (past : List Entry) (before : List Message) (e : Event)
     → ((gets : List LivelinessGet) (text : Option (List ℕ)) (tokens : List ToldToken) → told_behind gets (row_of e).to_liveliness text tokens ≡ tokens)
-    → HasHeard (told_tokens s past) before → HasHeard (told_tokens s (past_with s e past)) before
+    → HasHeard (remote_tokens s past) before → HasHeard (remote_tokens s (past_with s e past)) before
 heard_own s past before e kept heard = λ id. ap (λ (tokens : List ToldToken). find (λ t. t.number == id) tokens) (tokens_kept s past e kept) ∙ heard id
 
 -- so an open session was told just what came in, where that was plain
-pub heard_after : (s : Settings) (h : List Event) → is_closed (past_of s h) ≡ false → AreSound (given h) → ArePlainTokens (given h) → HasHeard (told_tokens s (past_of s h)) (given h)
+pub heard_after : (s : Settings) (h : List Event) → is_closed (past_of s h) ≡ false → AreSound (given h) → ArePlainTokens (given h) → HasHeard (remote_tokens s (past_of s h)) (given h)
 heard_after s [] unshut sound plain = λ id. refl
 heard_after s (Net m ∷ h) unshut sound plain =
     let before : is_closed (past_of s h) ≡ false = open_before s (past_of s h) (Net m) unshut in

@@ -113,12 +113,6 @@ by_event : (s : Settings) (past : List Entry) (e : Event) (before : List Message
     → Keeps (entry_of s past e ∷ past) (sent_behind (told_by_event (known_of s past) (entry_of s past e).number (named_text past e) e) before)
 by_event s past (Token key) before keeps unborn reads origins = declares s past key (next_entity s past) before keeps unborn (named_text past (Token key)) reads origins
 by_event s past (Undeclare token_sort number) before keeps unborn reads origins = record { now = λ id. ended past number id before keeps; plain = (refl, keeps.plain) }
-by_event s past (Undeclare sub_kind number) before keeps unborn reads origins = other s past (Undeclare sub_kind number) before refl (λ id x. refl) keeps
-by_event s past (Undeclare pub_kind number) before keeps unborn reads origins = other s past (Undeclare pub_kind number) before refl (λ id x. refl) keeps
-by_event s past (Undeclare queryable_sort number) before keeps unborn reads origins = other s past (Undeclare queryable_sort number) before refl (λ id x. refl) keeps
-by_event s past (Undeclare querier_sort number) before keeps unborn reads origins = other s past (Undeclare querier_sort number) before refl (λ id x. refl) keeps
-by_event s past (Undeclare listener_sort number) before keeps unborn reads origins = other s past (Undeclare listener_sort number) before refl (λ id x. refl) keeps
-by_event s past (Undeclare lsub_sort number) before keeps unborn reads origins = other s past (Undeclare lsub_sort number) before refl (λ id x. refl) keeps
 by_event s past e before keeps unborn reads origins = other s past e before refl (λ id x. refl) keeps
 
 -- no token has a number that was not drawn yet

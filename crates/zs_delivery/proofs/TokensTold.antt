@@ -4,9 +4,9 @@ use Rattle.std.specs.Prelude.{◌==◌, option_map, filter}
 use Rattle.zs_keys.specs.Key.{undeclared}
 use Rattle.zs_wire.specs.declared.message.Message.{Message}
 use Rattle.zs_wire.specs.declared.message.Message.TheVariants.{DeclareToken, UndeclareToken, Interest}
-use Rattle.zs_tables.specs.declared.told_token.ToldToken.{ToldToken}
+use Rattle.zs_tables.specs.Types.{ToldToken}
 use Rattle.zs_core.specs.Types.{Settings}
-use Rattle.zs_core.specs.Tokens.{told_tokens}
+use Rattle.zs_core.specs.Tokens.{remote_tokens}
 use Rattle.zs_core.specs.Past.{past_of}
 use Rattle.zs_core.specs.Received.{sent, sent_behind, read_as, AreSpelled, AreUtf8}
 use Rattle.zs_core.specs.Laws.{WireFormsAreRead}
@@ -55,7 +55,7 @@ module _ (forms : WireFormsAreRead) (origins : MessagesHaveOrigins) where
       subst AreSound (sym way.given_is) (sound_delivered s from.history way.delivered (delivered_sent s from.history from.waiting way.delivered (subst (AreSent s from.history) way.sent_is (sent_after s from.history forms origins spelled utf8)))) in
       let keeps : Keeps (past_of s from.history) (sent s from.history) = keeps_after s from.history forms origins spelled utf8 in
       let plain : ArePlainTokens (given to.history) = subst ArePlainTokens (sym way.given_is) (plain_delivered way.delivered (subst ArePlainTokens order keeps.plain)) in
-      let heard : HasHeard (told_tokens t (past_of t to.history)) (given to.history) = heard_after t to.history unshut sound plain in
+      let heard : HasHeard (remote_tokens t (past_of t to.history)) (given to.history) = heard_after t to.history unshut sound plain in
       record {
         ascend = tokens_ascend t (past_of t to.history);
         told = λ id. heard id ∙ ap (declared_token id) way.given_is ∙ same_token id way.delivered ∙ ap (declared_token id) (sym order);

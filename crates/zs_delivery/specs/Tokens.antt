@@ -4,7 +4,7 @@ use Rattle.zs_keys.specs.Key.{undeclared}
 use Rattle.zs_wire.specs.declared.message.Message.{Message}
 use Rattle.zs_wire.specs.declared.message.Message.TheVariants.{DeclareToken, UndeclareToken}
 use Rattle.zs_tables.specs.Ascending.{Ascend}
-use Rattle.zs_tables.specs.declared.told_token.ToldToken.{ToldToken}
+use Rattle.zs_tables.specs.Types.{ToldToken}
 use Rattle.zs_events.specs.declared.event.Event.{Event}
 use Rattle.zs_events.specs.declared.event.Event.TheVariants.{Token, Undeclare}
 use Rattle.zs_events.specs.declared.entity_kind.EntityKind.TheVariants.{Token as token_kind}
@@ -12,7 +12,7 @@ use Rattle.zs_core.specs.Types.{Settings}
 use Rattle.zs_core.specs.Entry.{Entry, is_closed}
 use Rattle.zs_core.specs.Past.{past_of}
 use Rattle.zs_core.specs.Received.{read_as, sent, AreSpelled}
-use Rattle.zs_core.specs.Tokens.{told_tokens}
+use Rattle.zs_core.specs.Tokens.{remote_tokens}
 use Rattle.zs_delivery.specs.Linked.{Side, LinkLine, other, linked_after}
 use Rattle.zs_delivery.specs.Links.{AreOwn, AreSpelledLines}
 
@@ -52,7 +52,7 @@ pub record HasTokens (tokens : List ToldToken) (messages : List Message) (past :
 abbrev pub TellsTokens : Settings → Settings → Side → Side → Type 0
 TellsTokens s t from to =
     from.waiting ≡ [] → is_closed (past_of t to.history) ≡ false
-    → HasTokens (told_tokens t (past_of t to.history)) (sent s from.history) (past_of s from.history)
+    → HasTokens (remote_tokens t (past_of t to.history)) (sent s from.history) (past_of s from.history)
 
 -- both ways
 pub record BothTellTokens (s : Settings) (a b : Side) : Type 0 where

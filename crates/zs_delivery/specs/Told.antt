@@ -9,7 +9,7 @@ use Rattle.zs_tables.specs.declared.told_row.ToldSub.{ToldSub}
 use Rattle.zs_tables.specs.declared.told_row.ToldQueryable.{ToldQueryable}
 use Rattle.zs_core.specs.Types.{Settings}
 use Rattle.zs_core.specs.Entry.{Entry, is_closed}
-use Rattle.zs_core.specs.Matching.{told_subs, told_queryables}
+use Rattle.zs_core.specs.Matching.{remote_subscribers, remote_queryables}
 use Rattle.zs_core.specs.Past.{past_of}
 use Rattle.zs_core.specs.Received.{read_as, sent, AreSpelled}
 use Rattle.zs_delivery.specs.Linked.{Side, LinkLine, other, linked_after}
@@ -35,8 +35,8 @@ declared_queryable id (message ∷ before) = declared_queryable id before
 
 -- a session was told just these subscribers and queryables of the network, under each number
 pub record WasTold (past : List Entry) (messages : List Message) : Type 0 where
-  pub subs : (id : ℕ) → find (λ row. row.number == id) (told_subs past) ≡ declared_sub id messages
-  pub queryables : (id : ℕ) → find (λ row. row.number == id) (told_queryables past) ≡ declared_queryable id messages
+  pub subs : (id : ℕ) → find (λ row. row.number == id) (remote_subscribers past) ≡ declared_sub id messages
+  pub queryables : (id : ℕ) → find (λ row. row.number == id) (remote_queryables past) ≡ declared_queryable id messages
 
 -- so it is with all that the other has sent, where none of it waits and the receiver is open
 abbrev pub TellsAll : Settings → Settings → Side → Side → Type 0

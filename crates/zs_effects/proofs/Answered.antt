@@ -21,19 +21,15 @@ use Rattle.zs_tables.specs.LivelinessGets.{is_asking, is_over, over_at, numbers_
 use Rattle.zs_tables.specs.MatchingLaws.{differ}
 use Rattle.zs_tables.specs.Recipients.{has_network}
 use Rattle.zs_tables.specs.declared.listener.ListenerRow.{ListenerRow}
-use Rattle.zs_tables.specs.declared.liveliness_get.LivelinessGet.{LivelinessGet as TokensGet}
-use Rattle.zs_tables.specs.declared.liveliness_sub.LivelinessSub.{LivelinessSub}
+use Rattle.zs_tables.specs.Types.{LivelinessGet as TokensGet, LivelinessSub, ToldToken}
 use Rattle.zs_tables.specs.declared.queryable.QueryableRow.{QueryableRow}
 use Rattle.zs_tables.specs.declared.subscriber.SubRow.{SubRow}
-use Rattle.zs_tables.specs.declared.told_token.ToldToken.{ToldToken}
 use Rattle.zs_query.specs.declared.open_get.OpenGet.{OpenGet}
 use Rattle.zs_query.specs.declared.outcome.Outcome.{Outcome}
 use Rattle.zs_query.specs.declared.outcome.Outcome.TheVariants as outcome
 use Rattle.zs_query.specs.declared.outcome.Peek.{Peek}
 use Rattle.zs_query.specs.declared.outcome.Peek.TheVariants as peek
-use Rattle.zs_query.specs.declared.query_value.QueryValue.{QueryValue}
-use Rattle.zs_query.specs.declared.requests.Finished.{Finished}
-use Rattle.zs_query.specs.declared.requests.Finished.TheVariants.{Unknown, MoreLeft, Last}
+use Rattle.zs_query.specs.Types.{QueryValue, Finished, Unknown, MoreLeft, Last}
 use Rattle.zs_query.specs.declared.side.Side.TheVariants.{Local, Network}
 use Rattle.zs_query.specs.Asked.{QuerierEnds, CancelledBy}
 use Rattle.zs_query.specs.Gets.{get_at, peek_at, final_outcome, ends_at, timeout_error}
@@ -43,7 +39,7 @@ use Rattle.zs_query.proofs.Ascending.{all_append, all_weaker}
 use Rattle.zs_tables.specs.Ascending.{Ascend}
 use Rattle.zs_events.specs.declared.event.Event.{Event}
 use Rattle.zs_events.specs.declared.event.Event.TheVariants.{Undeclare, Close, Net, Get, QuerierGet, Cancel, Tick, Reply as reply_event, ReplyErr, Finish, Share}
-use Rattle.zs_events.specs.declared.entity_kind.EntityKind.TheVariants.{Sub as sub_kind, Pub as pub_kind, Queryable as queryable_sort, Querier as querier_sort, Listener as listener_sort, Token as token_sort, Lsub as lsub_sort}
+use Rattle.zs_events.specs.declared.entity_kind.EntityKind.TheVariants.{Sub as sub_kind, Queryable as queryable_sort, Querier as querier_sort, Lsub as lsub_sort}
 use Rattle.zs_events.specs.declared.publication.ReplyQuality.{ReplyQuality}
 use Rattle.zs_events.specs.declared.turn.Effect.{Effect}
 use Rattle.zs_events.specs.declared.turn.Effect.TheVariants.{Send, Hand, End, Matching}
@@ -122,10 +118,7 @@ module _ (n : ℕ) where
 
   ends_quiet : (known : Known) (e : Event) → AllByRecursion Quiet (ends_of known.queryables known.subs known.watch.subs e)
   ends_quiet known (Undeclare sub_kind id) = (refl, tt)
-  ends_quiet known (Undeclare pub_kind id) = tt
   ends_quiet known (Undeclare queryable_sort id) = (refl, tt)
-  ends_quiet known (Undeclare querier_sort id) = tt
-  ends_quiet known (Undeclare token_sort id) = tt
   ends_quiet known (Undeclare lsub_sort id) = (refl, tt)
   ends_quiet known Close =
       all_append Quiet (queryable_ends known.queryables ++ sub_ends known.subs) (lsub_ends known.watch.subs)

@@ -20,31 +20,26 @@ use Rattle.zs_tables.specs.LivelinessGets.{is_asking, is_over, over_at, is_own, 
 use Rattle.zs_tables.specs.MatchingLaws.{differ}
 use Rattle.zs_tables.specs.Recipients.{has_session, has_network}
 use Rattle.zs_tables.specs.declared.listener.ListenerRow.{ListenerRow}
-use Rattle.zs_tables.specs.declared.liveliness_get.LivelinessGet.{LivelinessGet as TokensGet}
-use Rattle.zs_tables.specs.declared.liveliness_sub.LivelinessSub.{LivelinessSub}
+use Rattle.zs_tables.specs.Types.{LivelinessGet as TokensGet, LivelinessSub, ToldToken}
 use Rattle.zs_tables.specs.declared.queryable.QueryableRow.{QueryableRow}
 use Rattle.zs_tables.specs.declared.subscriber.SubRow.{SubRow}
-use Rattle.zs_tables.specs.declared.told_token.ToldToken.{ToldToken}
 use Rattle.zs_query.specs.declared.open_get.OpenGet.{OpenGet}
 use Rattle.zs_query.specs.declared.outcome.Outcome.{Outcome}
 use Rattle.zs_query.specs.declared.outcome.Outcome.TheVariants as outcome
 use Rattle.zs_query.specs.declared.outcome.Peek.{Peek}
 use Rattle.zs_query.specs.declared.outcome.Peek.TheVariants as peek
-use Rattle.zs_query.specs.declared.query_value.QueryValue.{QueryValue}
-use Rattle.zs_query.specs.declared.requests.Finished.{Finished}
-use Rattle.zs_query.specs.declared.requests.Finished.TheVariants.{Unknown, MoreLeft, Last}
+use Rattle.zs_query.specs.Types.{QueryValue, Finished, Unknown, MoreLeft, Last, RequestRow}
 use Rattle.zs_query.specs.declared.side.Side.TheVariants.{Local, Network}
 use Rattle.zs_query.specs.Asked.{QuerierEnds, CancelledBy, is_end}
 use Rattle.zs_query.specs.Gets.{get_at, peek_at, final_outcome, is_due, end_of, ends_at, timeout_error}
 use Rattle.zs_query.specs.RequestTable.{Handing}
-use Rattle.zs_query.specs.declared.request_row.RequestRow.{RequestRow}
 use Rattle.zs_query.specs.Unfinished.{value_at, values_from, finished}
 use Rattle.zs_tables.proofs.Ascending.{ascend_filter, ascend_map}
 use Rattle.zs_query.proofs.Ascending.{all_append}
 use Rattle.zs_tables.specs.Ascending.{Ascend}
 use Rattle.zs_events.specs.declared.event.Event.{Event}
 use Rattle.zs_events.specs.declared.event.Event.TheVariants.{Publish, PublishBy, Undeclare, Close, Net, Get, QuerierGet, Cancel, Tick, Reply as reply_event, ReplyErr, Finish, Share}
-use Rattle.zs_events.specs.declared.entity_kind.EntityKind.TheVariants.{Sub as sub_kind, Pub as pub_kind, Queryable as queryable_sort, Querier as querier_sort, Listener as listener_sort, Token as token_sort, Lsub as lsub_sort}
+use Rattle.zs_events.specs.declared.entity_kind.EntityKind.TheVariants.{Sub as sub_kind, Queryable as queryable_sort, Querier as querier_sort, Lsub as lsub_sort}
 use Rattle.zs_events.specs.declared.publication.ReplyQuality.{ReplyQuality}
 use Rattle.zs_events.specs.declared.turn.Effect.{Effect}
 use Rattle.zs_events.specs.declared.turn.Effect.TheVariants.{Send, Hand, End, Matching}
@@ -108,10 +103,7 @@ lsubs_end rows up =
 
 ends_rising : (known : Known) (e : Event) → AreStanding known → AreRising 3 5 (ends_of known.queryables known.subs known.watch.subs e)
 ends_rising known (Undeclare sub_kind id) st = wider 4 4 3 5 _ (omega arith) (omega arith) (one 4 (End Subscriber id) refl)
-ends_rising known (Undeclare pub_kind id) st = none_rising 3 5
 ends_rising known (Undeclare queryable_sort id) st = wider 3 3 3 5 _ (omega arith) (omega arith) (one 3 (End queryable_kind id) refl)
-ends_rising known (Undeclare querier_sort id) st = none_rising 3 5
-ends_rising known (Undeclare token_sort id) st = none_rising 3 5
 ends_rising known (Undeclare lsub_sort id) st = wider 5 5 3 5 _ (omega arith) (omega arith) (one 5 (End LivelinessSubscriber id) refl)
 ends_rising known Close st =
     joined 3 4 5 5 (queryable_ends known.queryables ++ sub_ends known.subs) (lsub_ends known.watch.subs) (omega arith) (omega arith) (omega arith)
@@ -368,12 +360,6 @@ all_rising known number text (Undeclare querier_sort id) st =
     joined 0 0 6 7 (others_of known number text e) (cut_effects (QuerierEnds id) known.gets) (omega arith) (omega arith) (omega arith)
     (all_sent (front ++ [] ++ []) (all_append IsSending (front ++ []) [] (all_append IsSending front [] (front_sent known number text e) tt) tt))
     (wider 6 6 6 7 (cut_effects (QuerierEnds id) known.gets) (omega arith) (omega arith) (numbers_end (ended_numbers (QuerierEnds id) known.gets) (numbers_up (λ g. is_end g.row (QuerierEnds id)) known.gets st.gets)))
-all_rising known number text (Undeclare sub_kind id) st = all_others known number text (Undeclare sub_kind id) st
-all_rising known number text (Undeclare pub_kind id) st = all_others known number text (Undeclare pub_kind id) st
-all_rising known number text (Undeclare queryable_sort id) st = all_others known number text (Undeclare queryable_sort id) st
-all_rising known number text (Undeclare listener_sort id) st = all_others known number text (Undeclare listener_sort id) st
-all_rising known number text (Undeclare token_sort id) st = all_others known number text (Undeclare token_sort id) st
-all_rising known number text (Undeclare lsub_sort id) st = all_others known number text (Undeclare lsub_sort id) st
 all_rising known number text (Cancel token) st =
     wider 6 7 0 7 (cut_effects (CancelledBy token) known.gets ++ cancelled_ends token known.watch.gets) (omega arith) (omega arith)
     (gets_rising (ended_numbers (CancelledBy token) known.gets) (numbers_with token known.watch.gets) (numbers_up (λ g. is_end g.row (CancelledBy token)) known.gets st.gets)

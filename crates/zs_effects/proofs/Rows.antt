@@ -6,7 +6,7 @@ use mathlib.Core.List.{append-nil}
 use Rattle.zs_query.specs.Ascending.{Ascend}
 use Rattle.zs_query.proofs.Ascending.{all_append, all_weaker, all_filter, ascend_filter, ascend_append}
 use Rattle.zs_tables.specs.declared.listener.ListenerRow.{ListenerRow}
-use Rattle.zs_tables.specs.declared.liveliness_get.LivelinessGet.{LivelinessGet as TokensGet}
+use Rattle.zs_tables.specs.Types.{LivelinessGet as TokensGet}
 use Rattle.zs_wire.specs.declared.message.Message.{Message}
 use Rattle.zs_wire.specs.declared.message.Message.TheVariants.{Request as request_message}
 use Rattle.zs_events.specs.declared.event.Event.{Event}

@@ -3,7 +3,7 @@ use Rattle.std.specs.Prelude.{◌≡◌, ℕ, ◌==◌, true, false, List, [], �
 use Rattle.std.specs.List.{flat_map}
 use Rattle.zs_sample.specs.Reply.{Replied}
 use Rattle.zs_tables.specs.LivelinessGets.{is_asking, is_over}
-use Rattle.zs_tables.specs.declared.liveliness_get.LivelinessGet.{LivelinessGet as TokensGet}
+use Rattle.zs_tables.specs.Types.{LivelinessGet as TokensGet}
 use Rattle.zs_query.specs.Gets.{timeout_error}
 use Rattle.zs_events.specs.declared.event.Event.{Event}
 use Rattle.zs_events.specs.declared.turn.Effect.{Effect}

@@ -4,7 +4,7 @@ ghost use Rattle.zs_sample.specs.Quality.{priority_of};
 ghost use Rattle.zs_events.specs.declared.entity_kind.EntityKind.TheVariants.{Pub as publisher_kind};
 ghost use Rattle.zs_events.specs.declared.entity_kind.ParentKind.TheVariants.{Pub as publisher_parent};
 ghost use Rattle.zs_events.specs.declared.event.Event.TheVariants.{Status, Undeclare};
-ghost use Rattle.zs_cell.specs.Steps.{Accepts, Stops, Asks};
+ghost use Rattle.zs_cell.specs.Steps.{Accepts, AcceptsFor, Stops};
 ghost use Rattle.zs_calls.specs.Publications.{published, put_of, Deletes};
 ghost use Rattle.zs_declaring.specs.Statuses.{Tells};
 ghost use Rattle.zs_entities.specs.Builders.{new_listener};
@@ -225,9 +225,8 @@ impl<'a, H: Handler<Item> + Drop, B: Books> Publisher<'a, H, B> {
         waits: bool,
         caller: &mut Caller<B>,
     ) -> Result<Option<Drained>, SessionError>
-        ensures ok { OnOk result (Accepts H.evicts caller.old caller.new (Undeclare publisher_kind self.now.id) false None) }
+        ensures ok { IfOk result (λ drained. AcceptsFor H.evicts caller.old caller.new (Undeclare publisher_kind self.now.id) false None (waited_key waits (Undeclare publisher_kind self.now.id)) (is_some drained)) }
         ensures at_once { waits ≡ false → IfOk result (λ drained. drained ≡ None) }
-        ensures asked { IfOk result (λ drained. Asks caller.new (waited_key waits (Undeclare publisher_kind self.now.id)) (is_some drained)) }
         ensures err { IfErr result (λ why. Stops H.evicts caller.old caller.new (Undeclare publisher_kind self.now.id) false why) }
     {
         undeclare(self.session, rt, EntityKind::Pub, self.id, waits, caller)
@@ -246,9 +245,8 @@ impl<'a, H: Handler<Item> + Drop, B: Books> Undeclaration<Publisher<'a, H, B>> {
         rt: &R,
         caller: &mut Caller<B>,
     ) -> Result<Option<Drained>, Unspent<Publisher<'a, H, B>>>
-        ensures ok { OnOk result (Accepts H.evicts caller.old caller.new (Undeclare publisher_kind self.entry.value.id) false None) }
+        ensures ok { IfOk result (λ drained. AcceptsFor H.evicts caller.old caller.new (Undeclare publisher_kind self.entry.value.id) false None (waited_key self.entry.waits (Undeclare publisher_kind self.entry.value.id)) (is_some drained)) }
         ensures at_once { self.entry.waits ≡ false → IfOk result (λ drained. drained ≡ None) }
-        ensures asked { IfOk result (λ drained. Asks caller.new (waited_key self.entry.waits (Undeclare publisher_kind self.entry.value.id)) (is_some drained)) }
         ensures err { IfErr result (λ back. Stops H.evicts caller.old caller.new (Undeclare publisher_kind self.entry.value.id) false back.why) }
         ensures back { IfErr result (λ back. back.value ≡ self.entry.value) }
     {

@@ -1,10 +1,10 @@
 //! Queriers.
-ghost use Rattle.std.specs.Prelude.{◌≡◌, IfOk, IfErr, OnOk, None, false, is_some};
+ghost use Rattle.std.specs.Prelude.{◌≡◌, IfOk, IfErr, None, false, is_some};
 ghost use Rattle.zs_sample.specs.Quality.{priority_of};
 ghost use Rattle.zs_events.specs.declared.entity_kind.EntityKind.TheVariants.{Querier as querier_kind};
 ghost use Rattle.zs_events.specs.declared.entity_kind.ParentKind.TheVariants.{Querier as querier_parent};
 ghost use Rattle.zs_events.specs.declared.event.Event.TheVariants.{Status, Undeclare};
-ghost use Rattle.zs_cell.specs.Steps.{Accepts, Stops, Asks};
+ghost use Rattle.zs_cell.specs.Steps.{AcceptsFor, Stops};
 ghost use Rattle.zs_calls.specs.Gets.{querier_get};
 ghost use Rattle.zs_declaring.specs.Statuses.{Tells};
 ghost use Rattle.zs_entities.specs.Builders.{new_listener};
@@ -171,9 +171,8 @@ impl<'a, H: Handler<Item> + Drop, B: Books> Querier<'a, H, B> {
         waits: bool,
         caller: &mut Caller<B>,
     ) -> Result<Option<Drained>, SessionError>
-        ensures ok { OnOk result (Accepts H.evicts caller.old caller.new (Undeclare querier_kind self.now.id) false None) }
+        ensures ok { IfOk result (λ drained. AcceptsFor H.evicts caller.old caller.new (Undeclare querier_kind self.now.id) false None (waited_key waits (Undeclare querier_kind self.now.id)) (is_some drained)) }
         ensures at_once { waits ≡ false → IfOk result (λ drained. drained ≡ None) }
-        ensures asked { IfOk result (λ drained. Asks caller.new (waited_key waits (Undeclare querier_kind self.now.id)) (is_some drained)) }
         ensures err { IfErr result (λ why. Stops H.evicts caller.old caller.new (Undeclare querier_kind self.now.id) false why) }
     {
         undeclare(
@@ -199,9 +198,8 @@ impl<'a, H: Handler<Item> + Drop, B: Books> Undeclaration<Querier<'a, H, B>> {
         rt: &R,
         caller: &mut Caller<B>,
     ) -> Result<Option<Drained>, Unspent<Querier<'a, H, B>>>
-        ensures ok { OnOk result (Accepts H.evicts caller.old caller.new (Undeclare querier_kind self.entry.value.id) false None) }
+        ensures ok { IfOk result (λ drained. AcceptsFor H.evicts caller.old caller.new (Undeclare querier_kind self.entry.value.id) false None (waited_key self.entry.waits (Undeclare querier_kind self.entry.value.id)) (is_some drained)) }
         ensures at_once { self.entry.waits ≡ false → IfOk result (λ drained. drained ≡ None) }
-        ensures asked { IfOk result (λ drained. Asks caller.new (waited_key self.entry.waits (Undeclare querier_kind self.entry.value.id)) (is_some drained)) }
         ensures err { IfErr result (λ back. Stops H.evicts caller.old caller.new (Undeclare querier_kind self.entry.value.id) false back.why) }
         ensures back { IfErr result (λ back. back.value ≡ self.entry.value) }
     {

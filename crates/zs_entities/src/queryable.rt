@@ -1,6 +1,6 @@
 //! Queryables.
 ghost use Rattle.std.specs.Prelude.{◌≡◌, IfOk, IfErr, OnOk, None, false, is_some};
-ghost use Rattle.zs_cell.specs.Steps.{Accepts, Stops, Asks};
+ghost use Rattle.zs_cell.specs.Steps.{Accepts, AcceptsFor, Stops};
 ghost use Rattle.zs_events.specs.declared.entity_kind.BackgroundKind.TheVariants.{Queryable as left_queryable};
 ghost use Rattle.zs_events.specs.declared.entity_kind.EntityKind.TheVariants.{Queryable as queryable_kind};
 ghost use Rattle.zs_events.specs.declared.event.Event.TheVariants.{Undeclare, Background};
@@ -111,9 +111,8 @@ impl<'a, H: Handler<Item> + Drop, B: Books> Queryable<'a, H, B> {
         waits: bool,
         caller: &mut Caller<B>,
     ) -> Result<Option<Drained>, SessionError>
-        ensures ok { OnOk result (Accepts H.evicts caller.old caller.new (Undeclare queryable_kind self.now.id) false None) }
+        ensures ok { IfOk result (λ drained. AcceptsFor H.evicts caller.old caller.new (Undeclare queryable_kind self.now.id) false None (waited_key waits (Undeclare queryable_kind self.now.id)) (is_some drained)) }
         ensures at_once { waits ≡ false → IfOk result (λ drained. drained ≡ None) }
-        ensures asked { IfOk result (λ drained. Asks caller.new (waited_key waits (Undeclare queryable_kind self.now.id)) (is_some drained)) }
         ensures err { IfErr result (λ why. Stops H.evicts caller.old caller.new (Undeclare queryable_kind self.now.id) false why) }
     {
         undeclare(
@@ -139,9 +138,8 @@ impl<'a, H: Handler<Item> + Drop, B: Books> Undeclaration<Queryable<'a, H, B>> {
         rt: &R,
         caller: &mut Caller<B>,
     ) -> Result<Option<Drained>, Unspent<Queryable<'a, H, B>>>
-        ensures ok { OnOk result (Accepts H.evicts caller.old caller.new (Undeclare queryable_kind self.entry.value.id) false None) }
+        ensures ok { IfOk result (λ drained. AcceptsFor H.evicts caller.old caller.new (Undeclare queryable_kind self.entry.value.id) false None (waited_key self.entry.waits (Undeclare queryable_kind self.entry.value.id)) (is_some drained)) }
         ensures at_once { self.entry.waits ≡ false → IfOk result (λ drained. drained ≡ None) }
-        ensures asked { IfOk result (λ drained. Asks caller.new (waited_key self.entry.waits (Undeclare queryable_kind self.entry.value.id)) (is_some drained)) }
         ensures err { IfErr result (λ back. Stops H.evicts caller.old caller.new (Undeclare queryable_kind self.entry.value.id) false back.why) }
         ensures back { IfErr result (λ back. back.value ≡ self.entry.value) }
     {

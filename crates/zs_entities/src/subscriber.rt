@@ -1,6 +1,6 @@
 //! Subscribers, to what is published and to liveliness.
 ghost use Rattle.std.specs.Prelude.{◌≡◌, IfOk, IfErr, OnOk, None, false, is_some};
-ghost use Rattle.zs_cell.specs.Steps.{Accepts, Stops, Asks};
+ghost use Rattle.zs_cell.specs.Steps.{Accepts, AcceptsFor, Stops};
 ghost use Rattle.zs_entities.specs.Entities.{global_id, subscriber_kind, left_kind, end_subscriber, leave_subscriber};
 ghost use Rattle.zs_declaring.specs.Waits.{waited_key};
 
@@ -143,9 +143,8 @@ impl<'a, H: Handler<Item> + Drop, B: Books> Subscriber<'a, H, B> {
         waits: bool,
         caller: &mut Caller<B>,
     ) -> Result<Option<Drained>, SessionError>
-        ensures ok { OnOk result (Accepts H.evicts caller.old caller.new (end_subscriber self.now) false None) }
+        ensures ok { IfOk result (λ drained. AcceptsFor H.evicts caller.old caller.new (end_subscriber self.now) false None (waited_key waits (end_subscriber self.now)) (is_some drained)) }
         ensures at_once { waits ≡ false → IfOk result (λ drained. drained ≡ None) }
-        ensures asked { IfOk result (λ drained. Asks caller.new (waited_key waits (end_subscriber self.now)) (is_some drained)) }
         ensures err { IfErr result (λ why. Stops H.evicts caller.old caller.new (end_subscriber self.now) false why) }
     {
         let kind = subscriber_kind(self.liveliness);
@@ -165,9 +164,8 @@ impl<'a, H: Handler<Item> + Drop, B: Books> Undeclaration<Subscriber<'a, H, B>> 
         rt: &R,
         caller: &mut Caller<B>,
     ) -> Result<Option<Drained>, Unspent<Subscriber<'a, H, B>>>
-        ensures ok { OnOk result (Accepts H.evicts caller.old caller.new (end_subscriber self.entry.value) false None) }
+        ensures ok { IfOk result (λ drained. AcceptsFor H.evicts caller.old caller.new (end_subscriber self.entry.value) false None (waited_key self.entry.waits (end_subscriber self.entry.value)) (is_some drained)) }
         ensures at_once { self.entry.waits ≡ false → IfOk result (λ drained. drained ≡ None) }
-        ensures asked { IfOk result (λ drained. Asks caller.new (waited_key self.entry.waits (end_subscriber self.entry.value)) (is_some drained)) }
         ensures err { IfErr result (λ back. Stops H.evicts caller.old caller.new (end_subscriber self.entry.value) false back.why) }
         ensures back { IfErr result (λ back. back.value ≡ self.entry.value) }
     {

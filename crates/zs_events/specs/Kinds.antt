@@ -117,16 +117,16 @@ pub data ToLiveliness : Type 0 where
   EndsAnswers : (interest : Option ℕ) → ToLiveliness
 
 -- the cancellation token with which an event asks, if it asks with one, by what it is to gets and to liveliness
-abbrev pub asking_token : ToGets → ToLiveliness → Option ℕ
-asking_token (Asks question) to = question.inquiry.cancellation_token
-asking_token (AsksBy id inquiry) to = inquiry.cancellation_token
-asking_token _ (AsksTokens timeout token) = token
-asking_token _ _ = None
+abbrev pub asking_cancellation_token : ToGets → ToLiveliness → Option ℕ
+asking_cancellation_token (Asks question) to = question.inquiry.cancellation_token
+asking_cancellation_token (AsksBy id inquiry) to = inquiry.cancellation_token
+asking_cancellation_token _ (AsksTokens timeout token) = token
+asking_cancellation_token _ _ = None
 
 -- and the one that an event names
-abbrev pub token_named : ToGets → ToLiveliness → Option ℕ
-token_named (Cancels token) to = Some token
-token_named to_gets to = asking_token to_gets to
+abbrev pub cancellation_token_named : ToGets → ToLiveliness → Option ℕ
+cancellation_token_named (Cancels token) to = Some token
+cancellation_token_named to_gets to = asking_cancellation_token to_gets to
 
 -- what the network tells of its subscribers and queryables: nothing, one under this number, in place of the one before it, or that the
 -- one of this number is gone

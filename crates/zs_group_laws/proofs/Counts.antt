@@ -5,7 +5,7 @@ use Rattle.std.specs.List.{AllByRecursion, list_any}
 use Rattle.std.proofs.lemmas.Bool.Decides.{nat_tests}
 use Rattle.zs_members.specs.Names.{name_in}
 use Rattle.zs_tables.specs.Ascending.{Ascend, placed_by}
-use Rattle.zs_tables.specs.declared.told_token.ToldToken.{ToldToken}
+use Rattle.zs_tables.specs.Types.{ToldToken}
 use Rattle.zs_group_laws.specs.Groups.{stands_for, one_if, told_count}
 
 -- whether a token stands for a name

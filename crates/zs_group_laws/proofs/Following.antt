@@ -5,8 +5,7 @@ use Rattle.std.specs.List.{list_any}
 use Rattle.zs_keys.specs.Key.{undeclared}
 use Rattle.zs_wire.specs.declared.sample_kind.SampleKind.TheVariants.{Put, Delete}
 use Rattle.zs_tables.specs.Ascending.{Ascend, placed_by}
-use Rattle.zs_tables.specs.declared.liveliness_get.LivelinessGet.{LivelinessGet}
-use Rattle.zs_tables.specs.declared.told_token.ToldToken.{ToldToken}
+use Rattle.zs_tables.specs.Types.{LivelinessGet, ToldToken}
 use Rattle.zs_model.specs.LivelinessEffects.{Watch, token_hands, told_hands, ended_text, ended_hands}
 use Rattle.zs_model.specs.Tokens.{is_told, token_told}
 use Rattle.zs_members.specs.Members.{Member, count_of, changed}

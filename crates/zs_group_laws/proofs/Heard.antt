@@ -3,7 +3,7 @@ use Rattle.std.proofs.Common.{◌≡◌, ℕ, Bool, true, false, List, [], ◌�
 use Rattle.std.specs.Prelude.{map, filter, not, ◌&&◌, codes}
 use Rattle.zs_keys.specs.Matching.{intersects}
 use Rattle.zs_wire.specs.declared.sample_kind.SampleKind.{SampleKind}
-use Rattle.zs_tables.specs.declared.liveliness_sub.LivelinessSub.{LivelinessSub}
+use Rattle.zs_tables.specs.Types.{LivelinessSub}
 use Rattle.zs_tables.specs.declared.listener.ListenerRow.{ListenerRow}
 use Rattle.zs_tables.specs.MatchingLaws.{differ}
 use Rattle.zs_events.specs.declared.turn.Effect.{Effect}

@@ -1,24 +1,17 @@
 -- The tokens that a side holds are those that its accepted events declared and did not end.
-use Rattle.std.proofs.Common.{◌≡◌, ◌<◌, ℕ, ◌+◌, Bool, true, false, List, [], ◌∷◌, ◌++◌, Option, Some, None, refl, sym, ◌∙◌, ap, subst, arith, cond, map}
+use Rattle.std.proofs.Common.{◌≡◌, ◌<◌, ℕ, ◌+◌, Bool, true, false, List, [], ◌∷◌, ◌++◌, Option, Some, None, refl, sym, ◌∙◌, ap, subst, arith, cond}
 use Rattle.std.specs.Prelude.{◌==◌, not, filter, option_map, encode_utf8_all}
 use Rattle.std.specs.List.{AllByRecursion}
 use Rattle.std.proofs.lemmas.Bool.Decides.{nat_tests}
 use Rattle.zs_tables.specs.Ascending.{Ascend}
-use Rattle.zs_tables.specs.declared.told_token.ToldToken.{ToldToken}
+use Rattle.zs_tables.specs.Types.{ToldToken}
 use Rattle.zs_tables.proofs.Ascending.{ascend_filter}
 use Rattle.zs_delivery.specs.Tokens.{told_as}
 use Rattle.zs_members.specs.Names.{name_in}
 use Rattle.zs_group_lines.specs.declared.tokens.Token.{Token}
 use Rattle.zs_group_lines.specs.Tokens.{without}
-use Rattle.zs_group_laws.specs.Groups.{stands_for, one_if, held_count, told_count}
+use Rattle.zs_group_laws.specs.Groups.{stands_for, one_if, held_count, told_count, told_of, as_told}
 use Rattle.zs_group_laws.proofs.Same.{under}
-
--- a token as the other side has it
-abbrev pub told_of : Token → ToldToken
-told_of token = told_as token.id (encode_utf8_all token.key)
-
-abbrev pub as_told : List Token → List ToldToken
-as_told tokens = map told_of tokens
 
 pub held_told : (q : List ℕ) (tokens : List Token) → held_count q tokens ≡ told_count q (as_told tokens)
 held_told q [] = refl

@@ -3,22 +3,22 @@ use Rattle.std.proofs.Common.{◌≡◌, ℕ, ◌+◌, true, false, List, [], �
 use Rattle.std.specs.Prelude.{codes}
 use Rattle.std.specs.Str.{chars, all_scalars}
 use Rattle.std.proofs.lemmas.Str.{scalars-chars, IsUtf8-from_ascii}
-use Rattle.zs_tables.specs.declared.told_token.ToldToken.{ToldToken}
+use Rattle.zs_tables.specs.Types.{ToldToken}
 use Rattle.zs_events.specs.declared.event.Event.{Event}
 use Rattle.zs_events.specs.declared.event.Event.TheVariants.{Token, Undeclare}
 use Rattle.zs_model.specs.declared.settings.Settings.{Settings}
 use Rattle.zs_model.specs.Past.{past_of}
-use Rattle.zs_model.specs.Tokens.{told_tokens}
+use Rattle.zs_model.specs.Tokens.{remote_tokens}
 use Rattle.zs_delivery.specs.Linked.{Side, LinkLine, Take, Deliver, other, linked_after}
 use Rattle.zs_delivery.specs.Links.{is_net, AreOwn, AreSpelledLines}
 use Rattle.zs_delivery.specs.Tokens.{TellsTokens, BothTellTokens, ToldTokensAreDeclared}
 use Rattle.zs_members.proofs.Counting.{same_counts}
 use Rattle.zs_group_lines.specs.Membership.{view_of}
-use Rattle.zs_group_laws.specs.Groups.{kept, IsMemberEvent, AreMemberLines, first_links, held_count, told_count, SeesMembers, SidesSeeMembers}
+use Rattle.zs_group_laws.specs.Groups.{kept, IsMemberEvent, AreMemberLines, first_links, held_count, told_count, as_told, HoldsMembers, SeesAll, SeesMembers, SidesSeeMembers}
 use Rattle.zs_group_laws.proofs.Starting.{ascii}
 use Rattle.zs_group_laws.proofs.Viewing.{IsView, view_held, counts_held}
 use Rattle.zs_group_laws.proofs.Same.{same_tokens}
-use Rattle.zs_group_laws.proofs.Holding.{as_told, held_told}
+use Rattle.zs_group_laws.proofs.Holding.{held_told}
 use Rattle.zs_group_laws.proofs.Standing.{SideStands, BothStand, both_stand}
 
 sees : (s : Settings) (side : Side) → SideStands s side → SeesMembers s side
@@ -28,11 +28,23 @@ sees s side stands name =
 
 -- what a side was told is what the other holds, where nothing of that waits
 told_held : (s t : Settings) (from to : Side) → SideStands s from → SideStands t to → TellsTokens s t from to → from.waiting ≡ []
-    → told_tokens t (past_of t to.history) ≡ as_told (kept s from.history).tokens
+    → remote_tokens t (past_of t to.history) ≡ as_told (kept s from.history).tokens
 told_held s t from to sender receiver tells idle =
     let has = tells idle receiver.stands.unshut in
-    same_tokens (told_tokens t (past_of t to.history)) (as_told (kept s from.history).tokens) has.ascend sender.stands.holds.up
+    same_tokens (remote_tokens t (past_of t to.history)) (as_told (kept s from.history).tokens) has.ascend sender.stands.holds.up
     (λ n. has.told n ∙ has.declared n ∙ sym (sender.stands.holds.found n))
+
+-- what it holds is what it declared
+holds : (s : Settings) (side : Side) → SideStands s side → HoldsMembers s side
+holds s side stands = record { ascend = stands.stands.holds.up; declared = stands.stands.holds.found }
+
+-- and it sees all that both hold, where nothing of the other waits
+sees_all : (s t : Settings) (side opposite : Side) → SideStands s side → SideStands t opposite → TellsTokens t s opposite side → SeesAll s t side opposite
+sees_all s t side opposite one two tells idle name =
+    let mine = (kept s side.history).tokens in
+    sees s side one name
+    ∙ ap (λ (tokens : List ToldToken). held_count name mine + told_count name tokens) (told_held t s opposite side two one tells idle)
+    ∙ ap (λ (n : ℕ). held_count name mine + n) (sym (held_told name (kept t opposite.history).tokens))
 
 turned : (m n : ℕ) → m + n ≡ n + m
 turned m n = omega arith
@@ -47,13 +59,9 @@ both_same s t a b one two forth back idle_a idle_b =
     let view_b : IsView (view_of (kept t b.history)) = view_held theirs (kept t b.history).heard two.stands.agrees.is in
     same_counts (view_of (kept s a.history)) (view_of (kept t b.history)) view_a.ascend view_b.ascend view_a.there view_b.there
     (λ name.
-    sees s a one name
-    ∙ ap (λ (tokens : List ToldToken). held_count name mine + told_count name tokens) (told_held t s b a two one back idle_b)
-    ∙ ap (λ (n : ℕ). held_count name mine + n) (sym (held_told name theirs))
+    sees_all s t a b one two back idle_b name
     ∙ turned (held_count name mine) (held_count name theirs)
-    ∙ ap (λ (n : ℕ). held_count name theirs + n) (held_told name mine)
-    ∙ ap (λ (tokens : List ToldToken). held_count name theirs + told_count name tokens) (sym (told_held s t a b one two forth idle_a))
-    ∙ sym (sees t b two name))
+    ∙ sym (sees_all t s b a two one forth idle_a name))
 
 -- the lines are of applications, and spelled
 own_event : (e : Event) → IsMemberEvent e → is_net e ≡ false
@@ -79,5 +87,9 @@ both_see told s lines aggregates first second fine spelled =
     record {
       of_a = sees s w.a both.of_a;
       of_b = sees (other s) w.b both.of_b;
+      holds_a = holds s w.a both.of_a;
+      holds_b = holds (other s) w.b both.of_b;
+      all_a = sees_all s (other s) w.a w.b both.of_a both.of_b tells.back;
+      all_b = sees_all (other s) s w.b w.a both.of_b both.of_a tells.forth;
       same = both_same s (other s) w.a w.b both.of_a both.of_b tells.forth tells.back;
     }

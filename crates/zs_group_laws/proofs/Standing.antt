@@ -1,5 +1,5 @@
 -- What stands of the sides of a group behind every schedule.
-use Rattle.std.proofs.Common.{◌≡◌, ℕ, Bool, true, false, List, [], ◌∷◌, ◌++◌, Option, Some, None, refl, sym, ◌∙◌, subst}
+use Rattle.std.proofs.Common.{◌≡◌, ℕ, Bool, true, false, List, [], ◌∷◌, ◌++◌, Option, Some, None, refl, sym, ◌∙◌, ap, subst}
 use Rattle.std.specs.Prelude.{codes, option_map, if◌then◌else◌}
 use Rattle.std.specs.List.{AllByRecursion}
 use Rattle.std.specs.Str.{chars}
@@ -10,7 +10,7 @@ use Rattle.zs_events.specs.declared.entity_kind.EntityKind.TheVariants.{Token as
 use Rattle.zs_events.specs.declared.event.Event.{Event}
 use Rattle.zs_events.specs.declared.event.Event.TheVariants.{Token, Undeclare, Lsub, Net}
 use Rattle.zs_events.specs.declared.key_arg.KeyArg.{KeyArg}
-use Rattle.zs_events.specs.declared.key_arg.KeyArg.TheVariants.{Text, Number, Declared}
+use Rattle.zs_events.specs.declared.key_arg.KeyArg.TheVariants.{Text}
 use Rattle.zs_events.specs.declared.turn.Kind.TheVariants.{LivelinessSubscriber}
 use Rattle.zs_events.specs.declared.turn.Refusal.{Refusal}
 use Rattle.zs_events.specs.declared.turn.Turn.{Turn}
@@ -18,13 +18,14 @@ use Rattle.zs_events.specs.Turn.{answered}
 use Rattle.zs_model.specs.declared.settings.Settings.{Settings}
 use Rattle.zs_model.specs.Entry.{Entry, is_closed}
 use Rattle.zs_model.specs.Held.{named_text}
-use Rattle.zs_model.specs.Live.{drew, live_lsubs}
+use Rattle.zs_model.specs.Live.{drew_as, ends_as, live_lsubs}
+use Rattle.zs_model.proofs.Entities.{message_none}
 use Rattle.zs_model.specs.Causes.{refusal_of}
 use Rattle.zs_model.specs.Counters.{next_entity}
 use Rattle.zs_model.specs.Past.{entry_of, with_entry, past_of}
 use Rattle.zs_model.specs.Effects.{Known, known_of, effects_behind}
 use Rattle.zs_model.specs.Received.{messages_of}
-use Rattle.zs_model.specs.Tokens.{told_tokens, asking_now}
+use Rattle.zs_model.specs.Tokens.{remote_tokens, asking_now}
 use Rattle.zs_model.proofs.Tokens.{tokens_ascend}
 use Rattle.zs_laws.proofs.SentMessages.{told_by_event}
 use Rattle.zs_delivery.specs.declared.side.LinkSide.TheVariants.{A, B}
@@ -41,12 +42,13 @@ use Rattle.zs_group_laws.proofs.Staying.{Stays, subs_stay, open_stays}
 use Rattle.zs_group_laws.proofs.Following.{Agrees, agrees_told, agrees_ended}
 use Rattle.zs_group_laws.proofs.Effects.{token_behind, end_behind, told_behind_hands, ended_behind_hands, hearing_behind}
 use Rattle.zs_group_laws.proofs.Holding.{Holds, holds_more, holds_less}
+use Rattle.zs_events.specs.Kinds.{ToEntities}
 
 -- what is known of a side: it is open, it has the one liveliness subscriber, its view counts what it was told, and it holds what it declared
 pub record Stands (s : Settings) (past : List Entry) (m : Membership) : Type 0 where
   pub unshut : is_closed past ≡ false
   pub subs : live_lsubs past ≡ hearer_row ∷ []
-  pub agrees : Agrees m.heard (told_tokens s past)
+  pub agrees : Agrees m.heard (remote_tokens s past)
   pub holds : Holds (next_entity s past) (λ n. token_now n past) m.tokens
 
 -- the turn of an event behind accepted events
@@ -59,11 +61,11 @@ turn_is s h e = refl
 
 -- a view counts what was told, and the tokens are those that were declared
 abbrev Both : Settings → List Entry → Membership → Type 0
-Both s past m = Agrees m.heard (told_tokens s past) × Holds (next_entity s past) (λ n. token_now n past) m.tokens
+Both s past m = Agrees m.heard (remote_tokens s past) × Holds (next_entity s past) (λ n. token_now n past) m.tokens
 
 -- a step of an open side, where an accepted event makes so much of it
 step : (s : Settings) (h : List Event) (e : Event) (m : Membership) → Stays e → Stands s (past_of s h) m
-    → Agrees (heard hearer (effects_behind s (past_of s h) e) m.heard) (told_tokens s (entry_of s (past_of s h) e ∷ past_of s h))
+    → Agrees (heard hearer (effects_behind s (past_of s h) e) m.heard) (remote_tokens s (entry_of s (past_of s h) e ∷ past_of s h))
     → Holds (next_entity s (entry_of s (past_of s h) e ∷ past_of s h)) (λ n. token_now n (entry_of s (past_of s h) e ∷ past_of s h))
     (noted e (answered None (entry_of s (past_of s h) e).number (effects_behind s (past_of s h) e)) m).tokens
     → ((refusal : Refusal) → (noted e (answered (Some refusal) None []) m).tokens ≡ m.tokens)
@@ -90,23 +92,24 @@ step s h e m stays stands agrees holds refused = record {
 
 -- tokens and their ends, by the own side and by the other
 token_stays : (key : KeyArg) → Stays (Token key)
-token_stays key = record { open_still = refl; declares_none = λ n text. refl; draws_none = λ id n. go id n; ends_none = λ id. refl }
-  where
-    go : (id : ℕ) (n : Option ℕ) → drew LivelinessSubscriber id (Token key) n ≡ false
-    go id None = refl
-    go id (Some n) = refl
+token_stays key = record { open_still = refl; declares_none = λ n text. refl; draws_none = λ id n. refl; ends_none = λ id. refl }
 
 end_stays : (n : ℕ) → Stays (Undeclare token_kind n)
 end_stays n = record { open_still = refl; declares_none = λ number text. refl; draws_none = λ id number. refl; ends_none = λ id. refl }
 
 message_stays : (m : Message) → Stays (Net m)
-message_stays m = record { open_still = refl; declares_none = λ n text. refl; draws_none = λ id n. refl; ends_none = λ id. refl }
+message_stays m = record {
+  open_still = refl;
+  declares_none = λ n text. refl;
+  draws_none = λ id n. ap (λ (to : ToEntities). drew_as LivelinessSubscriber id to n) (message_none m);
+  ends_none = λ id. ap (ends_as LivelinessSubscriber id) (message_none m);
+}
 
 step_token : (s : Settings) (h : List Event) (text : List ℕ) (m : Membership) → Stands s (past_of s h) m → Stands s (past_of s (Token (Text text) ∷ h)) (noted (Token (Text text)) (turn_behind s h (Token (Text text))) m)
 step_token s h text m stands =
     let past = past_of s h in
     step s h (Token (Text text)) m (token_stays (Text text)) stands
-    (subst (λ (view : List Member). Agrees view (told_tokens s past)) (sym (token_behind s past (Text text) hearer m.heard)) stands.agrees)
+    (subst (λ (view : List Member). Agrees view (remote_tokens s past)) (sym (token_behind s past (Text text) hearer m.heard)) stands.agrees)
     (holds_more (next_entity s past) (λ n. token_now n past) (λ n. token_now n (entry_of s past (Token (Text text)) ∷ past)) m.tokens text stands.holds (λ k. refl))
     (λ refusal. refl)
 
@@ -114,7 +117,7 @@ step_end : (s : Settings) (h : List Event) (n : ℕ) (m : Membership) → Stands
 step_end s h n m stands =
     let past = past_of s h in
     step s h (Undeclare token_kind n) m (end_stays n) stands
-    (subst (λ (view : List Member). Agrees view (told_tokens s past)) (sym (end_behind s past n hearer m.heard)) stands.agrees)
+    (subst (λ (view : List Member). Agrees view (remote_tokens s past)) (sym (end_behind s past n hearer m.heard)) stands.agrees)
     (holds_less n (next_entity s past) (λ k. token_now k past) (λ k. token_now k (entry_of s past (Undeclare token_kind n) ∷ past)) m.tokens stands.holds (λ k. refl))
     (λ refusal. refl)
 
@@ -134,7 +137,7 @@ step_told s h number wire m stands =
     let past = past_of s h in
     let e = Net (DeclareToken number wire None) in
     step s h e m (message_stays (DeclareToken number wire None)) stands
-    (subst (λ (view : List Member). Agrees view (told_tokens s (entry_of s past e ∷ past))) (sym (told_behind_hands s past number wire hearer m.heard))
+    (subst (λ (view : List Member). Agrees view (remote_tokens s (entry_of s past e ∷ past))) (sym (told_behind_hands s past number wire hearer m.heard))
     (agrees_told (known_of s past).watch (asking_now s past) number (named_text past e) m.heard stands.subs stands.agrees))
     stands.holds
     (λ refusal. refl)
@@ -145,7 +148,7 @@ step_ended s h number interest m stands =
     let past = past_of s h in
     let e = Net (UndeclareToken number None interest) in
     step s h e m (message_stays (UndeclareToken number None interest)) stands
-    (subst (λ (view : List Member). Agrees view (told_tokens s (entry_of s past e ∷ past))) (sym (ended_behind_hands s past number interest hearer m.heard))
+    (subst (λ (view : List Member). Agrees view (remote_tokens s (entry_of s past e ∷ past))) (sym (ended_behind_hands s past number interest hearer m.heard))
     (agrees_ended (known_of s past).watch number interest m.heard stands.subs (tokens_ascend s past) stands.agrees))
     stands.holds
     (λ refusal. refl)
@@ -198,11 +201,8 @@ behind_own : (s : Settings) (e : Event) (side : Side) → IsMemberEvent e → Si
 behind_own s (Token (Text text)) side fine before =
     behind_event s (Token (Text text)) side before (step_token s side.history text (kept s side.history) before.stands)
     (sent_by s side.history (Token (Text text)) (tells_token (known_of s (past_of s side.history)) (Text text) (entry_of s (past_of s side.history) (Token (Text text))).number (named_text (past_of s side.history) (Token (Text text)))))
-behind_own s (Token (Number number suffix)) side fine before = absurd fine
-behind_own s (Token (Declared text number prefix_len)) side fine before = absurd fine
 behind_own s (Undeclare token_kind n) side fine before =
     behind_event s (Undeclare token_kind n) side before (step_end s side.history n (kept s side.history) before.stands) (sent_by s side.history (Undeclare token_kind n) (refl, tt))
-behind_own s (Undeclare kind n) side fine before = absurd fine
 behind_own s e side fine before = absurd fine
 
 behind_given : (s : Settings) (messages : List Message) (side : Side) → AreTokenMessages messages → SideStands s side → SideStands s (with_oldest s messages side)
@@ -227,7 +227,7 @@ stands_first : (s : Settings) → Starts s → Stands s (past_of s first_events)
 stands_first s starts = record {
   unshut = starts.unshut;
   subs = starts.subs;
-  agrees = subst (λ (turn : Turn). Agrees (noted hearing turn nobody).heard (told_tokens s (past_of s first_events))) (sym (turn_is s [] hearing)) (go (refusal_of s [] hearing));
+  agrees = subst (λ (turn : Turn). Agrees (noted hearing turn nobody).heard (remote_tokens s (past_of s first_events))) (sym (turn_is s [] hearing)) (go (refusal_of s [] hearing));
   holds = subst (λ (turn : Turn). Holds (next_entity s (past_of s first_events)) (λ (n : ℕ). token_now n (past_of s first_events)) (noted hearing turn nobody).tokens) (sym (turn_is s [] hearing))
       (record { up = tt; below = tt; found = λ n. none n (refusal_of s [] hearing) });
 }
@@ -235,7 +235,7 @@ stands_first s starts = record {
     empty : Agrees [] []
     empty = record { is = record { ascend = ascend_nothing; there = tt }; counts = λ q. refl }
 
-    go : (o : Option Refusal) → Agrees (heard hearer (turn_on s [] hearing false o).effects []) (told_tokens s (with_entry o false (entry_of s [] hearing) []))
+    go : (o : Option Refusal) → Agrees (heard hearer (turn_on s [] hearing false o).effects []) (remote_tokens s (with_entry o false (entry_of s [] hearing) []))
     go None = subst (λ (view : List Member). Agrees view []) (sym (hearing_behind s hearer)) empty
     go (Some refusal) = empty
 

@@ -2,7 +2,7 @@
 use Rattle.std.proofs.Common.{◌≡◌, ℕ, List, [], ◌∷◌, Bool, true, false, Option, Some, None, refl, ◌∙◌, ap, cond}
 use Rattle.std.specs.Prelude.{◌&&◌, ◌||◌, not, filter}
 use Rattle.std.specs.List.{list_any}
-use Rattle.zs_tables.specs.declared.liveliness_sub.LivelinessSub.{LivelinessSub}
+use Rattle.zs_tables.specs.Types.{LivelinessSub}
 use Rattle.zs_events.specs.declared.event.Event.{Event}
 use Rattle.zs_events.specs.declared.turn.Kind.TheVariants.{LivelinessSubscriber}
 use Rattle.zs_events.specs.declared.turn.Refusal.{Refusal}

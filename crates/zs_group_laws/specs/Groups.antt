@@ -1,10 +1,10 @@
 -- Two linked sessions of a group: the tokens that each holds, and those of the other that it hears of.
-use Rattle.std.specs.Prelude.{◌≡◌, ℕ, ◌+◌, Bool, true, false, List, [], ◌∷◌, ◌++◌, Option, Some, None, codes, bytes_eq, encode_utf8_all, if◌then◌else◌}
+use Rattle.std.specs.Prelude.{◌≡◌, ℕ, ◌+◌, ◌==◌, Bool, true, false, List, [], ◌∷◌, ◌++◌, map, find, Option, Some, None, option_map, codes, bytes_eq, encode_utf8_all, if◌then◌else◌}
 use Rattle.std.specs.List.{AllByRecursion}
 use Rattle.std.specs.Str.{chars}
 use Rattle.zs_keys.specs.Key.{undeclared}
-use Rattle.zs_tables.specs.declared.liveliness_sub.LivelinessSub.{LivelinessSub}
-use Rattle.zs_tables.specs.declared.told_token.ToldToken.{ToldToken}
+use Rattle.zs_tables.specs.Ascending.{Ascend}
+use Rattle.zs_tables.specs.Types.{LivelinessSub, ToldToken}
 use Rattle.zs_events.specs.declared.entity_kind.EntityKind.{EntityKind}
 use Rattle.zs_events.specs.declared.entity_kind.EntityKind.TheVariants.{Token as token_kind}
 use Rattle.zs_events.specs.declared.event.Event.{Event}
@@ -14,15 +14,16 @@ use Rattle.zs_events.specs.declared.key_arg.KeyArg.TheVariants.{Text}
 use Rattle.zs_events.specs.declared.turn.Turn.{Turn}
 use Rattle.zs_model.specs.declared.settings.Settings.{Settings}
 use Rattle.zs_model.specs.Settings.{default_settings}
-use Rattle.zs_model.specs.Entry.{is_closed}
+use Rattle.zs_model.specs.Entry.{Entry, is_closed}
 use Rattle.zs_model.specs.Live.{live_lsubs}
 use Rattle.zs_model.specs.Past.{past_of}
 use Rattle.zs_model.specs.Effects.{effects}
 use Rattle.zs_model.specs.Received.{AreSpelled}
-use Rattle.zs_model.specs.Tokens.{told_tokens}
+use Rattle.zs_model.specs.Tokens.{remote_tokens}
 use Rattle.zs_delivery.specs.declared.side.LinkSide.TheVariants.{A, B}
 use Rattle.zs_delivery.specs.Linked.{Side, LinkLine, Take, Deliver, other, linked_after}
 use Rattle.zs_delivery.specs.Links.{AreSpelledLines}
+use Rattle.zs_delivery.specs.Tokens.{token_now, told_as}
 use Rattle.zs_members.specs.Members.{count_of}
 use Rattle.zs_members.specs.Names.{name_in}
 use Rattle.zs_group_lines.specs.declared.membership.Membership.{Membership}
@@ -104,12 +105,37 @@ told_count name (token ∷ tokens) = one_if (stands_for name (name_in token.key.
 -- a side sees of each name as many as it holds and as it was told
 abbrev pub SeesMembers : Settings → Side → Type 0
 SeesMembers s side =
-    (name : List ℕ) → count_of name (view_of (kept s side.history)) ≡ held_count name (kept s side.history).tokens + told_count name (told_tokens s (past_of s side.history))
+    (name : List ℕ) → count_of name (view_of (kept s side.history)) ≡ held_count name (kept s side.history).tokens + told_count name (remote_tokens s (past_of s side.history))
 
--- both sides do; and where nothing waits, they see the same
+-- a token that a side holds, as the other is told of it
+abbrev pub told_of : Token → ToldToken
+told_of token = told_as token.id (encode_utf8_all token.key)
+
+abbrev pub as_told : List Token → List ToldToken
+as_told tokens = map told_of tokens
+
+-- the tokens that a side holds are those that its accepted events declared and did not end: under each number that one, and they ascend
+pub record HoldsDeclared (past : List Entry) (tokens : List Token) : Type 0 where
+  pub ascend : Ascend (λ token. token.number) (as_told tokens)
+  pub declared : (id : ℕ) → find (λ token. token.number == id) (as_told tokens) ≡ option_map (told_as id) (token_now id past)
+
+abbrev pub HoldsMembers : Settings → Side → Type 0
+HoldsMembers s side = HoldsDeclared (past_of s side.history) (kept s side.history).tokens
+
+-- where nothing of the other waits, a side sees of each name as many as both hold
+abbrev pub SeesAll : Settings → Settings → Side → Side → Type 0
+SeesAll s t side opposite =
+    opposite.waiting ≡ [] → (name : List ℕ)
+    → count_of name (view_of (kept s side.history)) ≡ held_count name (kept s side.history).tokens + held_count name (kept t opposite.history).tokens
+
+-- both sides do; and where nothing waits, they see all, and the same
 pub record BothSee (s : Settings) (a b : Side) : Type 0 where
   pub of_a : SeesMembers s a
   pub of_b : SeesMembers (other s) b
+  pub holds_a : HoldsMembers s a
+  pub holds_b : HoldsMembers (other s) b
+  pub all_a : SeesAll s (other s) a b
+  pub all_b : SeesAll (other s) s b a
   pub same : a.waiting ≡ [] → b.waiting ≡ [] → view_of (kept s a.history) ≡ view_of (kept (other s) b.history)
 
 -- behind every schedule

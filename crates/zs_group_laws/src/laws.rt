@@ -4,8 +4,9 @@ ghost use Rattle.zs_group_laws.specs.Groups.{DefaultSessionsStart, SidesSeeMembe
 
 use zs_delivery::told_tokens_are_declared;
 
-/// Behind every schedule of joins, leaves and deliveries, a side sees of each name as many as it holds tokens itself and as it
-/// was told tokens of the other side that were not ended; and where nothing waits, both sides see the same.
+/// Behind every schedule of joins, leaves and deliveries, the tokens that a side holds are those that its accepted events declared
+/// and did not end. It sees of each name as many as it holds tokens itself and as it was told tokens of the other side that were
+/// not ended: where nothing of the other waits, as many as both hold. Where nothing waits at all, both sides see the same.
 pub fn sides_see_members()
     ensures { SidesSeeMembers }
 {

@@ -5,7 +5,7 @@ use Rattle.zs_events.specs.declared.turn.Turn.{Turn}
 use Rattle.zs_wire.specs.declared.message.Message.{Message}
 use Rattle.zs_core.specs.Types.{Settings}
 use Rattle.zs_core.specs.Past.{past_of}
-use Rattle.zs_core.specs.Tokens.{told_tokens}
+use Rattle.zs_core.specs.Tokens.{remote_tokens}
 use Rattle.zs_session_cell.specs.Core.{turn_at}
 use Rattle.zs_driving.specs.Languages.{events_of}
 use Rattle.zs_delivery.specs.declared.side.LinkSide.{LinkSide}
@@ -14,10 +14,10 @@ use Rattle.zs_delivery.specs.Linked.{LinkLine, other, linked_after}
 use Rattle.zs_members.specs.Members.{count_of}
 use Rattle.zs_group_lines.specs.declared.membership.Membership.{Membership}
 use Rattle.zs_group_lines.specs.Membership.{noted, view_of}
-use Rattle.zs_group_laws.specs.Groups.{turn_behind, kept as kept_behind, held_count, told_count, BothSee, SidesSeeMembers}
+use Rattle.zs_group_laws.specs.Groups.{turn_behind, kept as kept_behind, held_count, told_count, HoldsDeclared, BothSee, SidesSeeMembers}
 use Rattle.zs_groups.specs.Told.{kept, membership_at, first_links}
 use Rattle.zs_groups.specs.Language.{links_behind, group_language}
-use Rattle.zs_groups.specs.Laws.{ShowsMembers, BothShow, ViewsShowMembers}
+use Rattle.zs_groups.specs.Laws.{ShowsMembers, HoldsMembers, ShowsAll, BothShow, ViewsShowMembers}
 use Rattle.zs_groups.proofs.Lines.{Grows, all_said, links_grow}
 
 same_turn : (s : Settings) (h : List Event) (e : Event) → turn_behind s h e ≡ turn_at s h e
@@ -38,6 +38,8 @@ none_waits (m ∷ messages) none = absurd (omega (arith, none))
 behind_links : (s : Settings) (links : List LinkLine) → BothSee s (linked_after s links).a (linked_after s links).b → BothShow s links
 behind_links s links both = record {
   each = go;
+  holds = hold;
+  all = sees_all;
   same = λ idle_a idle_b.
       ap view_of (sym (same_kept s (linked_after s links).a.history))
       ∙ both.same (none_waits (linked_after s links).a.waiting idle_a) (none_waits (linked_after s links).b.waiting idle_b)
@@ -46,11 +48,36 @@ behind_links s links both = record {
   where
     go : (side : LinkSide) → ShowsMembers s links side
     go A name =
-        subst (λ (m : Membership). count_of name (view_of m) ≡ held_count name m.tokens + told_count name (told_tokens s (past_of s (linked_after s links).a.history)))
+        subst (λ (m : Membership). count_of name (view_of m) ≡ held_count name m.tokens + told_count name (remote_tokens s (past_of s (linked_after s links).a.history)))
         (same_kept s (linked_after s links).a.history) (both.of_a name)
     go B name =
-        subst (λ (m : Membership). count_of name (view_of m) ≡ held_count name m.tokens + told_count name (told_tokens (other s) (past_of (other s) (linked_after s links).b.history)))
+        subst (λ (m : Membership). count_of name (view_of m) ≡ held_count name m.tokens + told_count name (remote_tokens (other s) (past_of (other s) (linked_after s links).b.history)))
         (same_kept (other s) (linked_after s links).b.history) (both.of_b name)
+
+    hold : (side : LinkSide) → HoldsMembers s links side
+    hold A =
+        subst (λ (m : Membership). HoldsDeclared (past_of s (linked_after s links).a.history) m.tokens) (same_kept s (linked_after s links).a.history) both.holds_a
+    hold B =
+        subst (λ (m : Membership). HoldsDeclared (past_of (other s) (linked_after s links).b.history) m.tokens) (same_kept (other s) (linked_after s links).b.history)
+        both.holds_b
+
+    -- two memberships for two others
+    both_kept : (name : List ℕ) (m n mine theirs : Membership) → m ≡ mine → n ≡ theirs
+        → count_of name (view_of m) ≡ held_count name m.tokens + held_count name n.tokens
+        → count_of name (view_of mine) ≡ held_count name mine.tokens + held_count name theirs.tokens
+    both_kept name m n mine theirs first second sees =
+        subst (λ (k : Membership). count_of name (view_of mine) ≡ held_count name mine.tokens + held_count name k.tokens) second
+        (subst (λ (k : Membership). count_of name (view_of k) ≡ held_count name k.tokens + held_count name n.tokens) first sees)
+
+    sees_all : (side : LinkSide) → ShowsAll s links side
+    sees_all A idle name =
+        both_kept name (kept_behind s (linked_after s links).a.history) (kept_behind (other s) (linked_after s links).b.history) (membership_at s A links) (membership_at s B links)
+        (same_kept s (linked_after s links).a.history) (same_kept (other s) (linked_after s links).b.history)
+        (both.all_a (none_waits (linked_after s links).b.waiting idle) name)
+    sees_all B idle name =
+        both_kept name (kept_behind (other s) (linked_after s links).b.history) (kept_behind s (linked_after s links).a.history) (membership_at s B links) (membership_at s A links)
+        (same_kept (other s) (linked_after s links).b.history) (same_kept s (linked_after s links).a.history)
+        (both.all_b (none_waits (linked_after s links).a.waiting idle) name)
 
 pub views_show : SidesSeeMembers → ViewsShowMembers
 views_show law s rows aggregates first second =

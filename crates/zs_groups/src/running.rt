@@ -22,7 +22,8 @@ use zs_keys::{Sink, Source};
 /// go to the sink. Both sessions have the default settings but for the identifier and the tag of the second.
 ///
 /// Whatever lines were read, what `view` shows of a side is of each name as many as it holds tokens of it and as it was told tokens
-/// of the other's of it that were not ended; where nothing waits, both sides show the same.
+/// of the other's of it that were not ended: where nothing of the other waits, as many as both hold. What a side holds is what its
+/// accepted lines joined and did not leave. Where nothing waits at all, both sides show the same.
 ///
 /// The status is 0 at the end of input. 2 says that there are words; then nothing is read or written. 3 says that a line is
 /// none of the program's, 4 that a line is too long, 5 that there were too many reads, 6 that the source failed, 7 that the

@@ -7,6 +7,7 @@ ghost use Rattle.zs_world.specs.Changes.{Fits, with_change};
 ghost use Rattle.zs_world.specs.MatchingChanges.{MatchingFits};
 ghost use Rattle.zs_world.specs.MatchingTables.{heard_effect};
 ghost use Rattle.zs_model.specs.Listeners.{listener_ends};
+ghost use Rattle.zs_tables.specs.Ascending.{Ascend};
 
 use std::alloc::AllocError;
 use zs_events::{Effect, Effects, Kind};
@@ -27,7 +28,7 @@ pub fn hear(world: &SessionTables, change: &Change, effects: &mut Effects) -> Re
     match change {
         Change::OfEntities(change) => hear_entities(world, change, effects),
         Change::OfMatching(change) => hear_matching(world, change, effects),
-        Change::Shut => push_ends(world.matching.listeners().rows(), effects),
+        Change::Shut => push_ends(world.matching.listeners(), effects),
         Change::Nothing => Ok(()),
         Change::OfKeys(_) => Ok(()),
         Change::OfNetwork(_) => Ok(()),
@@ -96,7 +97,7 @@ fn hear_sub_end(world: &SessionTables, id: u32, effects: &mut Effects) -> Result
     ensures { OnOk result (effects.new ≡ effects.old
         ++ listener_effects_at world.now (with_change (Change.OfEntities (EntityChange.EndSub id)) world.now)) }
 {
-    let _ascending = world.tables.rows();
+    let _ascending = world.tables.len();
     let goes = own_sub_of(&world.tables, id);
     push_heard(world.matching.listeners(), goes, None, effects)
 }
@@ -123,7 +124,7 @@ fn hear_queryable_end(
     ensures { OnOk result (effects.new ≡ effects.old
         ++ listener_effects_at world.now (with_change (Change.OfEntities (EntityChange.EndQueryable id)) world.now)) }
 {
-    let _ascending = world.queryables.rows();
+    let _ascending = world.queryables.len();
     let goes = own_queryable_of(&world.queryables, id);
     push_heard(world.matching.listeners(), goes, None, effects)
 }
@@ -133,7 +134,7 @@ fn hear_pub_end(world: &SessionTables, id: u32, effects: &mut Effects) -> Result
     ensures { OnOk result (effects.new ≡ effects.old
         ++ listener_effects_at world.now (with_change (Change.OfEntities (EntityChange.EndPub id)) world.now)) }
 {
-    push_ends_of(world.matching.listeners().rows(), id, effects)
+    push_ends_of(world.matching.listeners(), id, effects)
 }
 
 /// A querier ends, and with it those that listen to it.
@@ -141,7 +142,7 @@ fn hear_querier_end(world: &SessionTables, id: u32, effects: &mut Effects) -> Re
     ensures { OnOk result (effects.new ≡ effects.old
         ++ listener_effects_at world.now (with_change (Change.OfEntities (EntityChange.EndQuerier id)) world.now)) }
 {
-    push_ends_of(world.matching.listeners().rows(), id, effects)
+    push_ends_of(world.matching.listeners(), id, effects)
 }
 
 /// A new listener hears at once where anyone matches.
@@ -173,7 +174,7 @@ fn hear_listener_end(
     ensures { OnOk result (effects.new ≡ effects.old
         ++ listener_effects_at world.now (with_change (Change.OfMatching (MatchingChange.EndListener id)) world.now)) }
 {
-    let _ascending = world.matching.listeners().rows();
+    let _ascending = world.matching.listeners().len();
     push_end(world.matching.listeners(), id, effects)
 }
 
@@ -186,7 +187,7 @@ fn hear_told_sub(
     ensures { OnOk result (effects.new ≡ effects.old
         ++ listener_effects_at world.now (with_change (Change.OfMatching (MatchingChange.TellSub row.now)) world.now)) }
 {
-    let _ascending = world.matching.told().subs();
+    let _ascending = world.matching.told().sub_count();
     let goes = told_sub_of(world.matching.told(), row.number);
     let comes = Some(Candidate::told_sub(row));
     push_heard(world.matching.listeners(), goes, comes, effects)
@@ -201,7 +202,7 @@ fn hear_told_sub_end(
     ensures { OnOk result (effects.new ≡ effects.old
         ++ listener_effects_at world.now (with_change (Change.OfMatching (MatchingChange.ForgetSub number)) world.now)) }
 {
-    let _ascending = world.matching.told().subs();
+    let _ascending = world.matching.told().sub_count();
     let goes = told_sub_of(world.matching.told(), number);
     push_heard(world.matching.listeners(), goes, None, effects)
 }
@@ -215,7 +216,7 @@ fn hear_told_queryable(
     ensures { OnOk result (effects.new ≡ effects.old
         ++ listener_effects_at world.now (with_change (Change.OfMatching (MatchingChange.TellQueryable row.now)) world.now)) }
 {
-    let _ascending = world.matching.told().queryables();
+    let _ascending = world.matching.told().queryable_count();
     let goes = told_queryable_of(world.matching.told(), row.number);
     let comes = Some(Candidate::told_queryable(row));
     push_heard(world.matching.listeners(), goes, comes, effects)
@@ -230,7 +231,7 @@ fn hear_told_queryable_end(
     ensures { OnOk result (effects.new ≡ effects.old
         ++ listener_effects_at world.now (with_change (Change.OfMatching (MatchingChange.ForgetQueryable number)) world.now)) }
 {
-    let _ascending = world.matching.told().queryables();
+    let _ascending = world.matching.told().queryable_count();
     let goes = told_queryable_of(world.matching.told(), number);
     push_heard(world.matching.listeners(), goes, None, effects)
 }
@@ -263,22 +264,30 @@ fn push_one(one: &Recount, effects: &mut Effects) -> Result<(), AllocError>
     })
 }
 
-/// These listeners are called no more.
-fn push_ends(rows: &[ListenerRow], effects: &mut Effects) -> Result<(), AllocError>
-    ensures { OnOk result (effects.new ≡ effects.old ++ listener_ends rows.now) }
+/// All listeners are called no more.
+fn push_ends(listeners: &ListenerTable, effects: &mut Effects) -> Result<(), AllocError>
+    ensures { OnOk result (effects.new ≡ effects.old ++ listener_ends (map (λ l. l.row) listeners.now)) }
 {
-    for row in rows {
-        effects.push(end_of(row))?;
+    for (_id, listener) in listeners.iter() {
+        effects.push(end_of(listener.row.id))?;
     }
     Ok(())
 }
 
 /// Nor are those of a publisher or querier.
-fn push_ends_of(rows: &[ListenerRow], parent: u32, effects: &mut Effects) -> Result<(), AllocError>
-    ensures { OnOk result (effects.new ≡ effects.old ++ listener_ends (filter (λ row. row.parent == parent) rows.now)) }
+fn push_ends_of(
+    listeners: &ListenerTable,
+    parent: u32,
+    effects: &mut Effects,
+) -> Result<(), AllocError>
+    ensures ends { OnOk result (effects.new ≡ effects.old ++ listener_ends (filter (λ row. row.parent == parent) (map (λ l. l.row) listeners.now))) }
+    ensures ascending { Ascend (λ l. l.row.id) listeners.now }
 {
-    for row in rows {
-        push_end_if(row, row.parent == parent, effects)?;
+    let _ascending = listeners.len();
+    let mut last = None;
+    while let Some(id) = listeners.next_of(parent, last) {
+        effects.push(end_of(id))?;
+        last = Some(id);
     }
     Ok(())
 }
@@ -287,30 +296,19 @@ fn push_ends_of(rows: &[ListenerRow], parent: u32, effects: &mut Effects) -> Res
 fn push_end(listeners: &ListenerTable, id: u32, effects: &mut Effects) -> Result<(), AllocError>
     ensures { OnOk result (effects.new ≡ effects.old ++ listener_ends (filter (λ row. row.id == id) (map (λ l. l.row) listeners.now))) }
 {
-    let _ascending = listeners.rows();
+    let _ascending = listeners.len();
     if !listeners.has(id) {
         return Ok(());
     }
-    effects.push(Effect::End {
-        kind: Kind::Listener,
-        id,
-    })
+    effects.push(end_of(id))
 }
 
-fn push_end_if(row: &ListenerRow, ends: bool, effects: &mut Effects) -> Result<(), AllocError>
-    ensures { OnOk result (effects.new ≡ effects.old ++ listener_ends (filter (λ r. ends) (row.now ∷ []))) }
-{
-    if !ends {
-        return Ok(());
-    }
-    effects.push(end_of(row))
-}
-
-fn end_of(row: &ListenerRow) -> Effect
-    ensures { result ∷ [] ≡ listener_ends (row.now ∷ []) }
+/// The end of the listener of that number.
+fn end_of(id: u32) -> Effect
+    ensures { result ≡ Effect.End Kind.Listener id }
 {
     Effect::End {
         kind: Kind::Listener,
-        id: row.id,
+        id,
     }
 }

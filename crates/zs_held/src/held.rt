@@ -367,23 +367,16 @@ impl<H: Drop, B: Books> Held<H, B> {
         self.cell.ending()
     }
 
-    /// Marks the gate of a key and gives it out, with its handler, if it is a handler's, whether or not passes of it are out.
-    pub fn drain_of(&mut self, key: Key) -> Option<Closing<H>>
-        ensures some { IfSome result (λ closing. AreOf (held_at key self.old.session.exchange.posts) (option_map arc_value closing.handler) closing.draining.gate) }
-        ensures none { (result ≡ None) ↔ (held_at key self.old.session.exchange.posts ≡ None) }
-        ensures posts { self.new ≡ held_with (taken_out key self.old.session.exchange.posts) self.old }
-    {
-        self.cell.drain_of(key)
-    }
-
-    /// The same, with a receipt, which tells of it from then on.
+    /// Marks the gate of a key and gives it out, with its handler, if it is a handler's, whether or not passes of it are out. The
+    /// receipt, which said of no gate, tells of it from then on: no gate is given out in any other way.
     pub fn drain_for(&mut self, key: Key, receipt: &mut Receipt<B>) -> Option<Closing<H>>
+        requires { receipt.old.asked ≡ None }
         ensures some { IfSome result (λ closing. AreOf (held_at key self.old.session.exchange.posts) (option_map arc_value closing.handler) closing.draining.gate) }
         ensures none { (result ≡ None) ↔ (held_at key self.old.session.exchange.posts ≡ None) }
         ensures posts { self.new ≡ held_with (taken_out key self.old.session.exchange.posts) self.old }
         ensures receipt { receipt.new ≡ record receipt.old { asked = asked_of (Some key) (is_some result) } }
     {
-        let closing = self.drain_of(key);
+        let closing = self.cell.drain_of(key);
         let held = closing.is_some();
         receipt.asked = Some(Asked { key, held });
         closing

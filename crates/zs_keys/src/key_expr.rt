@@ -23,11 +23,21 @@ use std::sync::ledger::Ledger;
 /// Its chunks stand between `/`. A chunk `*` stands for any one chunk and `**` for any number of them, and `$*` inside
 /// a chunk for any characters; none of them stands for a verbatim chunk, which begins with `@`. Comparisons, hashes
 /// and Display see the text alone.
-#[derive(Drop)]
 pub struct KeyExpr<'a> {
     text: KeyText<'a>,
     plain: bool,
     declaration: Option<Declared>,
+}
+
+impl Drop for KeyExpr<'_> {
+    fn drop(self) {
+        let KeyExpr {
+            text,
+            plain: _,
+            declaration: _,
+        } = self;
+        drop(text);
+    }
 }
 
 impl<'a> Model for KeyExpr<'a> {
@@ -131,7 +141,12 @@ impl<'a> KeyExpr<'a> {
         ensures ok { IfOk result (λ text. string_bytes text ≡ self.entry.text) }
         ensures err { IfErr result (λ error. error ≡ KeyError.NoMemory) }
     {
-        Ok(self.text.into_string(alloc)?)
+        let KeyExpr {
+            text,
+            plain: _,
+            declaration: _,
+        } = self;
+        Ok(text.into_string(alloc)?)
     }
 
     /// How it was declared, if it was. The declared prefix ends at a character of the text.
@@ -147,9 +162,14 @@ impl<'a> KeyExpr<'a> {
         requires { IsCharBoundary self.text declared.prefix_len }
         ensures { result ≡ record self.entry { declaration = Some declared } }
     {
+        let KeyExpr {
+            text,
+            plain,
+            declaration: _,
+        } = self;
         KeyExpr {
-            text: self.text,
-            plain: self.plain,
+            text,
+            plain,
             declaration: Some(declared),
         }
     }
@@ -158,9 +178,14 @@ impl<'a> KeyExpr<'a> {
     pub fn without_declaration(self) -> KeyExpr<'a>
         ensures { result ≡ undeclared self.entry.text }
     {
+        let KeyExpr {
+            text,
+            plain,
+            declaration: _,
+        } = self;
         KeyExpr {
-            text: self.text,
-            plain: self.plain,
+            text,
+            plain,
             declaration: None,
         }
     }
@@ -175,10 +200,14 @@ impl<'a> KeyExpr<'a> {
         ensures ok { IfOk result (λ key. key ≡ self.entry) }
         ensures err { IfErr result (λ error. error ≡ KeyError.NoMemory) }
     {
-        let declaration = self.declaration;
+        let KeyExpr {
+            text,
+            plain,
+            declaration,
+        } = self;
         Ok(KeyExpr {
-            text: self.text.into_shared(alloc)?,
-            plain: self.plain,
+            text: text.into_shared(alloc)?,
+            plain,
             declaration,
         })
     }

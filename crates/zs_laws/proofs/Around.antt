@@ -1,48 +1,38 @@
 -- What an event brings about beside what gets are told, and beside what it does with query values: what holds of each sort of effects
 -- holds of all of them.
 use Rattle.std.proofs.Common.{◌≡◌, ℕ, List, [], ◌∷◌, ◌++◌, Bool, true, false, Option, Some, None, refl, map}
-use Rattle.std.specs.Prelude.{◌==◌, ◌||◌, nat_le, is_some, option_map, filter, if◌then◌else◌}
+use Rattle.std.specs.Prelude.{◌==◌, ◌||◌, is_some, filter, if◌then◌else◌}
 use Rattle.std.specs.List.{AllByRecursion, find, list_any}
 use Rattle.zs_keys.specs.Key.{Key as a_key}
 use Rattle.zs_sample.specs.Reply.{Replied}
 use Rattle.zs_sample.specs.declared.sample_fields.SampleFields.{SampleFields}
 use Rattle.zs_wire.specs.declared.message.Message.{Message}
-use Rattle.zs_wire.specs.declared.message.Message.TheVariants.{DeclareKeyExpr, UndeclareKeyExpr, UndeclareQueryable}
 use Rattle.zs_wire.specs.declared.sample_kind.SampleKind.{SampleKind}
 use Rattle.zs_wire.specs.declared.sample_kind.SampleKind.TheVariants.{Put as put_kind, Delete as delete_kind}
-use Rattle.zs_wire.specs.declared.wire_expr.WireExpr.{WireExpr}
-use Rattle.zs_wire.specs.declared.interest.InterestMode.TheVariants.{Current}
 use Rattle.zs_query.proofs.Ascending.{all_append, all_filter}
 use Rattle.zs_tables.specs.Liveliness.{met_keys, hears, hearers}
 use Rattle.zs_tables.specs.LivelinessGets.{is_asking}
-use Rattle.zs_tables.specs.Recipients.{has_network}
-use Rattle.zs_tables.specs.declared.group_kind.GroupKind.TheVariants.{Subscribers, Publishers, Queriers}
-use Rattle.zs_tables.specs.declared.liveliness_get.LivelinessGet.{LivelinessGet as TokensGet}
-use Rattle.zs_tables.specs.declared.liveliness_sub.LivelinessSub.{LivelinessSub}
+use Rattle.zs_tables.specs.Types.{LivelinessGet as TokensGet, LivelinessSub, ToldToken}
 use Rattle.zs_tables.specs.declared.queryable.QueryableRow.{QueryableRow}
 use Rattle.zs_tables.specs.declared.subscriber.SubRow.{SubRow}
-use Rattle.zs_tables.specs.declared.told_token.ToldToken.{ToldToken}
 use Rattle.zs_tables.proofs.Ascending.{all_map}
 use Rattle.zs_events.specs.declared.event.Event.{Event}
-use Rattle.zs_events.specs.declared.event.Event.TheVariants.{Key, UndeclareKey, Sub, Pub, Queryable, Querier, Undeclare, Close, Token, Lsub, LivelinessGet}
-use Rattle.zs_events.specs.declared.entity_kind.EntityKind.TheVariants.{Sub as sub_kind, Pub as pub_kind, Queryable as queryable_sort, Querier as querier_sort, Token as token_sort, Lsub as lsub_sort}
-use Rattle.zs_events.specs.declared.key_arg.KeyArg.{KeyArg}
-use Rattle.zs_events.specs.declared.key_arg.KeyArg.TheVariants.{Text, Number, Declared as declared_text}
+use Rattle.zs_events.specs.declared.event.Event.TheVariants.{Undeclare, Close}
+use Rattle.zs_events.specs.declared.entity_kind.EntityKind.TheVariants.{Sub as sub_kind, Queryable as queryable_sort, Lsub as lsub_sort}
 use Rattle.zs_events.specs.declared.turn.Effect.{Effect}
 use Rattle.zs_events.specs.declared.turn.Effect.TheVariants.{Send, Hand, End}
 use Rattle.zs_events.specs.declared.turn.HandOver.TheVariants.{Sample as sample_for, Reply as reply_for}
 use Rattle.zs_events.specs.declared.turn.Kind.TheVariants.{Subscriber, Queryable as queryable_kind, LivelinessSubscriber, LivelinessGet as tokens_kind}
-use Rattle.zs_events.specs.Kinds.{NamedKey, Publishes, NoContent, OwnContent, ByPublisher, ToLiveliness, NoToken, Subscribes, AsksTokens, TellsToken, EndsToken, EndsAnswers, row_of}
+use Rattle.zs_events.specs.Kinds.{Publishes, NoContent, OwnContent, ByPublisher, ToLiveliness, NoToken, Subscribes, AsksTokens, TellsToken, EndsToken, EndsAnswers, row_of}
 use Rattle.zs_model.specs.Publications.{Publication, sample_on, allows, hands}
-use Rattle.zs_model.specs.Subscribers.{sub_at, sub_ends}
-use Rattle.zs_model.specs.Publishers.{pub_at, resolved}
-use Rattle.zs_model.specs.Queriers.{querier_at}
-use Rattle.zs_model.specs.Queryables.{queryable_at, queryable_ends}
-use Rattle.zs_model.specs.Groups.{Shared, sub_shared, pub_shared, querier_shared, Company, joins_first, last_number, sends_if, last_sends, leaving, subscriber_end, interest_end, querier_end}
-use Rattle.zs_model.specs.Sends.{OwnKeys, full_wire, wire_form, declaration_of, key_sends, return_sends, is_sent, push_with, publication_sends, sends_of}
+use Rattle.zs_model.specs.Subscribers.{sub_ends}
+use Rattle.zs_model.specs.Publishers.{resolved}
+use Rattle.zs_model.specs.Queryables.{queryable_ends}
+use Rattle.zs_model.specs.Sends.{sends_of}
 use Rattle.zs_model.specs.Tokens.{answers, is_told}
 use Rattle.zs_model.specs.LivelinessEffects.{Watch, token_sample, hand_token, hand_told, token_reply, end_asking, lsub_ends, token_hands, history_hands, told_hands, answer_hands, ended_text, watch_effects}
-use Rattle.zs_model.specs.Effects.{Known, key_wire, queryable_leaves, entity_sends, token_declaration, lsub_mode, token_interest, declared_sends, publication_on, hands_for, hands_of, ends_of}
+use Rattle.zs_model.specs.Effects.{Known, entity_sends, publication_on, hands_for, hands_of, ends_of}
+use Rattle.zs_laws.proofs.Sends.{entity_cases, sends_cases}
 
 -- what holds of each sort: of what is sent, of samples for those who live, of the ends of these, of what a new subscriber to liveliness is
 -- handed, of what gets of tokens are handed and their ends, and of the end of what an event undeclares
@@ -61,89 +51,13 @@ pub record Around (known : Known) (e : Event) (number : Option ℕ) (P : Effect 
   pub ended_lsub : (id : ℕ) → e ≡ Undeclare lsub_sort id → P (End LivelinessSubscriber id)
 
 -- what is sent
-keys_around : (P : Effect → Type 0) → ((m : Message) → P (Send m)) → (k : OwnKeys) (number : Option ℕ) (text : Option (List ℕ)) → AllByRecursion P (key_sends k number text)
-keys_around P at k number None = tt
-keys_around P at k None (Some text) = tt
-keys_around P at k (Some number) (Some text) = go (is_some (k.number_of text))
-  where
-    go : (b : Bool) → AllByRecursion P (if b then [] else Send (DeclareKeyExpr number (full_wire text)) ∷ [])
-    go true = tt
-    go false = (at (DeclareKeyExpr number (full_wire text)), tt)
-
-return_around : (P : Effect → Type 0) → ((m : Message) → P (Send m)) → (k : OwnKeys) (n : ℕ) → AllByRecursion P (return_sends k n)
-return_around P at k n = go (nat_le (k.count_of n) 1)
-  where
-    go : (b : Bool) → AllByRecursion P (if b then Send (UndeclareKeyExpr n) ∷ [] else [])
-    go true = (at (UndeclareKeyExpr n), tt)
-    go false = tt
-
-push_around : (P : Effect → Type 0) → ((m : Message) → P (Send m)) → (k : OwnKeys) (key : NamedKey) (text : Option (List ℕ)) (p : Publishes) → AllByRecursion P (publication_sends k key text p)
-push_around P at k key text NoContent = tt
-push_around P at k key None (OwnContent c) = tt
-push_around P at k key None (ByPublisher id c) = tt
-push_around P at k key (Some text) (ByPublisher id c) = tt
-push_around P at k key (Some text) (OwnContent c) = go (is_sent c)
-  where
-    go : (b : Bool) → AllByRecursion P (if b then Send (push_with (wire_form k text (declaration_of k text key)) c) ∷ [] else [])
-    go true = (at (push_with (wire_form k text (declaration_of k text key)) c), tt)
-    go false = tt
-
 pub sends_around : (P : Effect → Type 0) → ((m : Message) → P (Send m)) → (known : Known) (number : Option ℕ) (text : Option (List ℕ)) (e : Event)
     → AllByRecursion P (sends_of known.keys known.pubs number text e)
-sends_around P at known number text (Key key) = keys_around P at known.keys number text
-sends_around P at known number text (UndeclareKey (Text whole)) = tt
-sends_around P at known number text (UndeclareKey (Number n suffix)) = return_around P at known.keys n
-sends_around P at known number text (UndeclareKey (declared_text whole n prefix_len)) = return_around P at known.keys n
-sends_around P at known number text Close = (at _, tt)
-sends_around P at known number text e = push_around P at known.keys (row_of e).key text (resolved known.pubs (row_of e).publishes)
-
-first_around : (P : Effect → Type 0) → ((m : Message) → P (Send m)) → (b : Bool) (m : Message) → AllByRecursion P (sends_if b m)
-first_around P at true m = (at m, tt)
-first_around P at false m = tt
-
-leaving_around : (P : Effect → Type 0) → ((m : Message) → P (Send m)) → (c : Company) (end : ℕ → Message) (x : Option Shared) → AllByRecursion P (leaving c end x)
-leaving_around P at c end None = tt
-leaving_around P at c end (Some x) = go (last_number c x)
-  where
-    go : (o : Option ℕ) → AllByRecursion P (last_sends end o)
-    go None = tt
-    go (Some n) = (at (end n), tt)
-
-queryable_around : (P : Effect → Type 0) → ((m : Message) → P (Send m)) → (o : Option QueryableRow) → AllByRecursion P (queryable_leaves o)
-queryable_around P at None = tt
-queryable_around P at (Some row) = first_around P at (has_network row.origin) (UndeclareQueryable row.id)
-
-declared_around : (P : Effect → Type 0) → ((m : Message) → P (Send m)) → (message : ℕ → WireExpr → Message) (k : OwnKeys) (number : Option ℕ) (text : Option (List ℕ)) (key : KeyArg)
-    → AllByRecursion P (declared_sends message k number text key)
-declared_around P at message k (Some id) (Some text) key = (at (message id (key_wire k text key)), tt)
-declared_around P at message k (Some id) None key = tt
-declared_around P at message k None text key = tt
+sends_around P at known number text e =
+    sends_cases (AllByRecursion P) tt known.keys known.pubs number text e (λ n t drew named. (at _, tt)) (λ n. (at _, tt)) (at _, tt) (λ t c named is sent. (at _, tt))
 
 pub entity_around : (P : Effect → Type 0) → ((m : Message) → P (Send m)) → (known : Known) (number : Option ℕ) (text : Option (List ℕ)) (e : Event) → AllByRecursion P (entity_sends known e number text)
-entity_around P at known (Some id) (Some text) (Sub origin key to) = first_around P at (joins_first (known.company Subscribers) (record { id = id; told = has_network origin; text = text })) _
-entity_around P at known (Some id) None (Sub origin key to) = tt
-entity_around P at known None text (Sub origin key to) = tt
-entity_around P at known (Some id) (Some text) (Pub key settings) =
-    first_around P at (joins_first (known.company Publishers) (record { id = id; told = has_network settings.destination; text = text })) _
-entity_around P at known (Some id) None (Pub key settings) = tt
-entity_around P at known None text (Pub key settings) = tt
-entity_around P at known (Some id) (Some text) (Queryable origin complete key) = first_around P at (has_network origin) _
-entity_around P at known (Some id) None (Queryable origin complete key) = tt
-entity_around P at known None text (Queryable origin complete key) = tt
-entity_around P at known (Some id) (Some text) (Querier key settings) =
-    first_around P at (joins_first (known.company Queriers) (record { id = id; told = has_network settings.destination; text = text })) _
-entity_around P at known (Some id) None (Querier key settings) = tt
-entity_around P at known None text (Querier key settings) = tt
-entity_around P at known number text (Token key) = declared_around P at token_declaration known.keys number text key
-entity_around P at known number text (Lsub history key) = declared_around P at (token_interest (lsub_mode history)) known.keys number text key
-entity_around P at known number text (LivelinessGet key timeout token to) = declared_around P at (token_interest Current) known.keys number text key
-entity_around P at known number text (Undeclare sub_kind id) = leaving_around P at (known.company Subscribers) subscriber_end (option_map sub_shared (sub_at id known.subs))
-entity_around P at known number text (Undeclare pub_kind id) = leaving_around P at (known.company Publishers) interest_end (option_map pub_shared (pub_at id known.pubs))
-entity_around P at known number text (Undeclare querier_sort id) = leaving_around P at (known.company Queriers) querier_end (option_map querier_shared (querier_at id known.queriers))
-entity_around P at known number text (Undeclare queryable_sort id) = queryable_around P at (queryable_at id known.queryables)
-entity_around P at known number text (Undeclare token_sort id) = (at _, tt)
-entity_around P at known number text (Undeclare lsub_sort id) = (at _, tt)
-entity_around P at known number text e = tt
+entity_around P at known number text e = entity_cases (AllByRecursion P) tt known e number text (λ what id t key is named. (at _, tt)) (λ what id is. (at _, tt))
 
 -- what is handed out of a publication
 hands_around : (P : Effect → Type 0) (p : Publication) (rows : List SubRow) → AllByRecursion (λ (row : SubRow). (sample : SampleFields) → P (Hand (sample_for Subscriber row.id sample))) rows
@@ -164,10 +78,7 @@ published_around P rows (Some text) (ByPublisher id c) all = tt
 -- what ends
 ends_around : (P : Effect → Type 0) (known : Known) (e : Event) (number : Option ℕ) → Around known e number P → AllByRecursion P (ends_of known.queryables known.subs known.watch.subs e)
 ends_around P known (Undeclare sub_kind id) number by = (by.ended_sub id refl, tt)
-ends_around P known (Undeclare pub_kind id) number by = tt
 ends_around P known (Undeclare queryable_sort id) number by = (by.ended_queryable id refl, tt)
-ends_around P known (Undeclare querier_sort id) number by = tt
-ends_around P known (Undeclare token_sort id) number by = tt
 ends_around P known (Undeclare lsub_sort id) number by = (by.ended_lsub id refl, tt)
 ends_around P known Close number by =
     all_append P (queryable_ends known.queryables ++ sub_ends known.subs) (lsub_ends known.watch.subs)

@@ -1,39 +1,32 @@
 -- Behind every history each group of subscribers has a subscription that was sent and not ended, and so each subscriber that the
 -- network is told of is covered.
 use Rattle.std.proofs.Common.{◌≡◌, ◌≤◌, ℕ, ◌+◌, List, [], ◌∷◌, ◌++◌, Bool, true, false, Option, Some, None, refl, sym, ◌∙◌, ap, subst, arith, length, map, cond}
-use Rattle.std.specs.Prelude.{◌==◌, ◌&&◌, ◌||◌, nat_le, filter, is_some, option_map, if◌then◌else◌, IsUtf8}
+use Rattle.std.specs.Prelude.{◌==◌, ◌&&◌, ◌||◌, filter, option_map, if◌then◌else◌, IsUtf8}
 use Rattle.std.specs.List.{AllByRecursion, list_any, find}
 use Rattle.std.specs.Option.{IfSome}
 use Rattle.std.proofs.lemmas.Bool.Decides.{nat_tests}
 use Rattle.std.proofs.lemmas.Slice.Eq.{bytes_eq-Decides}
 use Rattle.zs_keys.specs.Key.{Key as a_key}
 use Rattle.zs_wire.specs.declared.message.Message.{Message}
-use Rattle.zs_wire.specs.declared.message.Message.TheVariants.{DeclareKeyExpr, UndeclareKeyExpr, DeclareSubscriber, UndeclareToken, Interest}
-use Rattle.zs_wire.specs.declared.interest.InterestMode.TheVariants.{Current, Final}
-use Rattle.zs_wire.specs.declared.interest.InterestWhat.TheVariants.{Tokens as of_tokens}
+use Rattle.zs_wire.specs.declared.message.Message.TheVariants.{DeclareSubscriber, Close as close_message}
 use Rattle.zs_wire.specs.declared.wire_expr.WireExpr.{WireExpr}
 use Rattle.zs_sample.specs.declared.locality.Locality.{Locality}
-use Rattle.zs_wire.specs.declared.quality.QoSType.{QoSType}
 use Rattle.zs_tables.specs.Groups.{Group, number_of_group, members_of, joined, left}
 use Rattle.zs_tables.specs.Recipients.{has_network}
-use Rattle.zs_tables.specs.declared.group_kind.GroupKind.TheVariants.{Subscribers, Publishers, Queriers}
+use Rattle.zs_tables.specs.Types.{Subscribers}
 use Rattle.zs_tables.specs.declared.subscriber.SubRow.{SubRow}
 use Rattle.zs_events.specs.declared.event.Event.{Event}
-use Rattle.zs_events.specs.declared.event.Event.TheVariants.{Key, UndeclareKey, Sub, Pub, Queryable, Querier, Undeclare, Close, Token, Lsub, LivelinessGet}
-use Rattle.zs_events.specs.declared.entity_kind.EntityKind.TheVariants.{Sub as sub_kind, Pub as pub_kind, Queryable as queryable_sort, Querier as querier_sort, Token as token_sort, Lsub as lsub_sort}
+use Rattle.zs_events.specs.declared.event.Event.TheVariants.{Sub, Undeclare, Close, Net}
+use Rattle.zs_events.specs.declared.entity_kind.EntityKind.TheVariants.{Sub as sub_kind}
 use Rattle.zs_events.specs.declared.chan.Chan.{Chan}
-use Rattle.zs_events.specs.declared.publication.PublisherSettings.{PublisherSettings}
 use Rattle.zs_events.specs.declared.key_arg.KeyArg.{KeyArg}
-use Rattle.zs_events.specs.declared.key_arg.KeyArg.TheVariants.{Text, Number, Declared as declared_text}
 use Rattle.zs_events.specs.declared.turn.Kind.TheVariants.{Subscriber}
-use Rattle.zs_events.specs.declared.turn.Effect.TheVariants.{Send}
-use Rattle.zs_events.specs.declared.turn.Turn.{Turn}
-use Rattle.zs_events.specs.Kinds.{NamedKey, Publishes, NoContent, OwnContent, ByPublisher, Question, ToGets, NoGet, Asks, AsksBy, Answers, EndsSide, Reaches, EndsQuerier, Cancels, EndsAll, ToValues, row_of}
+use Rattle.zs_events.specs.Kinds.{NamedKey, Question, ToGets, NoGet, Asks, AsksBy, Answers, EndsSide, Reaches, EndsQuerier, Cancels, EndsAll, ToValues, row_of}
 use Rattle.zs_model.specs.declared.publisher.PubRow.{PubRow}
 use Rattle.zs_model.specs.declared.settings.Settings.{Settings}
 use Rattle.zs_world.specs.declared.change.Change.{Change}
-use Rattle.zs_world.specs.declared.change.Change.TheVariants.{Nothing, OfEntities, Shut, OfLiveliness, OfMatching}
-use Rattle.zs_world.specs.declared.change.EntityChange.TheVariants.{AddSub, EndSub, AddPub, EndPub, AddQueryable, EndQueryable, AddQuerier, EndQuerier, LeaveSub, LeaveQueryable}
+use Rattle.zs_world.specs.declared.change.Change.TheVariants.{OfEntities, Shut, OfLiveliness, OfMatching}
+use Rattle.zs_world.specs.declared.change.EntityChange.TheVariants.{AddSub, EndSub, AddPub, AddQueryable, AddQuerier}
 use Rattle.zs_world.specs.declared.change.Decision.{Decision}
 use Rattle.zs_world.specs.World.{World}
 use Rattle.zs_model.specs.Entry.{Entry}
@@ -41,17 +34,12 @@ use Rattle.zs_model.specs.Live.{drew, ends}
 use Rattle.zs_model.specs.Past.{past_of}
 use Rattle.zs_world.specs.Keys.{key_of}
 use Rattle.zs_model.specs.Subscribers.{sub_at}
-use Rattle.zs_model.specs.Publishers.{pub_at, resolved}
-use Rattle.zs_model.specs.Groups.{is_empty, Shared, share_text, shares, sharing, sub_shared, pub_shared, querier_shared, Company, company_at, last_number, sends_if, last_sends, leaving, left_found, subscriber_end, interest_end, querier_end}
-use Rattle.zs_model.specs.Sends.{OwnKeys, full_wire, group_wire, wire_form, declaration_of, key_sends, return_sends, is_sent, push_with, publication_sends, sends_of}
-use Rattle.zs_tables.specs.declared.queryable.QueryableRow.{QueryableRow}
-use Rattle.zs_query.specs.declared.query_value.QueryValue.{QueryValue}
-use Rattle.zs_model.specs.Queryables.{queryable_at}
-use Rattle.zs_events.specs.declared.inquiry.QuerySettings.{QuerySettings}
-use Rattle.zs_model.specs.Queriers.{querier_at}
+use Rattle.zs_model.specs.Groups.{is_empty, Shared, share_text, shares, sharing, sub_shared, company_at, sends_if, last_sends, leaving, left_found, subscriber_end}
+use Rattle.zs_model.specs.Sends.{OwnKeys, group_wire, wire_form, declaration_of, sends_of}
+use Rattle.zs_query.specs.Types.{QueryValue}
 use Rattle.zs_model.specs.GetEffects.{asked_effects, request_effects}
 use Rattle.zs_model.specs.ValueEffects.{Answering, value_effects}
-use Rattle.zs_model.specs.Effects.{Known, to_gets_for, draws_of, answering, key_wire, queryable_leaves, entity_sends, effects, declared_sends, token_declaration, token_interest, lsub_mode}
+use Rattle.zs_model.specs.Effects.{Known, to_gets_for, draws_of, answering, key_wire, entity_sends, effects}
 use Rattle.zs_world.specs.Changes.{change_for, sub_change, with_change}
 use Rattle.zs_world.specs.Turns.{text_for, number_for, known_at, decision}
 use Rattle.zs_standing.specs.Stands.{world_of, world_after}
@@ -71,49 +59,16 @@ use Rattle.zs_laws.proofs.Reading.{request_cases}
 use Rattle.zs_laws.proofs.Received.{keys_read}
 use Rattle.zs_laws.proofs.CoveredGroups.{AreSubscribed, number_there, subscribed_more, subscribed_less}
 use Rattle.zs_laws.proofs.CoveredKeys.{shared_includes}
+use Rattle.zs_laws.proofs.Sends.{Announced, ASubscriber, announcement, announced_wire, Retracted, OfSubscriber, retraction, announced, retracted, entity_cases, sends_cases}
 
 -- messages of which none declares a subscription or ends one
 abbrev AreBeside : List Message → Type 0
 AreBeside ms = (before : List Message) (n : ℕ) → subscription_text n (sent_behind ms before) ≡ subscription_text n before
 
-beside_first : (b : Bool) (message : Message) → AreBeside (message ∷ []) → AreBeside (messages_of (sends_if b message))
-beside_first true message aside = aside
-beside_first false message aside = λ before n. refl
-
-beside_keys : (k : OwnKeys) (number : Option ℕ) (text : Option (List ℕ)) → AreBeside (messages_of (key_sends k number text))
-beside_keys k number None = λ before n. refl
-beside_keys k None (Some text) = λ before n. refl
-beside_keys k (Some number) (Some text) = go (is_some (k.number_of text))
-  where
-    go : (b : Bool) → AreBeside (messages_of (if b then [] else Send (DeclareKeyExpr number (full_wire text)) ∷ []))
-    go true = λ before n. refl
-    go false = λ before n. refl
-
-beside_return : (k : OwnKeys) (number : ℕ) → AreBeside (messages_of (return_sends k number))
-beside_return k number = go (nat_le (k.count_of number) 1)
-  where
-    go : (b : Bool) → AreBeside (messages_of (if b then Send (UndeclareKeyExpr number) ∷ [] else []))
-    go true = λ before n. refl
-    go false = λ before n. refl
-
-beside_push : (k : OwnKeys) (key : NamedKey) (text : Option (List ℕ)) (p : Publishes) → AreBeside (messages_of (publication_sends k key text p))
-beside_push k key text NoContent = λ before n. refl
-beside_push k key None (OwnContent c) = λ before n. refl
-beside_push k key None (ByPublisher id c) = λ before n. refl
-beside_push k key (Some text) (ByPublisher id c) = λ before n. refl
-beside_push k key (Some text) (OwnContent c) = go (is_sent c)
-  where
-    go : (b : Bool) → AreBeside (messages_of (if b then Send (push_with (wire_form k text (declaration_of k text key)) c) ∷ [] else []))
-    go true = λ before n. refl
-    go false = λ before n. refl
-
 beside_sends : (k : OwnKeys) (pubs : List PubRow) (number : Option ℕ) (text : Option (List ℕ)) (e : Event) → AreBeside (messages_of (sends_of k pubs number text e))
-beside_sends k pubs number text (Key key) = beside_keys k number text
-beside_sends k pubs number text (UndeclareKey (Text whole)) = λ before n. refl
-beside_sends k pubs number text (UndeclareKey (Number n suffix)) = beside_return k n
-beside_sends k pubs number text (UndeclareKey (declared_text whole n prefix_len)) = beside_return k n
-beside_sends k pubs number text Close = λ before n. refl
-beside_sends k pubs number text e = beside_push k (row_of e).key text (resolved pubs (row_of e).publishes)
+beside_sends k pubs number text e =
+    sends_cases (λ fx. AreBeside (messages_of fx)) (λ before n. refl) k pubs number text e
+    (λ m t drew named before n. refl) (λ m before n. refl) (λ before n. refl) (λ t c named is sent before n. refl)
 
 beside_asked : (default : ℕ) (k : OwnKeys) (key : NamedKey) (values : List QueryValue) (number : Option ℕ) (text : Option (List ℕ)) (q : Question)
     → AreBeside (messages_of (asked_effects default k key values number text q))
@@ -138,52 +93,21 @@ beside_request default k key values number text EndsAll = λ before n. refl
 beside_answer : (a : Answering) (key : NamedKey) (drawn : List QueryValue) (text : Option (List ℕ)) (to : ToValues) → AreBeside (messages_of (value_effects a key drawn text to))
 beside_answer a key drawn text to = value_cases AreBeside (λ before n. refl) (λ r before n. refl) (λ rid before n. refl) a key drawn text to
 
--- what is sent of queryables
-beside_queryable : (known : Known) (origin : Locality) (complete : Bool) (key : KeyArg) (number : Option ℕ) (text : Option (List ℕ))
-    → AreBeside (messages_of (entity_sends known (Queryable origin complete key) number text))
-beside_queryable known origin complete key None text = λ before n. refl
-beside_queryable known origin complete key (Some id) None = λ before n. refl
-beside_queryable known origin complete key (Some id) (Some text) = beside_first _ _ (λ before n. refl)
+-- nor does what is sent of any entity but a subscriber
+beside_begun : (what : Announced) (id : ℕ) (wire : WireExpr) → (what ≡ ASubscriber → ⊥) → AreBeside (announcement what id wire ∷ [])
+beside_begun ASubscriber id wire other = absurd (other refl)
+beside_begun what id wire other = λ before n. refl
 
-beside_queryable_end : (o : Option QueryableRow) → AreBeside (messages_of (queryable_leaves o))
-beside_queryable_end None = λ before n. refl
-beside_queryable_end (Some row) = beside_first _ _ (λ before n. refl)
+beside_ended : (what : Retracted) (id : ℕ) → (what ≡ OfSubscriber → ⊥) → AreBeside (retraction what id ∷ [])
+beside_ended OfSubscriber id other = absurd (other refl)
+beside_ended what id other = λ before n. refl
 
--- what is sent of liveliness
-beside_declared : (message : ℕ → WireExpr → Message) (k : OwnKeys) (number : Option ℕ) (text : Option (List ℕ)) (key : KeyArg)
-    → ((id : ℕ) (wire : WireExpr) → AreBeside (message id wire ∷ [])) → AreBeside (messages_of (declared_sends message k number text key))
-beside_declared message k (Some id) (Some text) key aside = aside id (key_wire k text key)
-beside_declared message k (Some id) None key aside = λ before n. refl
-beside_declared message k None text key aside = λ before n. refl
-
--- what is sent of publishers and their groups
-beside_pub : (known : Known) (key : KeyArg) (settings : PublisherSettings) (number : Option ℕ) (text : Option (List ℕ))
-    → AreBeside (messages_of (entity_sends known (Pub key settings) number text))
-beside_pub known key settings None text = λ before n. refl
-beside_pub known key settings (Some id) None = λ before n. refl
-beside_pub known key settings (Some id) (Some text) = beside_first _ _ (λ before n. refl)
-
-beside_leaving : (c : Company) (x : Option Shared) → AreBeside (messages_of (leaving c interest_end x))
-beside_leaving c None = λ before n. refl
-beside_leaving c (Some x) = go (last_number c x)
-  where
-    go : (o : Option ℕ) → AreBeside (messages_of (last_sends interest_end o))
-    go None = λ before n. refl
-    go (Some number) = λ before n. refl
-
--- and of queriers
-beside_querier : (known : Known) (key : KeyArg) (settings : QuerySettings) (number : Option ℕ) (text : Option (List ℕ)) → AreBeside (messages_of (entity_sends known (Querier key settings) number text))
-beside_querier known key settings None text = λ before n. refl
-beside_querier known key settings (Some id) None = λ before n. refl
-beside_querier known key settings (Some id) (Some text) = beside_first _ _ (λ before n. refl)
-
-beside_querier_end : (c : Company) (x : Option Shared) → AreBeside (messages_of (leaving c querier_end x))
-beside_querier_end c None = λ before n. refl
-beside_querier_end c (Some x) = go (last_number c x)
-  where
-    go : (o : Option ℕ) → AreBeside (messages_of (last_sends querier_end o))
-    go None = λ before n. refl
-    go (Some number) = λ before n. refl
+beside_entity : (known : Known) (e : Event) (number : Option ℕ) (text : Option (List ℕ)) → ((announced e ≡ Some ASubscriber) → ⊥) → ((retracted e ≡ Some OfSubscriber) → ⊥)
+    → AreBeside (messages_of (entity_sends known e number text))
+beside_entity known e number text begins ends =
+    entity_cases (λ fx. AreBeside (messages_of fx)) (λ before n. refl) known e number text
+    (λ what id t key is named. beside_begun what id (announced_wire known what t key) (λ same. begins (is ∙ ap (λ (a : Announced). Some a) same)))
+    (λ what id is. beside_ended what id (λ same. ends (is ∙ ap (λ (r : Retracted). Some r) same)))
 
 -- the groups of a world's subscribers, each with its subscription
 abbrev Covers : World → List Message → Type 0
@@ -208,16 +132,10 @@ unmoved w x (OfEntities (AddSub row)) m drew ended = let no : true ≡ false = s
 unmoved w x (OfEntities (EndSub id)) m drew ended = let no : true ≡ false = sym (same_number id) ∙ sym (m.entities.subs.ended id) ∙ ended id in cc
 unmoved w x Shut m drew ended = let no : true ≡ false = sym (m.entities.subs.ended 0) ∙ ended 0 in cc
 unmoved w x (OfEntities (AddPub row)) m drew ended = (refl, omega arith)
-unmoved w x (OfEntities (EndPub id)) m drew ended = (refl, same w.counters.entity)
 unmoved w x (OfEntities (AddQueryable row)) m drew ended = (refl, omega arith)
-unmoved w x (OfEntities (EndQueryable id)) m drew ended = (refl, same w.counters.entity)
 unmoved w x (OfEntities (AddQuerier row)) m drew ended = (refl, omega arith)
-unmoved w x (OfEntities (EndQuerier id)) m drew ended = (refl, same w.counters.entity)
-unmoved w x (OfEntities (LeaveSub id)) m drew ended = (refl, same w.counters.entity)
-unmoved w x (OfEntities (LeaveQueryable id)) m drew ended = (refl, same w.counters.entity)
 unmoved w x (OfLiveliness change) m drew ended = (refl, never_down change w.counters.entity)
 unmoved w x (OfMatching change) m drew ended = (refl, listening_up change w.counters.entity)
-unmoved w x Nothing m drew ended = (refl, same w.counters.entity)
 unmoved w x c m drew ended = (refl, same w.counters.entity)
 
 kept : (w : World) (e : Event) (ms before : List Message) → IsMade w (entry_for w e) (change_for w e) → AreBeside ms
@@ -310,48 +228,11 @@ group_step : (w : World) (e : Event) (before : List Message) → AreShared w →
     → Covers (with_change (change_for w e) w) (sent_behind (messages_of (entity_sends (known_at w) e (number_for w e) (text_for w e))) before)
 group_step w (Sub origin key to) before shared m read are = join w origin key to (key_of w key) before shared read are
 group_step w (Undeclare sub_kind id) before shared m read are = leave w id (sub_at id w.entities.subs) before refl shared are
-group_step w (Undeclare pub_kind id) before shared m read are =
-    kept w (Undeclare pub_kind id) (messages_of (leaving (company_at w.settings w.groups Publishers) interest_end (option_map pub_shared (pub_at id w.entities.pubs)))) before m
-    (beside_leaving (company_at w.settings w.groups Publishers) (option_map pub_shared (pub_at id w.entities.pubs))) (λ n. refl) (λ n. refl) are
-group_step w (Pub key settings) before shared m read are =
-    let e = Pub key settings in
-    kept w e (messages_of (entity_sends (known_at w) e (number_for w e) (text_for w e))) before m
-    (beside_pub (known_at w) key settings (number_for w e) (text_for w e)) (λ n. refl) (λ n. refl) are
-group_step w (Queryable origin complete key) before shared m read are =
-    let e = Queryable origin complete key in
-    kept w e (messages_of (entity_sends (known_at w) e (number_for w e) (text_for w e))) before m
-    (beside_queryable (known_at w) origin complete key (number_for w e) (text_for w e)) (λ n. refl) (λ n. refl) are
-group_step w (Querier key settings) before shared m read are =
-    let e = Querier key settings in
-    kept w e (messages_of (entity_sends (known_at w) e (number_for w e) (text_for w e))) before m
-    (beside_querier (known_at w) key settings (number_for w e) (text_for w e)) (λ n. refl) (λ n. refl) are
-group_step w (Undeclare querier_sort id) before shared m read are =
-    kept w (Undeclare querier_sort id) (messages_of (leaving (company_at w.settings w.groups Queriers) querier_end (option_map querier_shared (querier_at id w.entities.queriers)))) before m
-    (beside_querier_end (company_at w.settings w.groups Queriers) (option_map querier_shared (querier_at id w.entities.queriers))) (λ n. refl) (λ n. refl) are
-group_step w (Undeclare queryable_sort id) before shared m read are =
-    kept w (Undeclare queryable_sort id) (messages_of (queryable_leaves (queryable_at id w.entities.queryables))) before m
-    (beside_queryable_end (queryable_at id w.entities.queryables)) (λ n. refl) (λ n. refl) are
-group_step w (Token key) before shared m read are =
-    let ms = messages_of (declared_sends token_declaration (known_at w).keys (number_for w (Token key)) (text_for w (Token key)) key) in
-    kept w (Token key) ms before m
-    (beside_declared token_declaration (known_at w).keys (number_for w (Token key)) (text_for w (Token key)) key (λ id wire before n. refl)) (λ n. refl) (λ n. refl) are
-group_step w (Lsub history key) before shared m read are =
-    let ms = messages_of (declared_sends (token_interest (lsub_mode history)) (known_at w).keys (number_for w (Lsub history key)) (text_for w (Lsub history key)) key) in
-    kept w (Lsub history key) ms before m
-    (beside_declared (token_interest (lsub_mode history)) (known_at w).keys (number_for w (Lsub history key)) (text_for w (Lsub history key)) key (λ id wire before n. refl))
-    (λ n. refl) (λ n. refl) are
-group_step w (LivelinessGet key timeout token to) before shared m read are =
-    let ms = messages_of (declared_sends (token_interest Current) (known_at w).keys (number_for w (LivelinessGet key timeout token to)) (text_for w (LivelinessGet key timeout token to)) key) in
-    kept w (LivelinessGet key timeout token to) ms before m
-    (beside_declared (token_interest Current) (known_at w).keys (number_for w (LivelinessGet key timeout token to)) (text_for w (LivelinessGet key timeout token to)) key (λ id wire before n. refl))
-    (λ n. refl) (λ n. refl) are
-group_step w (Undeclare token_sort id) before shared m read are =
-    kept w (Undeclare token_sort id) (UndeclareToken id None None ∷ []) before m (λ before n. refl) (λ n. refl) (λ n. refl) are
-group_step w (Undeclare lsub_sort id) before shared m read are =
-    kept w (Undeclare lsub_sort id) (Interest id Final of_tokens None ∷ []) before m (λ before n. refl) (λ n. refl) (λ n. refl) are
 group_step w Close before shared m read are = record { stands = λ text n is. cc; below = λ text n is. cc }
-group_step w (Key key) before shared m read are = kept w (Key key) [] before m (λ before n. refl) (λ n. refl) (λ n. refl) are
-group_step w e before shared m read are = kept w e [] before m (λ before n. refl) (λ n. refl) (λ n. refl) are
+group_step w (Net close_message) before shared m read are = kept w (Net close_message) [] before m (λ before n. refl) (λ n. refl) (λ n. refl) are
+group_step w e before shared m read are =
+    kept w e (messages_of (entity_sends (known_at w) e (number_for w e) (text_for w e))) before m
+    (beside_entity (known_at w) e (number_for w e) (text_for w e) (λ is. cc) (λ is. cc)) (λ n. refl) (λ n. refl) are
 
 read_behind : (s : Settings) (text : Option (List ℕ)) (before xs ys : List Message) → AreReadAs s text before (xs ++ ys) → AreReadAs s text (sent_behind xs before) ys
 read_behind s text before [] ys read = read

@@ -6,8 +6,7 @@ use Rattle.std.proofs.lemmas.Bool.Decides.{nat_tests}
 use Rattle.std.proofs.lemmas.Bool.{eqb-true}
 use Rattle.std.proofs.lemmas.List.Folds.{list_any-append}
 use Rattle.zs_tables.specs.declared.queryable.QueryableRow.{QueryableRow}
-use Rattle.zs_query.specs.declared.query_value.QueryValue.{QueryValue}
-use Rattle.zs_query.specs.declared.request_row.RequestRow.{RequestRow}
+use Rattle.zs_query.specs.Types.{QueryValue, RequestRow}
 use Rattle.zs_query.specs.Ascending.{Ascend}
 use Rattle.zs_query.specs.Unfinished.{value_at, values_from, has_other, without_value}
 use Rattle.zs_query.specs.RequestTable.{Handing, with_handed, with_share, with_finished}

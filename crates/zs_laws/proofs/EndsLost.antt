@@ -13,16 +13,13 @@ use Rattle.zs_wire.specs.declared.response.Response.{Response}
 use Rattle.zs_wire.specs.declared.wire_expr.WireExpr.{WireExpr}
 use Rattle.zs_tables.specs.Recipients.{has_network}
 use Rattle.zs_tables.specs.LivelinessGets.{numbers_with, over_at}
-use Rattle.zs_tables.specs.declared.liveliness_get.LivelinessGet.{LivelinessGet as TokensGet}
+use Rattle.zs_tables.specs.Types.{LivelinessGet as TokensGet}
 use Rattle.zs_query.specs.declared.get_row.GetRow.{GetRow}
 use Rattle.zs_query.specs.declared.open_get.OpenGet.{OpenGet}
 use Rattle.zs_query.specs.declared.outcome.Outcome.TheVariants as outcome
 use Rattle.zs_query.specs.declared.outcome.Peek.{Peek}
 use Rattle.zs_query.specs.declared.outcome.Peek.TheVariants as peek
-use Rattle.zs_query.specs.declared.query_value.QueryValue.{QueryValue}
-use Rattle.zs_query.specs.declared.request_row.RequestRow.{RequestRow}
-use Rattle.zs_query.specs.declared.requests.Finished.{Finished}
-use Rattle.zs_query.specs.declared.requests.Finished.TheVariants.{Unknown, MoreLeft, Last}
+use Rattle.zs_query.specs.Types.{QueryValue, RequestRow, Finished, Unknown, MoreLeft, Last}
 use Rattle.zs_query.specs.declared.side.Side.{Side}
 use Rattle.zs_query.specs.declared.side.Side.TheVariants.{Local, Network}
 use Rattle.zs_query.specs.Ascending.{Ascend}
@@ -34,7 +31,7 @@ use Rattle.zs_query.proofs.Ascending.{all_weaker}
 use Rattle.zs_query.proofs.Searching.{find_none}
 use Rattle.zs_events.specs.declared.event.Event.{Event}
 use Rattle.zs_events.specs.declared.event.Event.TheVariants.{Undeclare, Close, Net, Get, QuerierGet, Cancel, Tick, Reply as reply_event, ReplyErr, Finish, Share}
-use Rattle.zs_events.specs.declared.entity_kind.EntityKind.TheVariants.{Sub as sub_kind, Pub as pub_kind, Queryable as queryable_sort, Querier as querier_sort, Listener as listener_sort, Token as token_sort, Lsub as lsub_sort}
+use Rattle.zs_events.specs.declared.entity_kind.EntityKind.TheVariants.{Querier as querier_sort}
 use Rattle.zs_events.specs.declared.publication.ReplyQuality.{ReplyQuality}
 use Rattle.zs_events.specs.declared.turn.Answer.TheVariants.{Ok as accepted}
 use Rattle.zs_events.specs.declared.turn.Effect.TheVariants.{Send}
@@ -332,12 +329,6 @@ ends_lost w (QuerierGet id inquiry to) number text fit = go (querier_at id w.ent
     go None under counted = absurd (no_more w.asking.next counted)
     go (Some row) under counted = get_ends w (QuerierKey id) (question_of row inquiry) NoValue number text fit.below under counted
 ends_lost w (Undeclare querier_sort id) number text fit = undeclared_ends w number text id fit
-ends_lost w (Undeclare sub_kind id) number text fit = quiet_ends w (Undeclare sub_kind id) number text
-ends_lost w (Undeclare pub_kind id) number text fit = quiet_ends w (Undeclare pub_kind id) number text
-ends_lost w (Undeclare queryable_sort id) number text fit = quiet_ends w (Undeclare queryable_sort id) number text
-ends_lost w (Undeclare listener_sort id) number text fit = quiet_ends w (Undeclare listener_sort id) number text
-ends_lost w (Undeclare token_sort id) number text fit = quiet_ends w (Undeclare token_sort id) number text
-ends_lost w (Undeclare lsub_sort id) number text fit = quiet_ends w (Undeclare lsub_sort id) number text
 ends_lost w (Cancel token) number text fit =
     picked_append get_ended (cut_effects (CancelledBy token) w.asking.gets) (cancelled_ends token w.liveliness.gets)
     ∙ ap (λ (ns : List ℕ). picked get_ended (cut_effects (CancelledBy token) w.asking.gets) ++ ns) (asking_picked (numbers_with token w.liveliness.gets))

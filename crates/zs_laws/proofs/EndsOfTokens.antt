@@ -6,7 +6,7 @@ use Rattle.std.proofs.lemmas.Bool.{eqb-true}
 use mathlib.Core.List.{append-nil}
 use Rattle.zs_tables.specs.LivelinessGets.{is_asking}
 use Rattle.zs_tables.specs.declared.listener.ListenerRow.{ListenerRow}
-use Rattle.zs_tables.specs.declared.liveliness_get.LivelinessGet.{LivelinessGet as TokensGet}
+use Rattle.zs_tables.specs.Types.{LivelinessGet as TokensGet}
 use Rattle.zs_tables.specs.MatchingLaws.{differ}
 use Rattle.zs_tables.proofs.Ascending.{ascend_push}
 use Rattle.zs_query.specs.Ascending.{Ascend}

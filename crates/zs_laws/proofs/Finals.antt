@@ -1,30 +1,20 @@
 -- Which events send the final of a request from the network, and how often a request ends.
 use Rattle.std.proofs.Common.{◌≡◌, ℕ, List, [], ◌∷◌, ◌++◌, Bool, true, false, Option, Some, None, refl, sym, ◌∙◌, ap, append-nil}
-use Rattle.std.specs.Prelude.{◌||◌, nat_le, is_some, option_map, if◌then◌else◌}
+use Rattle.std.specs.Prelude.{◌||◌, is_some, if◌then◌else◌}
 use Rattle.zs_wire.specs.declared.message.Message.{Message}
-use Rattle.zs_wire.specs.declared.message.Message.TheVariants.{DeclareKeyExpr, UndeclareKeyExpr, UndeclareQueryable, Request as request_message, Response as response_message, ResponseFinal}
+use Rattle.zs_wire.specs.declared.message.Message.TheVariants.{Request as request_message, Response as response_message, ResponseFinal}
 use Rattle.zs_wire.specs.declared.wire_expr.WireExpr.{WireExpr}
-use Rattle.zs_wire.specs.declared.interest.InterestMode.TheVariants.{Current}
 use Rattle.zs_wire.specs.declared.response.Answered.TheVariants.{Reply, Err as Error}
 use Rattle.zs_wire.specs.declared.request.Request.{Request}
-use Rattle.zs_tables.specs.Recipients.{has_network}
-use Rattle.zs_tables.specs.declared.queryable.QueryableRow.{QueryableRow}
-use Rattle.zs_tables.specs.declared.group_kind.GroupKind.TheVariants.{Subscribers, Publishers, Queriers}
-use Rattle.zs_query.specs.declared.query_value.QueryValue.{QueryValue}
-use Rattle.zs_query.specs.declared.requests.Finished.{Finished}
-use Rattle.zs_query.specs.declared.requests.Finished.TheVariants.{Unknown, MoreLeft, Last}
+use Rattle.zs_query.specs.Types.{QueryValue, Finished, Unknown, MoreLeft, Last}
 use Rattle.zs_query.specs.declared.side.Side.TheVariants.{Local}
 use Rattle.zs_query.specs.Gets.{get_at, peek_at, final_outcome}
 use Rattle.zs_query.specs.Unfinished.{value_at, values_from, finished}
 use Rattle.zs_events.specs.declared.event.Event.{Event}
-use Rattle.zs_events.specs.declared.event.Event.TheVariants.{Key, UndeclareKey, Sub, Pub, Queryable, Querier, Token, Lsub, LivelinessGet, Undeclare, Close, Net}
-use Rattle.zs_events.specs.declared.entity_kind.EntityKind.TheVariants.{Sub as sub_kind, Pub as pub_kind, Queryable as queryable_sort, Querier as querier_sort}
-use Rattle.zs_events.specs.declared.key_arg.KeyArg.{KeyArg}
-use Rattle.zs_events.specs.declared.key_arg.KeyArg.TheVariants.{Text, Number, Declared as declared_text}
+use Rattle.zs_events.specs.declared.event.Event.TheVariants.{Net}
 use Rattle.zs_events.specs.declared.turn.Effect.TheVariants.{Send}
 use Rattle.zs_events.specs.declared.turn.Refusal.{Refusal}
-use Rattle.zs_events.specs.declared.turn.Turn.{Turn}
-use Rattle.zs_events.specs.Kinds.{NamedKey, Publishes, NoContent, OwnContent, ByPublisher, ToGets, NoGet, Asks, AsksBy, Answers, EndsSide, Reaches, EndsQuerier, Cancels, EndsAll, ToValues, NoValue, Requested, AnswersBy, AnswersError, SharesValue, GivesBack, message_row, row_of}
+use Rattle.zs_events.specs.Kinds.{NamedKey, ToGets, NoGet, Asks, AsksBy, Answers, EndsSide, Reaches, EndsQuerier, Cancels, EndsAll, ToValues, NoValue, Requested, AnswersBy, AnswersError, SharesValue, GivesBack, message_row, row_of}
 use Rattle.zs_model.specs.declared.settings.Settings.{Settings}
 use Rattle.zs_world.specs.declared.change.Change.TheVariants.{Nothing}
 use Rattle.zs_events.specs.Turn.{answered}
@@ -32,13 +22,8 @@ use Rattle.zs_model.specs.declared.publisher.PubRow.{PubRow}
 use Rattle.zs_world.specs.World.{World}
 use Rattle.zs_model.specs.Past.{past_of}
 use Rattle.zs_model.specs.Values.{met_by, network_request}
-use Rattle.zs_model.specs.Groups.{Company, company_at, Shared, last_number, sends_if, last_sends, leaving, subscriber_end, interest_end, querier_end, sub_shared, pub_shared, querier_shared}
-use Rattle.zs_model.specs.Subscribers.{sub_at}
-use Rattle.zs_model.specs.Publishers.{pub_at, resolved}
-use Rattle.zs_model.specs.Queryables.{queryable_at}
-use Rattle.zs_model.specs.Queriers.{querier_at}
-use Rattle.zs_model.specs.Sends.{OwnKeys, key_sends, return_sends, is_sent, push_with, wire_form, full_wire, declaration_of, publication_sends, sends_of}
-use Rattle.zs_model.specs.Effects.{to_gets_for, draws_of, answering, key_wire, queryable_leaves, declared_sends, token_declaration, token_interest, lsub_mode, entity_sends, effects}
+use Rattle.zs_model.specs.Sends.{OwnKeys, wire_form, full_wire, declaration_of, sends_of}
+use Rattle.zs_model.specs.Effects.{to_gets_for, draws_of, answering, entity_sends, effects}
 use Rattle.zs_model.specs.GetEffects.{request_effects, final_effects}
 use Rattle.zs_model.specs.ValueEffects.{value_effects, requested_effects, finish_effects, replied_effects, error_effects, answer_effects, answer_error_effects}
 use Rattle.zs_model.specs.Answers.{local_reply, local_error, response_by, quality_of}
@@ -49,6 +34,7 @@ use Rattle.zs_standing.specs.Stands.{world_after}
 use Rattle.zs_standing.proofs.Stands.{standing, same_text, same_cause}
 use Rattle.zs_laws.proofs.SentMessages.{same_messages, no_messages_in_queries, no_messages_in_reply, no_messages_in_error, no_messages_in_final, told_beside, asked_by, answered_by, told_by_event, all_messages}
 use Rattle.zs_laws.proofs.Reading.{request_cases}
+use Rattle.zs_laws.proofs.Sends.{Announced, ASubscriber, announcement, announced_wire, Retracted, OfSubscriber, retraction, entity_cases, sends_cases}
 
 -- finals of two lists of messages
 finals_append : (xs ys : List Message) → finals_among (xs ++ ys) ≡ finals_among xs ++ finals_among ys
@@ -73,86 +59,22 @@ none_asked default k key values number text (Reaches moment) = refl
 none_asked default k key values number text EndsAll = refl
 
 -- neither does what is sent beside
-none_if : (b : Bool) (message : Message) → finals_among (message ∷ []) ≡ [] → finals_among (messages_of (sends_if b message)) ≡ []
-none_if true message none = none
-none_if false message none = refl
-
-none_key : (k : OwnKeys) (number : Option ℕ) (text : Option (List ℕ)) → finals_among (messages_of (key_sends k number text)) ≡ []
-none_key k number None = refl
-none_key k None (Some text) = refl
-none_key k (Some number) (Some text) = go (is_some (k.number_of text))
-  where
-    go : (b : Bool) → finals_among (messages_of (if b then [] else Send (DeclareKeyExpr number (full_wire text)) ∷ [])) ≡ []
-    go true = refl
-    go false = refl
-
-none_return : (k : OwnKeys) (number : ℕ) → finals_among (messages_of (return_sends k number)) ≡ []
-none_return k number = go (nat_le (k.count_of number) 1)
-  where
-    go : (b : Bool) → finals_among (messages_of (if b then Send (UndeclareKeyExpr number) ∷ [] else [])) ≡ []
-    go true = refl
-    go false = refl
-
-none_push : (k : OwnKeys) (key : NamedKey) (text : Option (List ℕ)) (p : Publishes) → finals_among (messages_of (publication_sends k key text p)) ≡ []
-none_push k key text NoContent = refl
-none_push k key None (OwnContent c) = refl
-none_push k key None (ByPublisher id c) = refl
-none_push k key (Some text) (ByPublisher id c) = refl
-none_push k key (Some text) (OwnContent c) = go (is_sent c)
-  where
-    go : (b : Bool) → finals_among (messages_of (if b then Send (push_with (wire_form k text (declaration_of k text key)) c) ∷ [] else [])) ≡ []
-    go true = refl
-    go false = refl
-
 none_sent : (k : OwnKeys) (pubs : List PubRow) (number : Option ℕ) (text : Option (List ℕ)) (e : Event) → finals_among (messages_of (sends_of k pubs number text e)) ≡ []
-none_sent k pubs number text (Key key) = none_key k number text
-none_sent k pubs number text (UndeclareKey (Text whole)) = refl
-none_sent k pubs number text (UndeclareKey (Number n suffix)) = none_return k n
-none_sent k pubs number text (UndeclareKey (declared_text whole n prefix_len)) = none_return k n
-none_sent k pubs number text Close = refl
-none_sent k pubs number text e = none_push k (row_of e).key text (resolved pubs (row_of e).publishes)
+none_sent k pubs number text e =
+    sends_cases (λ fx. finals_among (messages_of fx) ≡ []) refl k pubs number text e (λ n t drew named. refl) (λ n. refl) refl (λ t c named is sent. refl)
 
-none_leaving : (c : Company) (x : Option Shared)
-    → (finals_among (messages_of (leaving c subscriber_end x)) ≡ []) × (finals_among (messages_of (leaving c interest_end x)) ≡ []) × (finals_among (messages_of (leaving c querier_end x)) ≡ [])
-none_leaving c None = (refl, refl, refl)
-none_leaving c (Some x) = go (last_number c x)
-  where
-    go : (o : Option ℕ) → (finals_among (messages_of (last_sends subscriber_end o)) ≡ []) × (finals_among (messages_of (last_sends interest_end o)) ≡ []) × (finals_among (messages_of (last_sends querier_end o)) ≡ [])
-    go None = (refl, refl, refl)
-    go (Some n) = (refl, refl, refl)
+none_begun : (what : Announced) (id : ℕ) (wire : WireExpr) → finals_among (announcement what id wire ∷ []) ≡ []
+none_begun ASubscriber id wire = refl
+none_begun what id wire = refl
 
-none_queryable_end : (o : Option QueryableRow) → finals_among (messages_of (queryable_leaves o)) ≡ []
-none_queryable_end None = refl
-none_queryable_end (Some row) = none_if (has_network row.origin) (UndeclareQueryable row.id) refl
-
-none_declared : (message : ℕ → WireExpr → Message) (k : OwnKeys) (number : Option ℕ) (text : Option (List ℕ)) (key : KeyArg)
-    → ((id : ℕ) (wire : WireExpr) → finals_among (message id wire ∷ []) ≡ []) → finals_among (messages_of (declared_sends message k number text key)) ≡ []
-none_declared message k (Some id) (Some text) key none = none id (key_wire k text key)
-none_declared message k (Some id) None key none = refl
-none_declared message k None text key none = refl
+none_ended : (what : Retracted) (id : ℕ) → finals_among (retraction what id ∷ []) ≡ []
+none_ended OfSubscriber id = refl
+none_ended what id = refl
 
 none_entity : (w : World) (number : Option ℕ) (text : Option (List ℕ)) (e : Event) → finals_among (messages_of (entity_sends (known_at w) e number text)) ≡ []
-none_entity w (Some id) (Some text) (Sub origin key to) = none_if _ _ refl
-none_entity w (Some id) None (Sub origin key to) = refl
-none_entity w None text (Sub origin key to) = refl
-none_entity w (Some id) (Some text) (Pub key settings) = none_if _ _ refl
-none_entity w (Some id) None (Pub key settings) = refl
-none_entity w None text (Pub key settings) = refl
-none_entity w (Some id) (Some text) (Queryable origin complete key) = none_if _ _ refl
-none_entity w (Some id) None (Queryable origin complete key) = refl
-none_entity w None text (Queryable origin complete key) = refl
-none_entity w (Some id) (Some text) (Querier key settings) = none_if _ _ refl
-none_entity w (Some id) None (Querier key settings) = refl
-none_entity w None text (Querier key settings) = refl
-none_entity w number text (Undeclare querier_sort id) = (none_leaving (company_at w.settings w.groups Queriers) (option_map querier_shared (querier_at id w.entities.queriers))).2
-none_entity w number text (Undeclare sub_kind id) = (none_leaving (company_at w.settings w.groups Subscribers) (option_map sub_shared (sub_at id w.entities.subs))).0
-none_entity w number text (Undeclare pub_kind id) = (none_leaving (company_at w.settings w.groups Publishers) (option_map pub_shared (pub_at id w.entities.pubs))).1
-none_entity w number text (Undeclare queryable_sort id) = none_queryable_end (queryable_at id w.entities.queryables)
-none_entity w number text (Token key) = none_declared token_declaration (own_keys_at w) number text key (λ id wire. refl)
-none_entity w number text (Lsub history key) = none_declared (token_interest (lsub_mode history)) (own_keys_at w) number text key (λ id wire. refl)
-none_entity w number text (LivelinessGet key timeout token to) = none_declared (token_interest Current) (own_keys_at w) number text key (λ id wire. refl)
-none_entity w number text (Key key) = refl
-none_entity w number text e = refl
+none_entity w number text e =
+    entity_cases (λ fx. finals_among (messages_of fx) ≡ []) refl (known_at w) e number text (λ what id t key is named. none_begun what id (announced_wire (known_at w) what t key))
+    (λ what id is. none_ended what id)
 
 none_beside : (w : World) (number : Option ℕ) (text : Option (List ℕ)) (e : Event) → finals_among (told_beside (known_at w) number text e) ≡ []
 none_beside w number text e =

@@ -6,8 +6,7 @@ use Rattle.std.proofs.lemmas.Bool.{eqb-true}
 use Rattle.std.proofs.lemmas.List.{length-append, length-map}
 use Rattle.zs_tables.specs.declared.queryable.QueryableRow.{QueryableRow}
 use Rattle.zs_tables.proofs.Ascending.{all_weaker, all_map}
-use Rattle.zs_query.specs.declared.query_value.QueryValue.{QueryValue}
-use Rattle.zs_query.specs.declared.request_row.RequestRow.{RequestRow}
+use Rattle.zs_query.specs.Types.{QueryValue, RequestRow}
 use Rattle.zs_query.specs.Ascending.{Ascend}
 use Rattle.zs_query.specs.Unfinished.{value_at, values_from}
 use Rattle.zs_query.specs.Drawn.{ValueNews, Drew, GaveBack, Drawn, just_drawn, giving_back, drawn}

@@ -14,15 +14,13 @@ use Rattle.zs_wire.specs.declared.response.Response.{Response}
 use Rattle.zs_wire.specs.declared.wire_expr.WireExpr.{WireExpr}
 use Rattle.zs_tables.specs.Recipients.{has_network}
 use Rattle.zs_tables.specs.LivelinessGets.{numbers_with, over_at}
-use Rattle.zs_tables.specs.declared.liveliness_get.LivelinessGet.{LivelinessGet as TokensGet}
+use Rattle.zs_tables.specs.Types.{LivelinessGet as TokensGet}
 use Rattle.zs_query.specs.declared.open_get.OpenGet.{OpenGet}
 use Rattle.zs_query.specs.declared.outcome.Outcome.{Outcome}
 use Rattle.zs_query.specs.declared.outcome.Outcome.TheVariants as outcome
 use Rattle.zs_query.specs.declared.outcome.Peek.{Peek}
 use Rattle.zs_query.specs.declared.outcome.Peek.TheVariants as peek
-use Rattle.zs_query.specs.declared.query_value.QueryValue.{QueryValue}
-use Rattle.zs_query.specs.declared.requests.Finished.{Finished}
-use Rattle.zs_query.specs.declared.requests.Finished.TheVariants.{Unknown, MoreLeft, Last}
+use Rattle.zs_query.specs.Types.{QueryValue, Finished, Unknown, MoreLeft, Last}
 use Rattle.zs_query.specs.declared.side.Side.{Side}
 use Rattle.zs_query.specs.declared.side.Side.TheVariants.{Local, Network}
 use Rattle.zs_query.specs.Ascending.{Ascend}
@@ -32,7 +30,7 @@ use Rattle.zs_query.specs.Unfinished.{value_at, finished}
 use Rattle.zs_query.proofs.Ascending.{all_weaker}
 use Rattle.zs_events.specs.declared.event.Event.{Event}
 use Rattle.zs_events.specs.declared.event.Event.TheVariants.{Undeclare, Close, Net, Get, QuerierGet, Cancel, Tick, Reply as reply_event, ReplyErr, Finish, Share}
-use Rattle.zs_events.specs.declared.entity_kind.EntityKind.TheVariants.{Sub as sub_kind, Pub as pub_kind, Queryable as queryable_sort, Querier as querier_sort, Listener as listener_sort, Token as token_sort, Lsub as lsub_sort}
+use Rattle.zs_events.specs.declared.entity_kind.EntityKind.TheVariants.{Querier as querier_sort}
 use Rattle.zs_events.specs.declared.publication.ReplyQuality.{ReplyQuality}
 use Rattle.zs_events.specs.declared.turn.Effect.{Effect}
 use Rattle.zs_events.specs.declared.turn.Effect.TheVariants.{Send}
@@ -336,12 +334,6 @@ given_to n known (QuerierGet id inquiry to) number text up = go (querier_at id k
 given_to n known (Undeclare querier_sort id) number text up =
     handed_behind n (others_of known number text (Undeclare querier_sort id)) (cut_effects (QuerierEnds id) known.gets) (others_hand_none n known number text (Undeclare querier_sort id))
     ∙ ends_hand_none n (ended_numbers (QuerierEnds id) known.gets)
-given_to n known (Undeclare sub_kind id) number text up = others_hand_none n known number text (Undeclare sub_kind id)
-given_to n known (Undeclare pub_kind id) number text up = others_hand_none n known number text (Undeclare pub_kind id)
-given_to n known (Undeclare queryable_sort id) number text up = others_hand_none n known number text (Undeclare queryable_sort id)
-given_to n known (Undeclare listener_sort id) number text up = others_hand_none n known number text (Undeclare listener_sort id)
-given_to n known (Undeclare token_sort id) number text up = others_hand_none n known number text (Undeclare token_sort id)
-given_to n known (Undeclare lsub_sort id) number text up = others_hand_none n known number text (Undeclare lsub_sort id)
 given_to n known (Cancel token) number text up =
     handed_behind n (cut_effects (CancelledBy token) known.gets) (cancelled_ends token known.watch.gets) (ends_hand_none n (ended_numbers (CancelledBy token) known.gets))
     ∙ asking_hand_none n (numbers_with token known.watch.gets)

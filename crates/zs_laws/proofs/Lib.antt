@@ -19,6 +19,7 @@ mod NamingLaws
 mod TokensEnded
 mod EndsOfTokens
 mod Unended
+mod TokensKnown
 mod Ordered
 pub mod Covered
 pub mod Endings
@@ -33,6 +34,7 @@ pub mod ToldNumbers
 pub mod Untaken
 pub mod SpelledTexts
 pub mod SentMessages
+pub mod Sends
 pub mod CoveredGroups
 pub mod CoveredKeys
 pub mod Silent

@@ -15,7 +15,7 @@ use Rattle.zs_wire.specs.declared.wire_expr.WireExpr.{WireExpr}
 use Rattle.zs_tables.specs.LivelinessGets.{is_over, is_own, numbers_with, over_at}
 use Rattle.zs_tables.specs.Queryables.{met, is_met}
 use Rattle.zs_tables.specs.Recipients.{has_network, has_session}
-use Rattle.zs_tables.specs.declared.liveliness_get.LivelinessGet.{LivelinessGet as TokensGet}
+use Rattle.zs_tables.specs.Types.{LivelinessGet as TokensGet}
 use Rattle.zs_tables.specs.declared.queryable.QueryableRow.{QueryableRow}
 use Rattle.zs_tables.proofs.Ascending.{all_map, all_filter}
 use Rattle.zs_query.specs.declared.open_get.OpenGet.{OpenGet}
@@ -23,10 +23,7 @@ use Rattle.zs_query.specs.declared.outcome.Outcome.{Outcome}
 use Rattle.zs_query.specs.declared.outcome.Outcome.TheVariants as outcome
 use Rattle.zs_query.specs.declared.outcome.Peek.{Peek}
 use Rattle.zs_query.specs.declared.outcome.Peek.TheVariants as peek
-use Rattle.zs_query.specs.declared.query_value.QueryValue.{QueryValue}
-use Rattle.zs_query.specs.declared.request_row.RequestRow.{RequestRow}
-use Rattle.zs_query.specs.declared.requests.Finished.{Finished}
-use Rattle.zs_query.specs.declared.requests.Finished.TheVariants.{Unknown, MoreLeft, Last}
+use Rattle.zs_query.specs.Types.{QueryValue, RequestRow, Finished, Unknown, MoreLeft, Last}
 use Rattle.zs_query.specs.declared.side.Side.TheVariants.{Local, Network}
 use Rattle.zs_query.specs.Asked.{QuerierEnds, CancelledBy}
 use Rattle.zs_query.specs.Gets.{get_at, peek_at, final_outcome, ends_at, timeout_error}
@@ -34,7 +31,7 @@ use Rattle.zs_query.specs.Unfinished.{value_at, values_from, finished}
 use Rattle.zs_query.proofs.Ascending.{all_append}
 use Rattle.zs_events.specs.declared.event.Event.{Event}
 use Rattle.zs_events.specs.declared.event.Event.TheVariants.{Undeclare, Close, Net, Get, QuerierGet, Cancel, Tick, Reply as reply_event, ReplyErr, Finish, Share}
-use Rattle.zs_events.specs.declared.entity_kind.EntityKind.TheVariants.{Sub as sub_kind, Pub as pub_kind, Queryable as queryable_sort, Querier as querier_sort, Listener as listener_sort, Token as token_sort, Lsub as lsub_sort}
+use Rattle.zs_events.specs.declared.entity_kind.EntityKind.TheVariants.{Querier as querier_sort}
 use Rattle.zs_events.specs.declared.publication.ReplyQuality.{ReplyQuality}
 use Rattle.zs_events.specs.declared.turn.Effect.{Effect}
 use Rattle.zs_events.specs.declared.turn.Effect.TheVariants.{Send}
@@ -202,12 +199,6 @@ all_near n known (QuerierGet id inquiry to) number text near = go (querier_at id
 all_near n known (Undeclare querier_sort id) number text near =
     all_append (IsBelow n) (others_of known number text (Undeclare querier_sort id)) (cut_effects (QuerierEnds id) known.gets)
     (others_around (IsBelow n) known number text (Undeclare querier_sort id) near.around) (ends_near n (ended_numbers (QuerierEnds id) known.gets))
-all_near n known (Undeclare sub_kind id) number text near = others_around (IsBelow n) known number text (Undeclare sub_kind id) near.around
-all_near n known (Undeclare pub_kind id) number text near = others_around (IsBelow n) known number text (Undeclare pub_kind id) near.around
-all_near n known (Undeclare queryable_sort id) number text near = others_around (IsBelow n) known number text (Undeclare queryable_sort id) near.around
-all_near n known (Undeclare listener_sort id) number text near = others_around (IsBelow n) known number text (Undeclare listener_sort id) near.around
-all_near n known (Undeclare token_sort id) number text near = others_around (IsBelow n) known number text (Undeclare token_sort id) near.around
-all_near n known (Undeclare lsub_sort id) number text near = others_around (IsBelow n) known number text (Undeclare lsub_sort id) near.around
 all_near n known (Cancel token) number text near =
     all_append (IsBelow n) (cut_effects (CancelledBy token) known.gets) (cancelled_ends token known.watch.gets) (ends_near n (ended_numbers (CancelledBy token) known.gets))
     (asking_near n (numbers_with token known.watch.gets)

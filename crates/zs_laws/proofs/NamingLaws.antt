@@ -8,8 +8,7 @@ use Rattle.zs_sample.specs.Reply.{Replied}
 use Rattle.zs_sample.specs.declared.sample_fields.SampleFields.{SampleFields}
 use Rattle.zs_tables.specs.MatchingLaws.{differ}
 use Rattle.zs_tables.specs.declared.listener.ListenerRow.{ListenerRow}
-use Rattle.zs_tables.specs.declared.liveliness_get.LivelinessGet.{LivelinessGet as TokensGet}
-use Rattle.zs_tables.specs.declared.liveliness_sub.LivelinessSub.{LivelinessSub}
+use Rattle.zs_tables.specs.Types.{LivelinessGet as TokensGet, LivelinessSub}
 use Rattle.zs_tables.specs.declared.queryable.QueryableRow.{QueryableRow}
 use Rattle.zs_tables.specs.declared.subscriber.SubRow.{SubRow}
 use Rattle.zs_tables.proofs.Ascending.{all_weaker, all_filter}

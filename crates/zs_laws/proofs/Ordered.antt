@@ -18,19 +18,15 @@ use Rattle.zs_tables.specs.LivelinessGets.{is_asking, over_at, numbers_with}
 use Rattle.zs_tables.specs.MatchingLaws.{differ}
 use Rattle.zs_tables.specs.Recipients.{has_network}
 use Rattle.zs_tables.specs.declared.listener.ListenerRow.{ListenerRow}
-use Rattle.zs_tables.specs.declared.liveliness_get.LivelinessGet.{LivelinessGet as TokensGet}
-use Rattle.zs_tables.specs.declared.liveliness_sub.LivelinessSub.{LivelinessSub}
+use Rattle.zs_tables.specs.Types.{LivelinessGet as TokensGet, LivelinessSub, ToldToken}
 use Rattle.zs_tables.specs.declared.queryable.QueryableRow.{QueryableRow}
 use Rattle.zs_tables.specs.declared.subscriber.SubRow.{SubRow}
-use Rattle.zs_tables.specs.declared.told_token.ToldToken.{ToldToken}
 use Rattle.zs_query.specs.declared.open_get.OpenGet.{OpenGet}
 use Rattle.zs_query.specs.declared.outcome.Outcome.{Outcome}
 use Rattle.zs_query.specs.declared.outcome.Outcome.TheVariants as outcome
 use Rattle.zs_query.specs.declared.outcome.Peek.{Peek}
 use Rattle.zs_query.specs.declared.outcome.Peek.TheVariants as peek
-use Rattle.zs_query.specs.declared.query_value.QueryValue.{QueryValue}
-use Rattle.zs_query.specs.declared.requests.Finished.{Finished}
-use Rattle.zs_query.specs.declared.requests.Finished.TheVariants.{Unknown, MoreLeft, Last}
+use Rattle.zs_query.specs.Types.{QueryValue, Finished, Unknown, MoreLeft, Last}
 use Rattle.zs_query.specs.declared.side.Side.TheVariants.{Local, Network}
 use Rattle.zs_query.specs.Asked.{QuerierEnds, CancelledBy}
 use Rattle.zs_query.specs.Gets.{get_at, peek_at, final_outcome, ends_at, timeout_error}
@@ -38,7 +34,7 @@ use Rattle.zs_query.specs.Unfinished.{value_at, finished}
 use Rattle.zs_query.proofs.Ascending.{all_append, all_weaker}
 use Rattle.zs_events.specs.declared.event.Event.{Event}
 use Rattle.zs_events.specs.declared.event.Event.TheVariants.{Undeclare, Close, Net, Get, QuerierGet, Cancel, Tick, Reply as reply_event, ReplyErr, Finish, Share}
-use Rattle.zs_events.specs.declared.entity_kind.EntityKind.TheVariants.{Sub as sub_kind, Pub as pub_kind, Queryable as queryable_sort, Querier as querier_sort, Listener as listener_sort, Token as token_sort, Lsub as lsub_sort}
+use Rattle.zs_events.specs.declared.entity_kind.EntityKind.TheVariants.{Sub as sub_kind, Queryable as queryable_sort, Querier as querier_sort, Lsub as lsub_sort}
 use Rattle.zs_events.specs.declared.publication.ReplyQuality.{ReplyQuality}
 use Rattle.zs_events.specs.declared.turn.Effect.{Effect}
 use Rattle.zs_events.specs.declared.turn.Effect.TheVariants.{Send, Hand, End, Matching}
@@ -145,10 +141,7 @@ published rows (Some text) (ByPublisher id c) = none_within 1 1
 -- ends of entities
 ends_within : (known : Known) (e : Event) → AreWithin 3 5 (ends_of known.queryables known.subs known.watch.subs e)
 ends_within known (Undeclare sub_kind id) = wider 4 4 3 5 _ (omega arith) (omega arith) (one 4 (End Subscriber id) refl)
-ends_within known (Undeclare pub_kind id) = none_within 3 5
 ends_within known (Undeclare queryable_sort id) = wider 3 3 3 5 _ (omega arith) (omega arith) (one 3 (End queryable_kind id) refl)
-ends_within known (Undeclare querier_sort id) = none_within 3 5
-ends_within known (Undeclare token_sort id) = none_within 3 5
 ends_within known (Undeclare lsub_sort id) = wider 5 5 3 5 _ (omega arith) (omega arith) (one 5 (End LivelinessSubscriber id) refl)
 ends_within known Close =
     joined 3 4 5 5 (queryable_ends known.queryables ++ sub_ends known.subs) (lsub_ends known.watch.subs) (omega arith) (omega arith) (omega arith)
@@ -328,12 +321,6 @@ all_within known number text (Undeclare querier_sort id) =
     joined 0 1 6 7 (others_of known number text (Undeclare querier_sort id)) (cut_effects (QuerierEnds id) known.gets) (omega arith) (omega arith) (omega arith)
     (others_within 1 known number text (Undeclare querier_sort id) (omega arith) (none_within 1 1))
     (wider 6 6 6 7 (cut_effects (QuerierEnds id) known.gets) (omega arith) (omega arith) (mapped 6 end_get (λ n. refl) (ended_numbers (QuerierEnds id) known.gets)))
-all_within known number text (Undeclare sub_kind id) = all_others known number text (Undeclare sub_kind id)
-all_within known number text (Undeclare pub_kind id) = all_others known number text (Undeclare pub_kind id)
-all_within known number text (Undeclare queryable_sort id) = all_others known number text (Undeclare queryable_sort id)
-all_within known number text (Undeclare listener_sort id) = all_others known number text (Undeclare listener_sort id)
-all_within known number text (Undeclare token_sort id) = all_others known number text (Undeclare token_sort id)
-all_within known number text (Undeclare lsub_sort id) = all_others known number text (Undeclare lsub_sort id)
 all_within known number text (Cancel token) =
     wider 6 7 0 7 (cut_effects (CancelledBy token) known.gets ++ cancelled_ends token known.watch.gets) (omega arith) (omega arith)
     (gets_within (ended_numbers (CancelledBy token) known.gets) (numbers_with token known.watch.gets))

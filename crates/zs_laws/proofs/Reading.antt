@@ -1,6 +1,6 @@
 -- Each message of an event is read as the text of its key by a receiver that knows the numbers.
 use Rattle.std.proofs.Common.{◌≡◌, ◌≤◌, ℕ, List, [], ◌∷◌, ◌++◌, Bool, true, false, Option, Some, None, refl, sym, ◌∙◌, ap, subst, arith, length, take, drop, map}
-use Rattle.std.specs.Prelude.{◌==◌, ◌&&◌, not, is_some, unwrap_or, option_map, chars, if◌then◌else◌, encode_utf8_all, IsUtf8}
+use Rattle.std.specs.Prelude.{◌==◌, ◌&&◌, not, unwrap_or, option_map, chars, if◌then◌else◌, encode_utf8_all, IsUtf8}
 use Rattle.std.specs.Option.{IfSome}
 use Rattle.std.specs.List.{starts_with, find, AllByRecursion}
 use Rattle.std.proofs.lemmas.Bool.{eqb-true}
@@ -13,30 +13,20 @@ use mathlib.Core.List.{append-nil}
 use Rattle.zs_keys.specs.Key.{Key as a_key}
 use Rattle.zs_keys.specs.declared.declaration.Declared.{Declared}
 use Rattle.zs_wire.specs.declared.message.Message.{Message}
-use Rattle.zs_wire.specs.declared.message.Message.TheVariants.{DeclareKeyExpr, UndeclareKeyExpr, DeclareSubscriber, DeclareQueryable, UndeclareQueryable, Interest, Request as request_message, Response as response_message, ResponseFinal}
-use Rattle.zs_wire.specs.declared.interest.InterestMode.TheVariants.{CurrentFuture, Current}
-use Rattle.zs_wire.specs.declared.interest.InterestWhat.TheVariants.{Subscribers as of_subscribers, Queryables as of_queryables}
+use Rattle.zs_wire.specs.declared.message.Message.TheVariants.{DeclareKeyExpr, Request as request_message, Response as response_message, ResponseFinal}
 use Rattle.zs_keys.specs.Matching.{includes}
 use Rattle.zs_tables.specs.Recipients.{has_network}
-use Rattle.zs_tables.specs.declared.group_kind.GroupKind.TheVariants.{Subscribers, Publishers, Queriers}
 use Rattle.zs_wire.specs.declared.wire_expr.WireExpr.{WireExpr}
-use Rattle.zs_tables.specs.Numbers.{key_at, number_at}
-use Rattle.zs_tables.specs.declared.queryable.QueryableRow.{QueryableRow}
-use Rattle.zs_model.specs.Queryables.{queryable_at}
+use Rattle.zs_tables.specs.Numbers.{key_at}
 use Rattle.zs_events.specs.declared.event.Event.{Event}
-use Rattle.zs_events.specs.declared.event.Event.TheVariants.{Key, UndeclareKey, Sub, Pub, Queryable, Querier, Undeclare, Close, Net, ReplyErr, Token, Lsub, LivelinessGet}
-use Rattle.zs_events.specs.declared.entity_kind.EntityKind.TheVariants.{Sub as sub_kind, Pub as pub_kind, Queryable as queryable_sort, Querier as querier_sort, Token as token_sort, Lsub as lsub_sort}
+use Rattle.zs_events.specs.declared.event.Event.TheVariants.{Net, ReplyErr}
 use Rattle.zs_events.specs.declared.key_arg.KeyArg.{KeyArg}
-use Rattle.zs_events.specs.declared.key_arg.KeyArg.TheVariants.{Text, Number, Declared as declared_text}
 use Rattle.zs_events.specs.declared.turn.Effect.TheVariants.{Send}
-use Rattle.zs_events.specs.Kinds.{NamedKey, Publishes, NoContent, OwnContent, ByPublisher, Question, ToGets, NoGet, Asks, AsksBy, Answers, EndsSide, Reaches, EndsQuerier, Cancels, EndsAll, ToValues, NoValue, Requested, AnswersBy, AnswersError, SharesValue, GivesBack, message_row, row_of}
+use Rattle.zs_events.specs.Kinds.{NamedKey, Question, ToGets, NoGet, Asks, AsksBy, Answers, EndsSide, Reaches, EndsQuerier, Cancels, EndsAll, ToValues, NoValue, Requested, AnswersBy, AnswersError, SharesValue, GivesBack, message_row, row_of}
 use Rattle.zs_wire.specs.declared.body.Value.{Value}
 use Rattle.zs_wire.specs.declared.response.Answered.TheVariants.{Reply, Err as Error}
 use Rattle.zs_query.specs.declared.side.Side.TheVariants.{Local}
-use Rattle.zs_query.specs.declared.query_value.QueryValue.{QueryValue}
-use Rattle.zs_query.specs.declared.request_row.RequestRow.{RequestRow}
-use Rattle.zs_query.specs.declared.requests.Finished.{Finished}
-use Rattle.zs_query.specs.declared.requests.Finished.TheVariants.{Unknown, MoreLeft, Last}
+use Rattle.zs_query.specs.Types.{QueryValue, RequestRow, Finished, Unknown, MoreLeft, Last}
 use Rattle.zs_query.specs.Unfinished.{value_at, finished}
 use Rattle.zs_query.specs.Gets.{get_at, peek_at, final_outcome}
 use Rattle.zs_model.specs.Questions.{request_of}
@@ -45,16 +35,14 @@ use Rattle.zs_model.specs.Answers.{quality_of, local_reply, local_error, respons
 use Rattle.zs_model.specs.ValueEffects.{Answering, error_effects, replied_effects, answer_effects, answer_error_effects, finish_effects, value_effects}
 use Rattle.zs_model.specs.declared.settings.Settings.{Settings}
 use Rattle.zs_world.specs.World.{World}
-use Rattle.zs_world.specs.DeclaredKeys.{is_last}
-use Rattle.zs_model.specs.Subscribers.{sub_at}
-use Rattle.zs_model.specs.Publishers.{pub_at, resolved}
-use Rattle.zs_model.specs.Queriers.{querier_at}
-use Rattle.zs_model.specs.Groups.{aggregate_of, share_text, Shared, sub_shared, pub_shared, querier_shared, Company, company_at, joins_first, last_number, sends_if, last_sends, leaving, subscriber_end, interest_end, querier_end}
-use Rattle.zs_model.specs.Sends.{has_front, goes_by_number, full_wire, number_wire, wire_form, declared_by, declaration_of, group_wire, key_sends, return_sends, is_sent, push_with, publication_sends, sends_of}
-use Rattle.zs_model.specs.Effects.{to_gets_for, draws_of, answering, key_wire, queryable_leaves, entity_sends, token_declaration, lsub_mode, token_interest, declared_sends}
+use Rattle.zs_model.specs.Groups.{aggregate_of, share_text}
+use Rattle.zs_model.specs.Sends.{has_front, goes_by_number, full_wire, number_wire, wire_form, declared_by, declaration_of, group_wire, push_with, sends_of}
+use Rattle.zs_model.specs.Effects.{to_gets_for, draws_of, answering, key_wire, entity_sends}
 use Rattle.zs_world.specs.Turns.{own_keys_at, known_at}
 use Rattle.zs_model.specs.Received.{messages_of, sent_behind, number_text, read_as, spoken_by, AreReadAs, AreSpelled}
 use Rattle.zs_laws.proofs.SentMessages.{messages_append, told_beside, no_messages_in_reply, no_messages_in_final, no_messages_in_queries, no_messages_in_error, value_cases, asked_by, answered_by, told_by_event}
+use Rattle.zs_laws.proofs.Sends.{Announced, ASubscriber, APublisher, announcement, aggregates_for, announced_wire, Retracted, OfSubscriber, retraction, announced, entity_cases, sends_alone, sends_cases}
+use Rattle.zs_events.specs.declared.turn.Effect.{Effect}
 
 -- what a receiver of these messages knows of numbers is what the table has, and its texts are UTF-8
 pub record IsTold (w : World) (before : List Message) : Type 0 where
@@ -114,37 +102,6 @@ form_read w text (Some d) before told utf8 = go (goes_by_number (own_keys_at w) 
     go true goes = number_read w text d before told utf8 goes
     go false goes = full_read text before utf8
 
--- each message of an event is read as the text of its key
-pub key_read : (w : World) (number : Option ℕ) (text : Option (List ℕ)) (before : List Message) → IfSome text IsUtf8
-    → AreReadAs w.settings text before (messages_of (key_sends (own_keys_at w) number text))
-key_read w number None before utf8 = tt
-key_read w None (Some text) before utf8 = tt
-key_read w (Some number) (Some text) before utf8 = go (is_some (number_at text w.keys.own))
-  where
-    go : (b : Bool) → AreReadAs w.settings (Some text) before (messages_of (if b then [] else Send (DeclareKeyExpr number (full_wire text)) ∷ []))
-    go true = tt
-    go false = (full_read text before utf8, tt)
-
-pub return_read : (w : World) (number : ℕ) (text : Option (List ℕ)) (before : List Message)
-    → AreReadAs w.settings text before (messages_of (return_sends (own_keys_at w) number))
-return_read w number text before = go (is_last number w.keys.holders)
-  where
-    go : (b : Bool) → AreReadAs w.settings text before (messages_of (if b then Send (UndeclareKeyExpr number) ∷ [] else []))
-    go true = (tt, tt)
-    go false = tt
-
-pub push_read : (w : World) (key : NamedKey) (text : Option (List ℕ)) (p : Publishes) (before : List Message) → IsTold w before → IfSome text IsUtf8
-    → AreReadAs w.settings text before (messages_of (publication_sends (own_keys_at w) key text p))
-push_read w key text NoContent before told utf8 = tt
-push_read w key None (ByPublisher id c) before told utf8 = tt
-push_read w key (Some text) (ByPublisher id c) before told utf8 = tt
-push_read w key None (OwnContent c) before told utf8 = tt
-push_read w key (Some text) (OwnContent c) before told utf8 = go (is_sent c)
-  where
-    go : (b : Bool) → AreReadAs w.settings (Some text) before (messages_of (if b then Send (push_with (wire_form (own_keys_at w) text (declaration_of (own_keys_at w) text key)) c) ∷ [] else []))
-    go true = (form_read w text (declaration_of (own_keys_at w) text key) before told utf8, tt)
-    go false = tt
-
 -- what a get sends: its request, or nothing
 pub request_cases : (P : List Message → Type 0) → P [] → (default : ℕ) (wire : WireExpr) (number : ℕ) (q : Question) (values : List QueryValue)
     → P (request_message (request_of default wire number q) ∷ []) → P (messages_of (ask_effects default wire number q values))
@@ -177,13 +134,19 @@ request_read w key values (Some number) (Some text) q before told utf8 =
 
 pub sends_read : (w : World) (number : Option ℕ) (text : Option (List ℕ)) (e : Event) (before : List Message) → IsTold w before → IfSome text IsUtf8
     → AreReadAs w.settings text before (messages_of (sends_of (own_keys_at w) w.entities.pubs number text e))
-sends_read w number text (Key key) before told utf8 = key_read w number text before utf8
-sends_read w number text (UndeclareKey (Text whole)) before told utf8 = tt
-sends_read w number text (UndeclareKey (Number n suffix)) before told utf8 = return_read w n text before
-sends_read w number text (UndeclareKey (declared_text whole n prefix_len)) before told utf8 = return_read w n text before
-sends_read w number text Close before told utf8 = (tt, tt)
-sends_read w number text (Net (response_message response)) before told utf8 = tt
-sends_read w number text e before told utf8 = push_read w (row_of e).key text (resolved w.entities.pubs (row_of e).publishes) before told utf8
+sends_read w number text e before told utf8 =
+    sends_cases (λ fx. AreReadAs w.settings text before (messages_of fx)) tt (own_keys_at w) w.entities.pubs number text e
+    (λ n t drew named. so t named (DeclareKeyExpr n (full_wire t)) (full_read t before (spelled t named), tt)) (λ n. (tt, tt)) (tt, tt)
+    (λ t c named is sent. so t named (push_with (wire t) c) (form_read w t (declaration_of (own_keys_at w) t (row_of e).key) before told (spelled t named), tt))
+  where
+    wire : List ℕ → WireExpr
+    wire t = wire_form (own_keys_at w) t (declaration_of (own_keys_at w) t (row_of e).key)
+
+    spelled : (t : List ℕ) → text ≡ Some t → IsUtf8 t
+    spelled t named = subst (λ (o : Option (List ℕ)). IfSome o IsUtf8) named utf8
+
+    so : (t : List ℕ) → text ≡ Some t → (m : Message) → AreReadAs w.settings (Some t) before (m ∷ []) → AreReadAs w.settings text before (m ∷ [])
+    so t named m read = subst (λ (o : Option (List ℕ)). AreReadAs w.settings o before (m ∷ [])) (sym named) read
 
 -- what holds of each element holds of one that is found
 pub found_one : (P : a_key → Type 0) (p : a_key → Bool) (keys : List a_key) (key : a_key) → AllByRecursion P keys → find p keys ≡ Some key → P key
@@ -204,84 +167,37 @@ group_read w aggregates text key before told spelled utf8 = go (aggregate_of agg
     go None found = form_read w text (declared_by (own_keys_at w) text key) before told utf8
     go (Some a) found = full_read a.text before (found_one (λ (k : a_key). IsUtf8 k.text) (λ a. includes a.text text) aggregates a spelled found)
 
-pub leaving_read : (s : Settings) (text : Option (List ℕ)) (before : List Message) (c : Company) (x : Option Shared)
-    → AreReadAs s text before (messages_of (leaving c subscriber_end x)) × AreReadAs s text before (messages_of (leaving c interest_end x)) × AreReadAs s text before (messages_of (leaving c querier_end x))
-leaving_read s text before c None = (tt, tt, tt)
-leaving_read s text before c (Some x) = go (last_number c x)
-  where
-    go : (o : Option ℕ) → AreReadAs s text before (messages_of (last_sends subscriber_end o)) × AreReadAs s text before (messages_of (last_sends interest_end o)) × AreReadAs s text before (messages_of (last_sends querier_end o))
-    go None = (tt, tt, tt)
-    go (Some n) = ((tt, tt), (tt, tt), (tt, tt))
+-- what an event announces is read as the text that its key shares
+announced_read : (w : World) (what : Announced) (id : ℕ) (t : List ℕ) (wire : WireExpr) (before : List Message) → read_as before wire ≡ Some (share_text (aggregates_for (known_at w) what) t)
+    → AreReadAs w.settings (Some t) before (announcement what id wire ∷ [])
+announced_read w ASubscriber id t wire before is = (is, tt)
+announced_read w what id t wire before is = (is, tt)
 
-pub queryable_read : (s : Settings) (text : Option (List ℕ)) (before : List Message) (o : Option QueryableRow) → AreReadAs s text before (messages_of (queryable_leaves o))
-queryable_read s text before None = tt
-queryable_read s text before (Some row) = go (has_network row.origin)
-  where
-    go : (b : Bool) → AreReadAs s text before (messages_of (sends_if b (UndeclareQueryable row.id)))
-    go true = (tt, tt)
-    go false = tt
+retracted_read : (w : World) (what : Retracted) (id : ℕ) (text : Option (List ℕ)) (before : List Message) → AreReadAs w.settings text before (retraction what id ∷ [])
+retracted_read w OfSubscriber id text before = (tt, tt)
+retracted_read w what id text before = (tt, tt)
 
--- a declaration of liveliness is read as its key's text
-pub declared_read : (w : World) (message : ℕ → WireExpr → Message) (number : Option ℕ) (text : Option (List ℕ)) (key : KeyArg) (before : List Message) → IsTold w before → IfSome text IsUtf8
-    → ((id : ℕ) (wire : WireExpr) (t : List ℕ) → read_as before wire ≡ Some t → AreReadAs w.settings (Some t) before (message id wire ∷ []))
-    → AreReadAs w.settings text before (messages_of (declared_sends message (own_keys_at w) number text key))
-declared_read w message (Some id) (Some text) key before told utf8 means =
-    means id (key_wire (own_keys_at w) text key) text (form_read w text (declared_by (own_keys_at w) text key) before told utf8)
-declared_read w message (Some id) None key before told utf8 means = tt
-declared_read w message None text key before told utf8 means = tt
+spelled_for : (w : World) (what : Announced) → AreSpelled w.settings → AllByRecursion (λ a. IsUtf8 a.text) (aggregates_for (known_at w) what)
+spelled_for w ASubscriber spelled = spelled.0
+spelled_for w APublisher spelled = spelled.1
+spelled_for w what spelled = tt
 
 pub groups_read : (w : World) (number : Option ℕ) (text : Option (List ℕ)) (e : Event) (before : List Message) → IsTold w before → AreSpelled w.settings → IfSome text IsUtf8
     → AreReadAs w.settings text (sent_behind (messages_of (sends_of (own_keys_at w) w.entities.pubs number text e)) before) (messages_of (entity_sends (known_at w) e number text))
-groups_read w (Some id) (Some text) (Sub origin key to) before told spelled utf8 =
-    go (joins_first (company_at w.settings w.groups Subscribers) (record { id = id; told = has_network origin; text = text }))
+groups_read w number text e before told spelled utf8 =
+    entity_cases (λ fx. AreReadAs w.settings text (sent_behind (messages_of sends) before) (messages_of fx)) tt (known_at w) e number text begun
+    (λ what id is. retracted_read w what id text (sent_behind (messages_of sends) before))
   where
-    go : (b : Bool) → AreReadAs w.settings (Some text) before
-        (messages_of (sends_if b (DeclareSubscriber id (group_wire w.settings.aggregated_subscribers text (key_wire (own_keys_at w) text key)))))
-    go true = (group_read w w.settings.aggregated_subscribers text key before told spelled.0 utf8, tt)
-    go false = tt
-groups_read w (Some id) None (Sub origin key to) before told spelled utf8 = tt
-groups_read w None text (Sub origin key to) before told spelled utf8 = tt
-groups_read w (Some id) (Some text) (Pub key settings) before told spelled utf8 =
-    go (joins_first (company_at w.settings w.groups Publishers) (record { id = id; told = has_network settings.destination; text = text }))
-  where
-    go : (b : Bool) → AreReadAs w.settings (Some text) before
-        (messages_of (sends_if b (Interest id CurrentFuture of_subscribers (Some (group_wire w.settings.aggregated_publishers text (key_wire (own_keys_at w) text key))))))
-    go true = (group_read w w.settings.aggregated_publishers text key before told spelled.1 utf8, tt)
-    go false = tt
-groups_read w (Some id) None (Pub key settings) before told spelled utf8 = tt
-groups_read w None text (Pub key settings) before told spelled utf8 = tt
-groups_read w (Some id) (Some text) (Queryable origin complete key) before told spelled utf8 = go (has_network origin)
-  where
-    go : (b : Bool) → AreReadAs w.settings (Some text) before (messages_of (sends_if b (DeclareQueryable id complete (key_wire (own_keys_at w) text key))))
-    go true = (form_read w text (declared_by (own_keys_at w) text key) before told utf8, tt)
-    go false = tt
-groups_read w (Some id) None (Queryable origin complete key) before told spelled utf8 = tt
-groups_read w None text (Queryable origin complete key) before told spelled utf8 = tt
-groups_read w (Some id) (Some text) (Querier key settings) before told spelled utf8 =
-    go (joins_first (company_at w.settings w.groups Queriers) (record { id = id; told = has_network settings.destination; text = text }))
-  where
-    go : (b : Bool) → AreReadAs w.settings (Some text) before (messages_of (sends_if b (Interest id CurrentFuture of_queryables (Some (key_wire (own_keys_at w) text key)))))
-    go true = (form_read w text (declared_by (own_keys_at w) text key) before told utf8, tt)
-    go false = tt
-groups_read w (Some id) None (Querier key settings) before told spelled utf8 = tt
-groups_read w None text (Querier key settings) before told spelled utf8 = tt
-groups_read w number text (Undeclare querier_sort id) before told spelled utf8 =
-    (leaving_read w.settings text (sent_behind (messages_of (sends_of (own_keys_at w) w.entities.pubs number text (Undeclare querier_sort id))) before) (company_at w.settings w.groups Queriers) (option_map querier_shared (querier_at id w.entities.queriers))).2
-groups_read w number text (Token key) before told spelled utf8 =
-    declared_read w token_declaration number text key before told utf8 (λ id wire t is. (is, tt))
-groups_read w number text (Undeclare token_sort id) before told spelled utf8 = (tt, tt)
-groups_read w number text (Lsub history key) before told spelled utf8 =
-    declared_read w (token_interest (lsub_mode history)) number text key before told utf8 (λ id wire t is. (is, tt))
-groups_read w number text (LivelinessGet key timeout token to) before told spelled utf8 =
-    declared_read w (token_interest Current) number text key before told utf8 (λ id wire t is. (is, tt))
-groups_read w number text (Undeclare lsub_sort id) before told spelled utf8 = (tt, tt)
-groups_read w number text (Undeclare queryable_sort id) before told spelled utf8 = queryable_read w.settings text before (queryable_at id w.entities.queryables)
-groups_read w number text (Undeclare sub_kind id) before told spelled utf8 =
-    (leaving_read w.settings text (sent_behind (messages_of (sends_of (own_keys_at w) w.entities.pubs number text (Undeclare sub_kind id))) before) (company_at w.settings w.groups Subscribers) (option_map sub_shared (sub_at id w.entities.subs))).0
-groups_read w number text (Undeclare pub_kind id) before told spelled utf8 =
-    (leaving_read w.settings text (sent_behind (messages_of (sends_of (own_keys_at w) w.entities.pubs number text (Undeclare pub_kind id))) before) (company_at w.settings w.groups Publishers) (option_map pub_shared (pub_at id w.entities.pubs))).1
-groups_read w number text (Key key) before told spelled utf8 = tt
-groups_read w number text e before told spelled utf8 = tt
+    sends : List Effect
+    sends = sends_of (own_keys_at w) w.entities.pubs number text e
+
+    begun : (what : Announced) (id : ℕ) (t : List ℕ) (key : KeyArg) → announced e ≡ Some what → text ≡ Some t
+        → AreReadAs w.settings text (sent_behind (messages_of sends) before) (announcement what id (announced_wire (known_at w) what t key) ∷ [])
+    begun what id t key is named =
+        let wire = announced_wire (known_at w) what t key in
+        let read = group_read w (aggregates_for (known_at w) what) t key before told (spelled_for w what spelled) (subst (λ (o : Option (List ℕ)). IfSome o IsUtf8) named utf8) in
+        subst (λ (fx : List Effect). AreReadAs w.settings text (sent_behind (messages_of fx) before) (announcement what id wire ∷ [])) (sym (sends_alone (own_keys_at w) w.entities.pubs number text e what is))
+        (subst (λ (o : Option (List ℕ)). AreReadAs w.settings o before (announcement what id wire ∷ [])) (sym named) (announced_read w what id t wire before read))
 
 pub both_read : (s : Settings) (text : Option (List ℕ)) (before xs ys : List Message) → AreReadAs s text before xs → AreReadAs s text (sent_behind xs before) ys → AreReadAs s text before (xs ++ ys)
 both_read s text before [] ys front back = back

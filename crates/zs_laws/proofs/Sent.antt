@@ -1,34 +1,27 @@
 -- Each message that an event sends is of one of five sorts, whatever the event: what holds of each sort holds of all messages.
 use Rattle.std.proofs.Common.{◌≡◌, ℕ, List, [], ◌∷◌, ◌++◌, Bool, true, false, Option, Some, None, refl, sym, ◌∙◌, ap, subst, map}
-use Rattle.std.specs.Prelude.{nat_le, is_some, option_map, filter, not, ◌&&◌, if◌then◌else◌}
+use Rattle.std.specs.Prelude.{nat_le, is_some, filter, not, ◌&&◌, if◌then◌else◌}
 use Rattle.std.specs.List.{AllByRecursion}
 use mathlib.Core.List.{append-nil}
 use Rattle.zs_keys.specs.declared.declaration.Declared.{Declared}
 use Rattle.zs_wire.specs.declared.body.Body.{Body}
 use Rattle.zs_wire.specs.declared.body.Value.{Value}
 use Rattle.zs_wire.specs.declared.message.Message.{Message}
-use Rattle.zs_wire.specs.declared.message.Message.TheVariants.{DeclareKeyExpr, UndeclareKeyExpr, DeclareQueryable, UndeclareQueryable, DeclareToken, UndeclareToken, Interest, Request as request_message, Response as response_message, ResponseFinal, Close as close_message}
+use Rattle.zs_wire.specs.declared.message.Message.TheVariants.{DeclareKeyExpr, UndeclareKeyExpr, UndeclareToken, Request as request_message, Response as response_message, ResponseFinal, Close as close_message}
 use Rattle.zs_wire.specs.declared.response.Answered.TheVariants.{Reply, Err as Error}
 use Rattle.zs_wire.specs.declared.response.Response.{Response}
 use Rattle.zs_wire.specs.declared.wire_expr.WireExpr.{WireExpr}
-use Rattle.zs_wire.specs.declared.interest.InterestMode.TheVariants.{CurrentFuture, Current, Final}
-use Rattle.zs_wire.specs.declared.interest.InterestWhat.TheVariants.{Queryables as of_queryables, Tokens as of_tokens}
-use Rattle.zs_query.specs.declared.query_value.QueryValue.{QueryValue}
+use Rattle.zs_query.specs.Types.{QueryValue, Finished, Unknown, MoreLeft, Last}
 use Rattle.zs_query.specs.declared.open_get.OpenGet.{OpenGet}
-use Rattle.zs_query.specs.declared.requests.Finished.{Finished}
-use Rattle.zs_query.specs.declared.requests.Finished.TheVariants.{Unknown, MoreLeft, Last}
 use Rattle.zs_query.specs.declared.side.Side.TheVariants.{Local}
 use Rattle.zs_query.specs.Unfinished.{value_at, finished}
 use Rattle.zs_query.specs.Gets.{get_at, peek_at, final_outcome}
-use Rattle.zs_tables.specs.Recipients.{has_network}
-use Rattle.zs_tables.specs.declared.group_kind.GroupKind.{GroupKind}
-use Rattle.zs_tables.specs.declared.group_kind.GroupKind.TheVariants.{Subscribers, Publishers, Queriers}
+use Rattle.zs_tables.specs.Types.{GroupKind, Subscribers, Publishers}
 use Rattle.zs_tables.specs.declared.listener.ListenerRow.{ListenerRow}
-use Rattle.zs_tables.specs.declared.queryable.QueryableRow.{QueryableRow}
 use Rattle.zs_tables.specs.MatchingLaws.{differ}
 use Rattle.zs_events.specs.declared.event.Event.{Event}
-use Rattle.zs_events.specs.declared.event.Event.TheVariants.{Key, UndeclareKey, Sub, Pub, Queryable, Querier, Undeclare, Close, Net, Get, QuerierGet, Reply as reply_event, ReplyErr, Finish, Token, Lsub, LivelinessGet}
-use Rattle.zs_events.specs.declared.entity_kind.EntityKind.TheVariants.{Sub as sub_kind, Pub as pub_kind, Queryable as queryable_sort, Querier as querier_sort, Token as token_sort, Lsub as lsub_sort}
+use Rattle.zs_events.specs.declared.event.Event.TheVariants.{Key, UndeclareKey, Undeclare, Close, Net, Get, QuerierGet, Reply as reply_event, ReplyErr, Finish}
+use Rattle.zs_events.specs.declared.entity_kind.EntityKind.TheVariants.{Sub as sub_kind}
 use Rattle.zs_events.specs.declared.key_arg.KeyArg.{KeyArg}
 use Rattle.zs_events.specs.declared.key_arg.KeyArg.TheVariants.{Text, Number, Declared as declared_text}
 use Rattle.zs_events.specs.declared.publication.Content.{Content}
@@ -46,22 +39,20 @@ use Rattle.zs_model.specs.Listeners.{is_listener, listener_ends}
 use Rattle.zs_model.specs.Matching.{is_matched, turned, listener_effects}
 use Rattle.zs_model.specs.Causes.{refusal_of}
 use Rattle.zs_model.specs.Past.{past_of, entry_of}
-use Rattle.zs_model.specs.Subscribers.{sub_at}
-use Rattle.zs_model.specs.Publishers.{pub_at, resolved}
-use Rattle.zs_model.specs.Queriers.{querier_at}
-use Rattle.zs_model.specs.Queryables.{queryable_at}
+use Rattle.zs_model.specs.Publishers.{resolved}
 use Rattle.zs_model.specs.Questions.{request_of}
 use Rattle.zs_model.specs.GetEffects.{request_effects, final_effects}
 use Rattle.zs_model.specs.Answers.{quality_of, local_reply, local_error, response_by}
 use Rattle.zs_model.specs.ValueEffects.{Answering, requested_effects, replied_effects, error_effects, answer_effects, answer_error_effects, finish_effects}
-use Rattle.zs_model.specs.Groups.{Shared, sub_shared, pub_shared, querier_shared, Company, joins_first, last_number, sends_if, last_sends, leaving, subscriber_end, interest_end, querier_end, declaration_by}
+use Rattle.zs_model.specs.Groups.{declaration_by}
 use Rattle.zs_model.specs.Sends.{OwnKeys, full_wire, wire_form, group_wire, declared_by, declaration_of, key_sends, return_sends, is_sent, push_with, publication_sends, sends_of}
-use Rattle.zs_model.specs.Effects.{Known, known_of, to_gets_for, draws_of, answering, key_wire, queryable_leaves, entity_sends, token_declaration, lsub_mode, token_interest, declared_sends, effects_on, effects_behind, effects}
+use Rattle.zs_model.specs.Effects.{Known, known_of, to_gets_for, draws_of, answering, key_wire, entity_sends, effects_on, effects_behind, effects}
 use Rattle.zs_model.specs.Received.{messages_of, wire_in}
 use Rattle.zs_laws.proofs.SentMessages.{messages_append, silent, no_messages_in_reply, no_messages_in_final, no_messages_in_queries, no_messages_in_error, told_beside, told_by_event, all_sends}
 use Rattle.zs_laws.proofs.Reading.{request_cases, is_error}
 use Rattle.zs_query.proofs.Ascending.{all_append}
 use Rattle.zs_laws.specs.Origins.{push_in}
+use Rattle.zs_laws.proofs.Sends.{Announced, ASubscriber, APublisher, announcement, announced_wire, Retracted, OfSubscriber, retraction, announced, retracted, entity_cases}
 
 -- whether an event ends a token, whose key may not be looked at
 abbrev pub ends_token : ToLiveliness → Bool
@@ -127,65 +118,23 @@ sends_all P known number text (Net (response_message response)) by = tt
 sends_all P known number text e by =
     push_all P known.keys (row_of e).key text (resolved known.pubs (row_of e).publishes) (λ t c is published sent. by.pushed t c refl is published sent)
 
-first_all : (P : Message → Type 0) (b : Bool) (m : Message) → P m → AllByRecursion P (messages_of (sends_if b m))
-first_all P true m holds = (holds, tt)
-first_all P false m holds = tt
-
-leaving_all : (P : Message → Type 0) (c : Company) (end : ℕ → Message) (x : Option Shared) → ((n : ℕ) → P (end n)) → AllByRecursion P (messages_of (leaving c end x))
-leaving_all P c end None at = tt
-leaving_all P c end (Some x) at = go (last_number c x)
-  where
-    go : (o : Option ℕ) → AllByRecursion P (messages_of (last_sends end o))
-    go None = tt
-    go (Some n) = (at n, tt)
-
-queryable_all : (P : Message → Type 0) (o : Option QueryableRow) → ((n : ℕ) → P (UndeclareQueryable n)) → AllByRecursion P (messages_of (queryable_leaves o))
-queryable_all P None at = tt
-queryable_all P (Some row) at = first_all P (has_network row.origin) (UndeclareQueryable row.id) (at row.id)
-
-declared_all : (P : Message → Type 0) (message : ℕ → WireExpr → Message) (k : OwnKeys) (number : Option ℕ) (text : Option (List ℕ)) (key : KeyArg)
-    → ((id : ℕ) (t : List ℕ) → text ≡ Some t → P (message id (key_wire k t key))) → AllByRecursion P (messages_of (declared_sends message k number text key))
-declared_all P message k (Some id) (Some text) key at = (at id text refl, tt)
-declared_all P message k (Some id) None key at = tt
-declared_all P message k None text key at = tt
+-- an event that announces something names its own key
+announced_own : (e : Event) (what : Announced) → announced e ≡ Some what → names_own e ≡ true
+announced_own Close what is = cc
+announced_own e what is = cc
 
 entity_all : (P : Message → Type 0) (known : Known) (number : Option ℕ) (text : Option (List ℕ)) (e : Event) → Sending known e text P
     → AllByRecursion P (messages_of (entity_sends known e number text))
-entity_all P known (Some id) (Some text) (Sub origin key to) by =
-    first_all P (joins_first (known.company Subscribers) (record { id = id; told = has_network origin; text = text })) _ (by.grouped Subscribers id text (declared_by known.keys text key) refl refl)
-entity_all P known (Some id) None (Sub origin key to) by = tt
-entity_all P known None text (Sub origin key to) by = tt
-entity_all P known (Some id) (Some text) (Pub key settings) by =
-    first_all P (joins_first (known.company Publishers) (record { id = id; told = has_network settings.destination; text = text })) _ (by.grouped Publishers id text (declared_by known.keys text key) refl refl)
-entity_all P known (Some id) None (Pub key settings) by = tt
-entity_all P known None text (Pub key settings) by = tt
-entity_all P known (Some id) (Some text) (Queryable origin complete key) by =
-    first_all P (has_network origin) _ (by.formed text (declared_by known.keys text key) (DeclareQueryable id complete (key_wire known.keys text key)) refl refl refl refl)
-entity_all P known (Some id) None (Queryable origin complete key) by = tt
-entity_all P known None text (Queryable origin complete key) by = tt
-entity_all P known (Some id) (Some text) (Querier key settings) by =
-    first_all P (joins_first (known.company Queriers) (record { id = id; told = has_network settings.destination; text = text })) _
-    (by.formed text (declared_by known.keys text key) (Interest id CurrentFuture of_queryables (Some (key_wire known.keys text key))) refl refl refl refl)
-entity_all P known (Some id) None (Querier key settings) by = tt
-entity_all P known None text (Querier key settings) by = tt
-entity_all P known number text (Token key) by =
-    declared_all P token_declaration known.keys number text key (λ id t is. by.formed t (declared_by known.keys t key) (DeclareToken id (key_wire known.keys t key) None) refl is refl refl)
-entity_all P known number text (Lsub history key) by =
-    declared_all P (token_interest (lsub_mode history)) known.keys number text key
-    (λ id t is. by.formed t (declared_by known.keys t key) (Interest id (lsub_mode history) of_tokens (Some (key_wire known.keys t key))) refl is refl refl)
-entity_all P known number text (LivelinessGet key timeout token to) by =
-    declared_all P (token_interest Current) known.keys number text key
-    (λ id t is. by.formed t (declared_by known.keys t key) (Interest id Current of_tokens (Some (key_wire known.keys t key))) refl is refl refl)
-entity_all P known number text (Undeclare sub_kind id) by =
-    leaving_all P (known.company Subscribers) subscriber_end (option_map sub_shared (sub_at id known.subs)) (λ n. by.bare (subscriber_end n) refl refl)
-entity_all P known number text (Undeclare pub_kind id) by =
-    leaving_all P (known.company Publishers) interest_end (option_map pub_shared (pub_at id known.pubs)) (λ n. by.bare (interest_end n) refl refl)
-entity_all P known number text (Undeclare querier_sort id) by =
-    leaving_all P (known.company Queriers) querier_end (option_map querier_shared (querier_at id known.queriers)) (λ n. by.bare (querier_end n) refl refl)
-entity_all P known number text (Undeclare queryable_sort id) by = queryable_all P (queryable_at id known.queryables) (λ n. by.bare (UndeclareQueryable n) refl refl)
-entity_all P known number text (Undeclare token_sort id) by = (by.bare (UndeclareToken id None None) refl refl, tt)
-entity_all P known number text (Undeclare lsub_sort id) by = (by.bare (Interest id Final of_tokens None) refl refl, tt)
-entity_all P known number text e by = tt
+entity_all P known number text e by = entity_cases (λ fx. AllByRecursion P (messages_of fx)) tt known e number text begun ended
+  where
+    begun : (what : Announced) (id : ℕ) (t : List ℕ) (key : KeyArg) → announced e ≡ Some what → text ≡ Some t → AllByRecursion P (announcement what id (announced_wire known what t key) ∷ [])
+    begun ASubscriber id t key is named = (by.grouped Subscribers id t (declared_by known.keys t key) (announced_own e ASubscriber is) named, tt)
+    begun APublisher id t key is named = (by.grouped Publishers id t (declared_by known.keys t key) (announced_own e APublisher is) named, tt)
+    begun what id t key is named = (by.formed t (declared_by known.keys t key) (announcement what id (key_wire known.keys t key)) (announced_own e what is) named refl refl, tt)
+
+    ended : (what : Retracted) (id : ℕ) → retracted e ≡ Some what → AllByRecursion P (retraction what id ∷ [])
+    ended OfSubscriber id is = (by.bare (retraction OfSubscriber id) refl refl, tt)
+    ended what id is = (by.bare (retraction what id) refl refl, tt)
 
 beside_all : (P : Message → Type 0) (known : Known) (number : Option ℕ) (text : Option (List ℕ)) (e : Event) → Sending known e text P → AllByRecursion P (told_beside known number text e)
 beside_all P known number text e by =
@@ -273,13 +222,6 @@ told_all P known number text (Finish value) by =
 told_all P known number text (Net (request_message request)) by =
     subst (AllByRecursion P) (sym (append-nil _)) (requested_all P request.rid (draws_of known number text (Net (request_message request))) (by.bare (ResponseFinal request.rid) refl refl))
 told_all P known number text (Undeclare sub_kind id) by = beside_all P known number text (Undeclare sub_kind id) by
-told_all P known number text (Undeclare pub_kind id) by = beside_all P known number text (Undeclare pub_kind id) by
-told_all P known number text (Undeclare queryable_sort id) by = beside_all P known number text (Undeclare queryable_sort id) by
-told_all P known number text (Undeclare querier_sort id) by = beside_all P known number text (Undeclare querier_sort id) by
-told_all P known number text (Undeclare token_sort id) by = beside_all P known number text (Undeclare token_sort id) by
-told_all P known number text (Undeclare lsub_sort id) by = beside_all P known number text (Undeclare lsub_sort id) by
-told_all P known number text (Key key) by = beside_all P known number text (Key key) by
-told_all P known number text (Net (response_message response)) by = beside_all P known number text (Net (response_message response)) by
 told_all P known number text e by = beside_all P known number text e by
 
 -- listeners hear no message

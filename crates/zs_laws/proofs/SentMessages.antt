@@ -11,38 +11,26 @@ use Rattle.zs_tables.specs.declared.queryable.QueryableRow.{QueryableRow}
 use Rattle.zs_model.specs.Queryables.{queryable_ends}
 use Rattle.zs_events.specs.declared.event.Event.{Event}
 use Rattle.zs_events.specs.declared.event.Event.TheVariants.{Undeclare, Close, Net, Get, QuerierGet, Cancel, Tick, Reply as reply_event, ReplyErr, Finish}
-use Rattle.zs_events.specs.declared.entity_kind.EntityKind.TheVariants.{Sub as sub_kind, Pub as pub_kind, Queryable as queryable_sort, Querier as querier_sort, Token as token_sort, Lsub as lsub_sort}
+use Rattle.zs_events.specs.declared.entity_kind.EntityKind.TheVariants.{Sub as sub_kind, Querier as querier_sort}
 use Rattle.zs_events.specs.declared.turn.Effect.{Effect}
 use Rattle.zs_events.specs.declared.turn.Effect.TheVariants.{Send, Hand, Matching}
 use Rattle.zs_events.specs.declared.turn.HandOver.TheVariants.{Sample as sample_for}
 use Rattle.zs_events.specs.declared.turn.Kind.TheVariants.{Subscriber}
-use Rattle.zs_events.specs.Kinds.{NamedKey, Publishes, NoContent, OwnContent, ByPublisher, Question, ToValues, NoValue, Requested, AnswersBy, AnswersError, SharesValue, GivesBack, row_of, ToLiveliness, NoToken, Subscribes, AsksTokens, TellsToken, EndsToken, EndsAnswers}
-use Rattle.zs_events.specs.declared.inquiry.Inquiry.{Inquiry}
+use Rattle.zs_events.specs.Kinds.{NamedKey, Publishes, NoContent, OwnContent, ByPublisher, ToValues, NoValue, Requested, AnswersBy, AnswersError, SharesValue, GivesBack, row_of, ToLiveliness, NoToken, Subscribes, AsksTokens, TellsToken, EndsToken, EndsAnswers}
 use Rattle.zs_wire.specs.declared.sample_kind.SampleKind.{SampleKind}
 use Rattle.zs_wire.specs.declared.sample_kind.SampleKind.TheVariants.{Put as put_kind, Delete as delete_kind}
 use Rattle.zs_tables.specs.Liveliness.{met_keys, hearers}
 use Rattle.zs_tables.specs.LivelinessGets.{is_asking, over_at, numbers_with}
-use Rattle.zs_tables.specs.declared.liveliness_sub.LivelinessSub.{LivelinessSub}
-use Rattle.zs_tables.specs.declared.liveliness_get.LivelinessGet.{LivelinessGet as AskingGet}
-use Rattle.zs_tables.specs.declared.told_token.ToldToken.{ToldToken}
+use Rattle.zs_tables.specs.Types.{LivelinessSub, LivelinessGet as AskingGet, ToldToken}
 use Rattle.zs_model.specs.Tokens.{answers, is_told}
 use Rattle.zs_model.specs.LivelinessEffects.{Watch, hand_token, hand_told, hand_answer, end_asking, cancelled_ends, asking_ends, lsub_ends, token_hands, history_hands, answer_hands, told_hands, ended_text, watch_effects}
-use Rattle.zs_sample.specs.declared.locality.Locality.{Locality}
 use Rattle.zs_sample.specs.Reply.{Replied}
-use Rattle.zs_wire.specs.declared.body.Value.{Value}
-use Rattle.zs_wire.specs.declared.origin.SourceInfo.{SourceInfo}
-use Rattle.zs_wire.specs.declared.quality.QoSType.{QoSType}
-use Rattle.zs_wire.specs.declared.request.ConsolidationMode.{ConsolidationMode}
-use Rattle.zs_wire.specs.declared.request.QueryTarget.{QueryTarget}
 use Rattle.zs_wire.specs.declared.response.Answered.{Answered}
 use Rattle.zs_wire.specs.declared.response.Answered.TheVariants.{Reply, Err as Error}
 use Rattle.zs_wire.specs.declared.response.Response.{Response}
 use Rattle.zs_query.specs.declared.open_get.OpenGet.{OpenGet}
 use Rattle.zs_query.specs.declared.side.Side.TheVariants.{Local, Network}
-use Rattle.zs_query.specs.declared.query_value.QueryValue.{QueryValue}
-use Rattle.zs_query.specs.declared.request_row.RequestRow.{RequestRow}
-use Rattle.zs_query.specs.declared.requests.Finished.{Finished}
-use Rattle.zs_query.specs.declared.requests.Finished.TheVariants.{Unknown, MoreLeft, Last}
+use Rattle.zs_query.specs.Types.{QueryValue, RequestRow, Finished, Unknown, MoreLeft, Last}
 use Rattle.zs_query.specs.Unfinished.{value_at, finished}
 use Rattle.zs_query.specs.declared.outcome.Outcome.{Outcome}
 use Rattle.zs_query.specs.declared.outcome.Outcome.TheVariants as outcome
@@ -112,11 +100,6 @@ no_messages_in_lsub_ends (row ∷ rows) = no_messages_in_lsub_ends rows
 
 pub no_end_messages : (queryables : List QueryableRow) (rows : List SubRow) (lsubs : List LivelinessSub) (e : Event) → messages_of (ends_of queryables rows lsubs e) ≡ []
 no_end_messages queryables rows lsubs (Undeclare sub_kind id) = refl
-no_end_messages queryables rows lsubs (Undeclare pub_kind id) = refl
-no_end_messages queryables rows lsubs (Undeclare queryable_sort id) = refl
-no_end_messages queryables rows lsubs (Undeclare querier_sort id) = refl
-no_end_messages queryables rows lsubs (Undeclare token_sort id) = refl
-no_end_messages queryables rows lsubs (Undeclare lsub_sort id) = refl
 no_end_messages queryables rows lsubs Close =
     messages_append (queryable_ends queryables ++ sub_ends rows) (lsub_ends lsubs)
     ∙ ap (λ (ms : List Message). ms ++ messages_of (lsub_ends lsubs))

@@ -1,16 +1,13 @@
 -- No event tells listeners anything but by what they make of it: nothing else that it brings about is a match line.
-use Rattle.std.proofs.Common.{◌≡◌, ℕ, Bool, true, false, List, [], ◌∷◌, ◌++◌, Option, Some, None, refl, sym, ap, subst, ◌∙◌}
-use Rattle.std.specs.Prelude.{◌==◌, map, filter, is_some, nat_le, option_map, if◌then◌else◌}
+use Rattle.std.proofs.Common.{◌≡◌, ℕ, Bool, true, false, List, [], ◌∷◌, ◌++◌, Option, Some, None, refl, ap, ◌∙◌}
+use Rattle.std.specs.Prelude.{◌==◌, map, filter, is_some, if◌then◌else◌}
 use Rattle.std.specs.List.{flat_map, find}
-use Rattle.zs_wire.specs.declared.message.Message.{Message}
-use Rattle.zs_wire.specs.declared.message.Message.TheVariants.{Request as request_message, Response as response_message, ResponseFinal, DeclareKeyExpr, UndeclareKeyExpr}
-use Rattle.zs_wire.specs.declared.interest.InterestMode.TheVariants.{Current}
+use Rattle.zs_wire.specs.declared.message.Message.TheVariants.{Request as request_message, ResponseFinal}
 use Rattle.zs_wire.specs.declared.response.Answered.{Answered}
 use Rattle.zs_wire.specs.declared.response.Answered.TheVariants.{Reply, Err as Error}
 use Rattle.zs_wire.specs.declared.response.Response.{Response}
 use Rattle.zs_wire.specs.declared.sample_kind.SampleKind.{SampleKind}
 use Rattle.zs_wire.specs.declared.sample_kind.SampleKind.TheVariants.{Put as put_kind, Delete as delete_kind}
-use Rattle.zs_wire.specs.declared.wire_expr.WireExpr.{WireExpr}
 use Rattle.zs_sample.specs.Reply.{Replied}
 use Rattle.zs_query.specs.Gets.{get_at, peek_at, final_outcome, ends_at, timeout_error}
 use Rattle.zs_query.specs.declared.open_get.OpenGet.{OpenGet}
@@ -18,26 +15,19 @@ use Rattle.zs_query.specs.declared.outcome.Outcome.{Outcome}
 use Rattle.zs_query.specs.declared.outcome.Outcome.TheVariants as outcome
 use Rattle.zs_query.specs.declared.outcome.Peek.{Peek}
 use Rattle.zs_query.specs.declared.outcome.Peek.TheVariants as peek
-use Rattle.zs_query.specs.declared.query_value.QueryValue.{QueryValue}
-use Rattle.zs_query.specs.declared.requests.Finished.{Finished}
-use Rattle.zs_query.specs.declared.requests.Finished.TheVariants.{Unknown, MoreLeft, Last}
+use Rattle.zs_query.specs.Types.{QueryValue, Finished, Unknown, MoreLeft, Last}
 use Rattle.zs_query.specs.declared.side.Side.TheVariants.{Network, Local}
 use Rattle.zs_query.specs.Asked.{QuerierEnds, CancelledBy}
 use Rattle.zs_query.specs.Unfinished.{value_at, finished}
 use Rattle.zs_tables.specs.Recipients.{has_network}
 use Rattle.zs_tables.specs.LivelinessGets.{is_asking, over_at, numbers_with}
 use Rattle.zs_tables.specs.Liveliness.{met_keys, hearers}
-use Rattle.zs_tables.specs.declared.liveliness_get.LivelinessGet.{LivelinessGet as a_liveliness_get}
-use Rattle.zs_tables.specs.declared.liveliness_sub.LivelinessSub.{LivelinessSub}
+use Rattle.zs_tables.specs.Types.{LivelinessGet as a_liveliness_get, LivelinessSub, ToldToken}
 use Rattle.zs_tables.specs.declared.queryable.QueryableRow.{QueryableRow}
 use Rattle.zs_tables.specs.declared.subscriber.SubRow.{SubRow}
-use Rattle.zs_tables.specs.declared.told_token.ToldToken.{ToldToken}
-use Rattle.zs_tables.specs.declared.group_kind.GroupKind.TheVariants.{Subscribers, Publishers, Queriers}
 use Rattle.zs_events.specs.declared.event.Event.{Event}
-use Rattle.zs_events.specs.declared.event.Event.TheVariants.{Key, UndeclareKey, Sub, Pub, Queryable, Querier, Undeclare, Close, Token, Lsub, LivelinessGet}
-use Rattle.zs_events.specs.declared.entity_kind.EntityKind.TheVariants.{Sub as sub_kind, Pub as pub_kind, Queryable as queryable_sort, Querier as querier_sort, Token as token_sort, Lsub as lsub_sort}
-use Rattle.zs_events.specs.declared.key_arg.KeyArg.{KeyArg}
-use Rattle.zs_events.specs.declared.key_arg.KeyArg.TheVariants.{Text, Number, Declared as declared_text}
+use Rattle.zs_events.specs.declared.event.Event.TheVariants.{Undeclare, Close}
+use Rattle.zs_events.specs.declared.entity_kind.EntityKind.TheVariants.{Sub as sub_kind, Queryable as queryable_sort, Lsub as lsub_sort}
 use Rattle.zs_events.specs.declared.turn.Effect.{Effect}
 use Rattle.zs_events.specs.declared.turn.Effect.TheVariants.{Matching, Send, Hand, End}
 use Rattle.zs_events.specs.declared.turn.HandOver.TheVariants.{Sample as sample_for}
@@ -46,20 +36,19 @@ use Rattle.zs_events.specs.Kinds.{NamedKey, Publishes, NoContent, OwnContent, By
 use Rattle.zs_model.specs.declared.publisher.PubRow.{PubRow}
 use Rattle.zs_model.specs.Heard.{told_to}
 use Rattle.zs_model.specs.Gets.{sample_reply}
-use Rattle.zs_model.specs.Answers.{local_reply, local_error, quality_of, response_by}
+use Rattle.zs_model.specs.Answers.{local_reply, local_error}
 use Rattle.zs_model.specs.Publications.{allows, sample_on}
-use Rattle.zs_model.specs.Publishers.{pub_at, resolved}
-use Rattle.zs_model.specs.Subscribers.{sub_at, sub_ends}
-use Rattle.zs_model.specs.Queryables.{queryable_at, queryable_ends}
-use Rattle.zs_model.specs.Queriers.{querier_at}
+use Rattle.zs_model.specs.Publishers.{resolved}
+use Rattle.zs_model.specs.Subscribers.{sub_ends}
+use Rattle.zs_model.specs.Queryables.{queryable_ends}
 use Rattle.zs_model.specs.Questions.{request_of}
-use Rattle.zs_model.specs.Groups.{Company, Shared, sub_shared, pub_shared, querier_shared, last_number, sends_if, last_sends, leaving, subscriber_end, interest_end, querier_end}
-use Rattle.zs_model.specs.Sends.{OwnKeys, full_wire, wire_form, declaration_of, key_sends, return_sends, is_sent, push_with, publication_sends, sends_of}
+use Rattle.zs_model.specs.Sends.{OwnKeys, wire_form, declaration_of, sends_of}
 use Rattle.zs_model.specs.Tokens.{answers, is_told}
-use Rattle.zs_model.specs.LivelinessEffects.{Watch, hand_token, hand_told, hand_answer, end_asking, cancelled_ends, asking_ends, lsub_ends, token_hands, history_hands, told_hands, answer_hands, ended_text, ended_hands, answered_ends, watch_effects}
-use Rattle.zs_model.specs.GetEffects.{hand_reply, hand_query, end_get, last_hands, request_sends, unmet_effects, ask_effects, asked_effects, ends_effects, reply_effects, response_effects, final_effects, ended_numbers, cut_effects, told_effects, request_effects, with_gets}
-use Rattle.zs_model.specs.ValueEffects.{Answering, requested_effects, error_effects, replied_effects, reply_for_value, error_for_value, answer_effects, answer_error_effects, finish_effects, value_effects, with_values}
-use Rattle.zs_model.specs.Effects.{Known, to_gets_for, draws_of, answering, key_wire, queryable_leaves, declared_sends, token_declaration, token_interest, lsub_mode, entity_sends, publication_on, hands_for, hands_of, ends_of, effects_on}
+use Rattle.zs_model.specs.LivelinessEffects.{Watch, hand_token, hand_told, hand_answer, end_asking, cancelled_ends, asking_ends, lsub_ends, token_hands, history_hands, told_hands, answer_hands, ended_text, watch_effects}
+use Rattle.zs_model.specs.GetEffects.{hand_reply, hand_query, end_get, last_hands, request_sends, ends_effects, reply_effects, response_effects, final_effects, ended_numbers, cut_effects, told_effects, request_effects, with_gets}
+use Rattle.zs_model.specs.ValueEffects.{Answering, error_effects, replied_effects, reply_for_value, answer_effects, answer_error_effects, finish_effects, value_effects, with_values}
+use Rattle.zs_model.specs.Effects.{Known, to_gets_for, draws_of, answering, entity_sends, publication_on, hands_for, hands_of, ends_of, effects_on}
+use Rattle.zs_laws.proofs.Sends.{entity_cases, sends_cases}
 
 -- effects that tell no listener anything
 abbrev pub IsSilent : List Effect → Type 0
@@ -96,77 +85,14 @@ silent_if : (b : Bool) (xs ys : List Effect) → IsSilent xs → IsSilent ys →
 silent_if true xs ys x y = x
 silent_if false xs ys x y = y
 
--- one message is silent, and one if it is sent
-silent_sends_if : (b : Bool) (message : Message) → IsSilent (sends_if b message)
-silent_sends_if true message id = refl
-silent_sends_if false message id = refl
-
 -- what is sent of keys and publications
-silent_key : (k : OwnKeys) (number : Option ℕ) (text : Option (List ℕ)) → IsSilent (key_sends k number text)
-silent_key k number None = silent_none
-silent_key k None (Some text) = silent_none
-silent_key k (Some number) (Some text) = silent_if (is_some (k.number_of text)) [] (Send (DeclareKeyExpr number (full_wire text)) ∷ []) silent_none (λ id. refl)
-
-silent_return : (k : OwnKeys) (number : ℕ) → IsSilent (return_sends k number)
-silent_return k number = silent_if (nat_le (k.count_of number) 1) (Send (UndeclareKeyExpr number) ∷ []) [] (λ id. refl) silent_none
-
-silent_push : (k : OwnKeys) (key : NamedKey) (text : Option (List ℕ)) (p : Publishes) → IsSilent (publication_sends k key text p)
-silent_push k key text NoContent = silent_none
-silent_push k key None (OwnContent c) = silent_none
-silent_push k key None (ByPublisher id c) = silent_none
-silent_push k key (Some text) (ByPublisher id c) = silent_none
-silent_push k key (Some text) (OwnContent c) = silent_if (is_sent c) (Send (push_with (wire_form k text (declaration_of k text key)) c) ∷ []) [] (λ id. refl) silent_none
-
 silent_sent : (k : OwnKeys) (pubs : List PubRow) (number : Option ℕ) (text : Option (List ℕ)) (e : Event) → IsSilent (sends_of k pubs number text e)
-silent_sent k pubs number text (Key key) = silent_key k number text
-silent_sent k pubs number text (UndeclareKey (Text whole)) = silent_none
-silent_sent k pubs number text (UndeclareKey (Number n suffix)) = silent_return k n
-silent_sent k pubs number text (UndeclareKey (declared_text whole n prefix_len)) = silent_return k n
-silent_sent k pubs number text Close = λ id. refl
-silent_sent k pubs number text e = silent_push k (row_of e).key text (resolved pubs (row_of e).publishes)
+silent_sent k pubs number text e =
+    sends_cases IsSilent silent_none k pubs number text e (λ n t drew named id. refl) (λ n id. refl) (λ id. refl) (λ t c named is sent id. refl)
 
 -- what is sent of entities
-silent_leaving : (c : Company) (end : ℕ → Message) (x : Option Shared) → IsSilent (leaving c end x)
-silent_leaving c end None = silent_none
-silent_leaving c end (Some x) = go (last_number c x)
-  where
-    go : (o : Option ℕ) → IsSilent (last_sends end o)
-    go None = silent_none
-    go (Some n) = λ id. refl
-
-silent_queryable_end : (o : Option QueryableRow) → IsSilent (queryable_leaves o)
-silent_queryable_end None = silent_none
-silent_queryable_end (Some row) = silent_sends_if _ _
-
-silent_declared : (message : ℕ → WireExpr → Message) (k : OwnKeys) (number : Option ℕ) (text : Option (List ℕ)) (key : KeyArg) → IsSilent (declared_sends message k number text key)
-silent_declared message k (Some id) (Some text) key = λ other. refl
-silent_declared message k (Some id) None key = silent_none
-silent_declared message k None text key = silent_none
-
 silent_entity : (known : Known) (number : Option ℕ) (text : Option (List ℕ)) (e : Event) → IsSilent (entity_sends known e number text)
-silent_entity known (Some id) (Some text) (Sub origin key to) = silent_sends_if _ _
-silent_entity known (Some id) None (Sub origin key to) = silent_none
-silent_entity known None text (Sub origin key to) = silent_none
-silent_entity known (Some id) (Some text) (Pub key settings) = silent_sends_if _ _
-silent_entity known (Some id) None (Pub key settings) = silent_none
-silent_entity known None text (Pub key settings) = silent_none
-silent_entity known (Some id) (Some text) (Queryable origin complete key) = silent_sends_if _ _
-silent_entity known (Some id) None (Queryable origin complete key) = silent_none
-silent_entity known None text (Queryable origin complete key) = silent_none
-silent_entity known (Some id) (Some text) (Querier key settings) = silent_sends_if _ _
-silent_entity known (Some id) None (Querier key settings) = silent_none
-silent_entity known None text (Querier key settings) = silent_none
-silent_entity known number text (Undeclare querier_sort id) = silent_leaving (known.company Queriers) querier_end (option_map querier_shared (querier_at id known.queriers))
-silent_entity known number text (Undeclare sub_kind id) = silent_leaving (known.company Subscribers) subscriber_end (option_map sub_shared (sub_at id known.subs))
-silent_entity known number text (Undeclare pub_kind id) = silent_leaving (known.company Publishers) interest_end (option_map pub_shared (pub_at id known.pubs))
-silent_entity known number text (Undeclare queryable_sort id) = silent_queryable_end (queryable_at id known.queryables)
-silent_entity known number text (Undeclare token_sort id) = λ other. refl
-silent_entity known number text (Undeclare lsub_sort id) = λ other. refl
-silent_entity known number text (Token key) = silent_declared token_declaration known.keys number text key
-silent_entity known number text (Lsub history key) = silent_declared (token_interest (lsub_mode history)) known.keys number text key
-silent_entity known number text (LivelinessGet key timeout token to) = silent_declared (token_interest Current) known.keys number text key
-silent_entity known number text (Key key) = silent_none
-silent_entity known number text e = silent_none
+silent_entity known number text e = entity_cases IsSilent silent_none known e number text (λ what id t key is named other. refl) (λ what id is other. refl)
 
 -- what is handed out of a publication, and what ends
 silent_hands : (rows : List SubRow) (text : Option (List ℕ)) (p : Publishes) → IsSilent (hands_for rows (publication_on text p))
@@ -181,7 +107,6 @@ silent_ends : (queryables : List QueryableRow) (rows : List SubRow) (lsubs : Lis
 silent_ends queryables rows lsubs (Undeclare sub_kind id) = λ other. refl
 silent_ends queryables rows lsubs (Undeclare queryable_sort id) = λ other. refl
 silent_ends queryables rows lsubs (Undeclare lsub_sort id) = λ other. refl
-silent_ends queryables rows lsubs (Undeclare sort id) = silent_none
 silent_ends queryables rows lsubs Close =
     silent_append (queryable_ends queryables ++ sub_ends rows) (lsub_ends lsubs)
     (silent_append (queryable_ends queryables) (sub_ends rows)

@@ -6,15 +6,14 @@ use Rattle.std.specs.Option.{IfSome}
 use Rattle.zs_keys.specs.Text.{is_canonical}
 use Rattle.zs_wire.specs.declared.message.Message.TheVariants.{Request as request_message}
 use Rattle.zs_tables.specs.declared.queryable.QueryableRow.{QueryableRow}
-use Rattle.zs_tables.specs.declared.told_token.ToldToken.{ToldToken}
-use Rattle.zs_query.specs.declared.query_value.QueryValue.{QueryValue}
-use Rattle.zs_query.specs.declared.request_row.RequestRow.{RequestRow}
+use Rattle.zs_tables.specs.Types.{ToldToken}
+use Rattle.zs_query.specs.Types.{QueryValue, RequestRow}
 use Rattle.zs_query.specs.Unfinished.{value_at, values_from}
 use Rattle.zs_query.specs.RequestTable.{Handing, with_handed, with_share}
 use Rattle.zs_query.proofs.Ascending.{all_append, all_filter}
 use Rattle.zs_events.specs.declared.event.Event.{Event}
 use Rattle.zs_events.specs.declared.event.Event.TheVariants.{Undeclare, Net, Get, QuerierGet, Share, Finish}
-use Rattle.zs_events.specs.declared.entity_kind.EntityKind.TheVariants.{Sub as sub_kind, Pub as pub_kind, Queryable as queryable_sort, Querier as querier_sort, Listener as listener_sort, Token as token_sort, Lsub as lsub_sort}
+use Rattle.zs_events.specs.declared.entity_kind.EntityKind.TheVariants.{Sub as sub_kind}
 use Rattle.zs_events.specs.declared.turn.Refusal.{Refusal}
 use Rattle.zs_events.specs.Kinds.{Question, Asks, ToValues, NoValue, ToLiveliness, EndsToken, row_of}
 use Rattle.zs_model.specs.declared.settings.Settings.{Settings}
@@ -25,7 +24,7 @@ use Rattle.zs_model.specs.Held.{named_text}
 use Rattle.zs_model.specs.Past.{past_of, entry_of, with_entry}
 use Rattle.zs_model.specs.Causes.{has_cause, in_order, first_that, refusal_of}
 use Rattle.zs_model.specs.Seen.{is_bad}
-use Rattle.zs_model.specs.Tokens.{told_tokens, is_spared}
+use Rattle.zs_model.specs.Tokens.{remote_tokens, is_spared}
 use Rattle.zs_model.specs.Queriers.{querier_at, question_of, asks_of, to_gets_by}
 use Rattle.zs_model.specs.Values.{met_by_get, met_by_request, get_request, network_request, values_now}
 use Rattle.zs_model.proofs.Values.{handing_next}
@@ -76,18 +75,11 @@ next_of P rows queriers (QuerierGet id inquiry to) number text h holds all = go 
     go : (o : Option QuerierRow) → AreOf P (handing_next rows (asks_of inquiry o) NoValue number text h).values
     go None = all
     go (Some row) = asked_of P rows (question_of row inquiry) NoValue number text h (holds refl) all
-next_of P rows queriers (Net (request_message request)) number None h holds all = all
 next_of P rows queriers (Net (request_message request)) number (Some text) h holds all =
     handed_of P (network_request text request) (met_by_request rows request text) h (holds refl) all
 next_of P rows queriers (Share value) number text h holds all = shared_of P value (value_at value h.values) h refl all
 next_of P rows queriers (Finish value) number text h holds all = all_filter (λ (v : QueryValue). P v.row.key.text) (λ v. not (v.value == value)) h.values all
 next_of P rows queriers (Undeclare sub_kind id) number text h holds all = all
-next_of P rows queriers (Undeclare pub_kind id) number text h holds all = all
-next_of P rows queriers (Undeclare queryable_sort id) number text h holds all = all
-next_of P rows queriers (Undeclare querier_sort id) number text h holds all = all
-next_of P rows queriers (Undeclare listener_sort id) number text h holds all = all
-next_of P rows queriers (Undeclare token_sort id) number text h holds all = all
-next_of P rows queriers (Undeclare lsub_sort id) number text h holds all = all
 next_of P rows queriers e number text h holds all = all
 
 -- the keys of a past that are looked at are such
@@ -137,8 +129,8 @@ pub tested : (s : Settings) (past : List Entry) (e : Event) → is_closed past �
     → IfSome (named_text past e) IsCanonical
 tested s past e shut accepted own =
     not_bad (named_text past e)
-    (looked (is_closed past) (is_spared (told_tokens s past) (row_of e).to_liveliness) (is_bad (named_text past e)) shut
-    (unspared (told_tokens s past) (row_of e).to_liveliness own)
+    (looked (is_closed past) (is_spared (remote_tokens s past) (row_of e).to_liveliness) (is_bad (named_text past e)) shut
+    (unspared (remote_tokens s past) (row_of e).to_liveliness own)
     (none_holds (has_cause s past e) in_order accepted).1.1.1.0)
 
 -- and so were those of the past

@@ -13,15 +13,13 @@ use Rattle.zs_wire.specs.declared.response.Response.{Response}
 use Rattle.zs_wire.specs.declared.wire_expr.WireExpr.{WireExpr}
 use Rattle.zs_tables.specs.LivelinessGets.{is_asking, over_at, numbers_with}
 use Rattle.zs_tables.specs.Recipients.{has_network}
-use Rattle.zs_tables.specs.declared.liveliness_get.LivelinessGet.{LivelinessGet as TokensGet}
+use Rattle.zs_tables.specs.Types.{LivelinessGet as TokensGet}
 use Rattle.zs_query.specs.declared.open_get.OpenGet.{OpenGet}
 use Rattle.zs_query.specs.declared.outcome.Outcome.{Outcome}
 use Rattle.zs_query.specs.declared.outcome.Outcome.TheVariants as outcome
 use Rattle.zs_query.specs.declared.outcome.Peek.{Peek}
 use Rattle.zs_query.specs.declared.outcome.Peek.TheVariants as peek
-use Rattle.zs_query.specs.declared.query_value.QueryValue.{QueryValue}
-use Rattle.zs_query.specs.declared.requests.Finished.{Finished}
-use Rattle.zs_query.specs.declared.requests.Finished.TheVariants.{Unknown, MoreLeft, Last}
+use Rattle.zs_query.specs.Types.{QueryValue, Finished, Unknown, MoreLeft, Last}
 use Rattle.zs_query.specs.declared.side.Side.TheVariants.{Local, Network}
 use Rattle.zs_query.specs.Ascending.{Ascend}
 use Rattle.zs_query.specs.Asked.{QuerierEnds, CancelledBy}
@@ -30,7 +28,7 @@ use Rattle.zs_query.specs.Unfinished.{value_at, finished}
 use Rattle.zs_query.proofs.Ascending.{all_weaker}
 use Rattle.zs_events.specs.declared.event.Event.{Event}
 use Rattle.zs_events.specs.declared.event.Event.TheVariants.{Undeclare, Close, Net, Get, QuerierGet, Cancel, Tick, Reply as reply_event, ReplyErr, Finish, Share}
-use Rattle.zs_events.specs.declared.entity_kind.EntityKind.TheVariants.{Sub as sub_kind, Pub as pub_kind, Queryable as queryable_sort, Querier as querier_sort, Listener as listener_sort, Token as token_sort, Lsub as lsub_sort}
+use Rattle.zs_events.specs.declared.entity_kind.EntityKind.TheVariants.{Querier as querier_sort}
 use Rattle.zs_events.specs.declared.publication.ReplyQuality.{ReplyQuality}
 use Rattle.zs_events.specs.declared.turn.Effect.{Effect}
 use Rattle.zs_events.specs.declared.turn.Effect.TheVariants.{Send}
@@ -231,12 +229,6 @@ tokens_lost known (QuerierGet id inquiry to) number text up = go (querier_at id 
 tokens_lost known (Undeclare querier_sort id) number text up =
     picked_behind tokens_ended (others_of known number text (Undeclare querier_sort id)) (cut_effects (QuerierEnds id) known.gets) (others_none known number text (Undeclare querier_sort id) (λ m is. cc))
     ∙ none_mapped end_get (λ n. refl) (ended_numbers (QuerierEnds id) known.gets) ∙ ends_none known.watch.gets
-tokens_lost known (Undeclare sub_kind id) number text up = others_none known number text (Undeclare sub_kind id) (λ m is. cc) ∙ ends_none known.watch.gets
-tokens_lost known (Undeclare pub_kind id) number text up = others_none known number text (Undeclare pub_kind id) (λ m is. cc) ∙ ends_none known.watch.gets
-tokens_lost known (Undeclare queryable_sort id) number text up = others_none known number text (Undeclare queryable_sort id) (λ m is. cc) ∙ ends_none known.watch.gets
-tokens_lost known (Undeclare listener_sort id) number text up = others_none known number text (Undeclare listener_sort id) (λ m is. cc) ∙ ends_none known.watch.gets
-tokens_lost known (Undeclare token_sort id) number text up = others_none known number text (Undeclare token_sort id) (λ m is. cc) ∙ ends_none known.watch.gets
-tokens_lost known (Undeclare lsub_sort id) number text up = others_none known number text (Undeclare lsub_sort id) (λ m is. cc) ∙ ends_none known.watch.gets
 tokens_lost known (Cancel token) number text up =
     picked_behind tokens_ended (cut_effects (CancelledBy token) known.gets) (cancelled_ends token known.watch.gets) (none_mapped end_get (λ n. refl) (ended_numbers (CancelledBy token) known.gets))
     ∙ askings_picked (numbers_with token known.watch.gets)

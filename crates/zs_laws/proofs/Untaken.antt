@@ -10,7 +10,7 @@ use Rattle.zs_query.specs.declared.side.Side.{Side}
 use Rattle.zs_query.specs.declared.side.Side.TheVariants.{Network}
 use Rattle.zs_query.specs.declared.get_row.GetRow.{GetRow}
 use Rattle.zs_query.specs.declared.open_get.OpenGet.{OpenGet}
-use Rattle.zs_query.specs.declared.query_value.QueryValue.{QueryValue}
+use Rattle.zs_query.specs.Types.{QueryValue}
 use Rattle.zs_query.specs.declared.outcome.Outcome.{Outcome}
 use Rattle.zs_query.specs.declared.outcome.Outcome.TheVariants as outcome
 use Rattle.zs_query.specs.declared.outcome.Peek.{Peek}
@@ -20,7 +20,7 @@ use Rattle.zs_query.specs.Asked.{News, Quiet, ReplyTo, FinalOf, AtMoment, Querie
 use Rattle.zs_query.specs.GetTable.{Asking}
 use Rattle.zs_query.proofs.Ascending.{all_append, all_filter}
 use Rattle.zs_events.specs.declared.event.Event.{Event}
-use Rattle.zs_events.specs.Kinds.{ToGets, NoGet, Asks, AsksBy, Answers, EndsSide, Reaches, EndsQuerier, Cancels, EndsAll, ToValues, ToLiveliness, Question, asking_token, row_of}
+use Rattle.zs_events.specs.Kinds.{ToGets, NoGet, Asks, AsksBy, Answers, EndsSide, Reaches, EndsQuerier, Cancels, EndsAll, ToValues, ToLiveliness, Question, asking_cancellation_token, row_of}
 use Rattle.zs_events.specs.declared.inquiry.Inquiry.{Inquiry}
 use Rattle.zs_model.specs.declared.settings.Settings.{Settings}
 use Rattle.zs_model.specs.declared.querier.QuerierRow.{QuerierRow}
@@ -128,7 +128,7 @@ asked_untaken default zid rows values q does (Some text) taken a free all =
     opened_untaken taken (row_waiting default a.moment a.next text q (met_by_get rows q text)) a.gets free all
 
 event_untaken : (default zid : ℕ) (rows : List QueryableRow) (values : List QueryValue) (queriers : List QuerierRow) (to : ToGets) (liveliness : ToLiveliness) (does : ToValues) (text : Option (List ℕ)) (taken : List ℕ) (a : Asking)
-    → is_any (is_among taken) (asking_token to liveliness) ≡ false → AreUntaken taken a.gets
+    → is_any (is_among taken) (asking_cancellation_token to liveliness) ≡ false → AreUntaken taken a.gets
     → AreUntaken (taken_by to taken) (asking_by default zid rows values (to_gets_by queriers to) does text a).gets
 event_untaken default zid rows values queriers (Asks q) liveliness does text taken a free all = asked_untaken default zid rows values q does text taken a free all
 event_untaken default zid rows values queriers (AsksBy id q) liveliness does text taken a free all = go (querier_at id queriers)

@@ -10,7 +10,7 @@ use Rattle.zs_wire.specs.declared.response.Answered.TheVariants.{Reply as with_v
 use Rattle.zs_wire.specs.declared.response.Response.{Response}
 use Rattle.zs_query.specs.declared.get_row.GetRow.{GetRow}
 use Rattle.zs_query.specs.declared.open_get.OpenGet.{OpenGet}
-use Rattle.zs_query.specs.declared.query_value.QueryValue.{QueryValue}
+use Rattle.zs_query.specs.Types.{QueryValue}
 use Rattle.zs_query.specs.declared.side.Side.{Side}
 use Rattle.zs_query.specs.Asked.{News, ReplyTo, FinalOf, AtMoment, Asked, waiting, is_open, is_for, replies_in}
 use Rattle.zs_query.specs.Gets.{get_at, other_side, wants, timeout_error}

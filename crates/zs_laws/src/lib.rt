@@ -19,7 +19,10 @@ pub use numbers::{
     entity_numbers_are_fresh, query_numbers_are_fresh, query_values_are_fresh,
 };
 pub use order::effects_are_in_order;
-pub use plain::{listeners_are_unended, marks_are_told, matches_ascend, told_are_last_declared};
+pub use plain::{
+    listeners_are_unended, marks_are_told, matches_ascend, tokens_are_unended,
+    told_are_last_declared,
+};
 
 mod ends;
 mod histories;

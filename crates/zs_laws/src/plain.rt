@@ -1,6 +1,6 @@
 //! Plain words, where tables or folds speak.
 
-ghost use Rattle.zs_laws.specs.Plain.{ListenersAreUnended, ToldAreLastDeclared, MarksAreTold, MatchesAscend};
+ghost use Rattle.zs_laws.specs.Plain.{ListenersAreUnended, ToldAreLastDeclared, TokensAreUnended, MarksAreTold, MatchesAscend};
 
 /// The live listeners are those that an accepted event declared, and that no later one ended, nor their publisher or querier.
 pub fn listeners_are_unended()
@@ -10,6 +10,12 @@ pub fn listeners_are_unended()
 /// The subscribers and queryables of the network are the last declarations of their numbers, without a later end.
 pub fn told_are_last_declared()
     ensures { ToldAreLastDeclared }
+{}
+
+/// The liveliness tokens of the network that are known are those that an accepted event told, to no get alone, and that no later one
+/// ended. Each stands for the text that the first such event told.
+pub fn tokens_are_unended()
+    ensures { TokensAreUnended }
 {}
 
 /// After any history those entities are marked as left to themselves which an accepted event left so.

@@ -7,7 +7,22 @@ use Rattle.zs_events.specs.declared.turn.Turn.{Turn}
 use Rattle.zs_session_cell.specs.Core.{turn_at}
 use Rattle.zs_delivery.specs.Linked.{is_event, with_event, with_oldest, without_oldest}
 use Rattle.zs_link.specs.declared.world.Delivered.TheVariants.{Nothing, Dropped, Taken}
-use Rattle.zs_link.specs.World.{SideSeen, StandsAs, TakesEvent, delivered_of, without_first, Passes}
+use Rattle.zs_link.specs.World.{SideSeen, StandsAs, TakesEvent, BeginsWith, delivered_of, without_first, Passes}
+
+-- the oldest message, if there is one
+pub none_first : (messages : List Message) → slice_get messages 0 ≡ None → messages ≡ []
+none_first [] none = refl
+none_first (m ∷ messages) none = cc
+
+pub none_left : (messages : List Message) → slice_get messages 0 ≡ None → messages ≡ without_oldest messages
+none_left [] none = refl
+none_left (m ∷ messages) none = cc
+
+pub begins : (m : Message) (event : Bool) (messages : List Message) → slice_get messages 0 ≡ Some m → is_event m ≡ event → BeginsWith event messages
+begins m event [] some is = cc
+begins m event (n ∷ messages) some is =
+    let same : n ≡ m = cc in
+    ap is_event same ∙ is
 
 module _ (from to : SideSeen) where
   pub passes_nothing : slice_get from.waiting 0 ≡ None → Passes from to Nothing from to

@@ -87,6 +87,17 @@ abbrev pub Delivers : LinkSide → LinkSeen → Delivered → LinkSeen → Type 
 Delivers from old delivered new =
     (s : Settings) (w : Linked) → StandAs old s w → (delivered ≡ delivery_from s from w) × StandAs new s (with_line s (Deliver from) w)
 
+-- the first of these messages is an event of its receiver, or an interest
+abbrev pub BeginsWith : Bool → List Message → Type 0
+BeginsWith event [] = ⊥
+BeginsWith event (message ∷ later) = is_event message ≡ event
+
+-- what was delivered is of the sort of the oldest message that waited: there was none, an interest, or an event
+abbrev pub IsOldest : Delivered → List Message → Type 0
+IsOldest Nothing messages = messages ≡ []
+IsOldest Dropped messages = BeginsWith false messages
+IsOldest (Taken turn) messages = BeginsWith true messages
+
 -- what waits at a side
 abbrev pub waiting_of : LinkSide → LinkSeen → List Message
 waiting_of A x = x.a.waiting

@@ -1,10 +1,10 @@
 //! Two linked sessions.
 
-ghost use Rattle.std.specs.Prelude.{◌≡◌, IsTrue, false, IfOk, OnErr, length};
+ghost use Rattle.std.specs.Prelude.{◌≡◌, IsTrue, false, IfOk, OnOk, OnErr, length};
 ghost use Rattle.zs_core.specs.Settings.{is_valid};
-ghost use Rattle.zs_delivery.specs.Linked.{is_event};
+ghost use Rattle.zs_delivery.specs.Linked.{is_event, without_oldest};
 ghost use Rattle.zs_delivery.specs.Links.{is_net};
-ghost use Rattle.zs_link.specs.World.{AreNew, Takes, Delivers, Passes, waiting_of};
+ghost use Rattle.zs_link.specs.World.{AreNew, Takes, Delivers, IsOldest, Passes, waiting_of};
 
 use crate::session::LinkedSession;
 use std::alloc::{AllocError, Global};
@@ -80,13 +80,16 @@ impl LinkWorld {
         }
     }
 
-    /// Gives the oldest message of a side that waits to the other side.
+    /// Gives the oldest message of a side that waits to the other side: `Nothing` where none waits, `Dropped` where it is an
+    /// interest, and else the turn that the other side makes of it. It waits no longer.
     ///
     /// # Errors
     ///
     /// Want of memory alone. Then nothing has changed, and the message still waits.
     pub fn deliver(&mut self, from: LinkSide) -> Result<Delivered, AllocError>
         ensures ok { IfOk result (λ delivered. Delivers from self.old delivered self.new) }
+        ensures oldest { IfOk result (λ delivered. IsOldest delivered (waiting_of from self.old)) }
+        ensures waits { OnOk result (waiting_of from self.new ≡ without_oldest (waiting_of from self.old)) }
         ensures err { OnErr result (self.new ≡ self.old) }
     {
         match from {
@@ -116,6 +119,8 @@ fn is_event(message: &Message) -> bool
 /// Gives the oldest message of one side to the other.
 fn pass(from: &mut LinkedSession, to: &mut LinkedSession) -> Result<Delivered, AllocError>
     ensures ok { IfOk result (λ delivered. Passes from.old to.old delivered from.new to.new) }
+    ensures oldest { IfOk result (λ delivered. IsOldest delivered from.old.waiting) }
+    ensures waits { OnOk result (from.new.waiting ≡ without_oldest from.old.waiting) }
     ensures from { OnErr result (from.new ≡ from.old) }
     ensures to { OnErr result (to.new ≡ to.old) }
 {

@@ -47,7 +47,9 @@ pub fn ids_by<L: Ledger>(
 {
     match key {
         KeyRef::Text(_) => ids_by_text(alloc, tables, local, text, steps),
-        KeyRef::Number(mapping, number) => ids_by_number(alloc, tables, local, mapping, number),
+        KeyRef::Number(mapping, number) => {
+            ids_by_number(alloc, tables, local, mapping, number, steps)
+        }
     }
 }
 
@@ -62,25 +64,26 @@ fn ids_by_text<L: Ledger>(
     ensures ids { IfOk result (λ ids. ids.items ≡ recipients local key.now.text tables.now.rows) }
     ensures counted { steps.new ≡ steps.old + 1 }
 {
-    steps.tick();
     let mut ids = Vec::new(alloc);
-    tables.recipients_into(key, local, &mut ids)?;
+    tables.recipients_into(key, local, &mut ids, steps)?;
     Ok(ids)
 }
 
 /// They are read off the list that the number keeps: no key is tested, and no step counted.
-fn ids_by_number(
+fn ids_by_number<L: Ledger>(
     alloc: Global,
     tables: &Tables,
     local: bool,
     mapping: Mapping,
     number: u16,
+    steps: &mut Steps<L>,
 ) -> Result<Vec<u32>, AllocError>
     requires { IsSome (key_at number (numbers_of mapping tables.now)) }
-    ensures { IfOk result (λ ids. ForSome (key_at number (numbers_of mapping tables.now)) (λ key. ids.items ≡ recipients local key.text tables.now.rows)) }
+    ensures ids { IfOk result (λ ids. ForSome (key_at number (numbers_of mapping tables.now)) (λ key. ids.items ≡ recipients local key.text tables.now.rows)) }
+    ensures uncounted { steps.new ≡ steps.old }
 {
     let mut ids = Vec::new(alloc);
-    tables.recipients_of_number_into(mapping, number, local, &mut ids)?;
+    tables.recipients_of_number_into(mapping, number, local, &mut ids, steps)?;
     Ok(ids)
 }
 

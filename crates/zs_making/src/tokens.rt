@@ -13,7 +13,7 @@ use zs_keys::KeyExpr;
 use zs_sample::{
     CongestionControl, Encoding, Locality, QoSType, Reply, ReplyError, Sample, SampleKind, ZBytes,
 };
-use zs_tables::LivelinessSub;
+use zs_tables::LivelinessSubs;
 use zs_wire::Body;
 
 /// A token answers the get of that number.
@@ -138,10 +138,10 @@ pub fn push_asking_ends(numbers: &[u32], effects: &mut Effects) -> Result<(), Al
 }
 
 /// These subscribers are called no more.
-pub fn push_lsub_ends(effects: &mut Effects, rows: &[LivelinessSub]) -> Result<(), AllocError>
-    ensures { OnOk result (effects.new ≡ effects.old ++ lsub_ends rows.now) }
+pub fn push_lsub_ends(effects: &mut Effects, subs: &LivelinessSubs) -> Result<(), AllocError>
+    ensures { OnOk result (effects.new ≡ effects.old ++ lsub_ends subs.now) }
 {
-    for row in rows {
+    for (_id, row) in subs.iter() {
         effects.push(Effect::End {
             kind: Kind::LivelinessSubscriber,
             id: row.id,

@@ -5,9 +5,12 @@ use Rattle.std.specs.List.{list_any, AllByRecursion}
 use Rattle.std.proofs.lemmas.Bool.Decides.{nat_tests}
 use Rattle.std.proofs.lemmas.List.Folds.{list_any-append}
 use Rattle.std.proofs.lemmas.List.Elements.{filter-append, filter_agree}
+use Rattle.zs_wire.specs.declared.message.Message.{Message}
+use Rattle.zs_wire.specs.declared.message.Message.TheVariants.{Close as close_message}
 use Rattle.zs_tables.specs.Ascending.{Ascend}
 use Rattle.zs_events.specs.declared.event.Event.{Event}
 use Rattle.zs_events.specs.declared.turn.Kind.{Kind}
+use Rattle.zs_events.specs.Kinds.{NoEntity, message_row}
 use Rattle.zs_model.specs.Entry.{Entry}
 use Rattle.zs_model.specs.Live.{appended, declared, drew, ends, drew_unended, is_live}
 use Rattle.zs_model.proofs.Filters.{filter-filter, filter_none, all_weaker, all_append}
@@ -200,3 +203,8 @@ ascend_filter number p (row ∷ rows) up = go (p row) refl (ascend_filter number
 pub table_ascends : {R : Type 0} (number : R → ℕ) (kind : Kind) (row_of : Event → Option ℕ → Option (List ℕ) → List R) (rows : List R) (next : ℕ) (past : List Entry)
     → AreRows number kind row_of rows next past → Ascend number rows
 table_ascends number kind row_of rows next past l = rw l.table (ascend_filter number (λ row. is_live kind (number row) past) (declared row_of past) l.ascend)
+
+-- a message is nothing to this session's entities
+pub message_none : (message : Message) → (message_row message).to_entities ≡ NoEntity
+message_none close_message = refl
+message_none message = refl

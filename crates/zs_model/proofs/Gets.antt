@@ -16,7 +16,7 @@ use Rattle.zs_query.proofs.Hearing.{all_map, told, open_more, heard_ascend}
 use Rattle.zs_events.specs.Kinds.{Question, ToGets, NoGet, Asks, AsksBy, Answers, EndsSide, Reaches, EndsQuerier, Cancels, EndsAll, ToValues, row_of}
 use Rattle.zs_tables.specs.Queryables.{met}
 use Rattle.zs_tables.specs.declared.queryable.QueryableRow.{QueryableRow}
-use Rattle.zs_query.specs.declared.query_value.QueryValue.{QueryValue}
+use Rattle.zs_query.specs.Types.{QueryValue}
 use Rattle.zs_model.specs.Values.{wants_complete, met_by_get, values_now}
 use Rattle.zs_model.specs.Answers.{news_by_value}
 use Rattle.zs_model.specs.declared.settings.Settings.{Settings}

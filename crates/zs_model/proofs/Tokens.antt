@@ -8,12 +8,11 @@ use Rattle.zs_keys.specs.Key.{undeclared}
 use Rattle.zs_events.specs.Kinds.{ToLiveliness, NoToken, Subscribes, AsksTokens, TellsToken, EndsToken, EndsAnswers, row_of}
 use Rattle.zs_tables.specs.Ascending.{Ascend, placed_by}
 use Rattle.zs_tables.specs.Liveliness.{put_new}
-use Rattle.zs_tables.specs.declared.liveliness_get.LivelinessGet.{LivelinessGet}
-use Rattle.zs_tables.specs.declared.told_token.ToldToken.{ToldToken}
+use Rattle.zs_tables.specs.Types.{LivelinessGet, ToldToken}
 use Rattle.zs_tables.proofs.Ascending.{ascend_placed, ascend_filter}
 use Rattle.zs_model.specs.declared.settings.Settings.{Settings}
 use Rattle.zs_model.specs.Entry.{Entry}
-use Rattle.zs_model.specs.Tokens.{answers, told_behind, told_tokens, text_behind, token_text, asking_now}
+use Rattle.zs_model.specs.Tokens.{answers, told_behind, remote_tokens, text_behind, token_text, asking_now}
 
 -- the text that stands under a number
 abbrev pub text_under : ℕ → List ToldToken → Option (List ℕ)
@@ -106,10 +105,10 @@ text_step gets n (TellsToken id interest) (Some text) tokens = go (answers inter
     go true = none (id == n)
     go false = found_put n id text tokens ∙ put (id == n)
 
-pub texts_told : (s : Settings) (past : List Entry) (n : ℕ) → text_under n (told_tokens s past) ≡ token_text s n past
+pub texts_told : (s : Settings) (past : List Entry) (n : ℕ) → text_under n (remote_tokens s past) ≡ token_text s n past
 texts_told s [] n = refl
 texts_told s (x ∷ past) n =
-    text_step (asking_now s past) n (row_of x.event).to_liveliness x.text (told_tokens s past)
+    text_step (asking_now s past) n (row_of x.event).to_liveliness x.text (remote_tokens s past)
     ∙ ap (text_behind (asking_now s past) n (row_of x.event).to_liveliness x.text) (texts_told s past n)
 
 -- the numbers ascend
@@ -134,6 +133,6 @@ told_ascend gets (TellsToken id interest) (Some text) tokens up = go (answers in
     go true = up
     go false = ascend_put (record { number = id; key = undeclared text }) tokens up
 
-pub tokens_ascend : (s : Settings) (past : List Entry) → Ascend (λ (t : ToldToken). t.number) (told_tokens s past)
+pub tokens_ascend : (s : Settings) (past : List Entry) → Ascend (λ (t : ToldToken). t.number) (remote_tokens s past)
 tokens_ascend s [] = tt
-tokens_ascend s (x ∷ past) = told_ascend (asking_now s past) (row_of x.event).to_liveliness x.text (told_tokens s past) (tokens_ascend s past)
+tokens_ascend s (x ∷ past) = told_ascend (asking_now s past) (row_of x.event).to_liveliness x.text (remote_tokens s past) (tokens_ascend s past)

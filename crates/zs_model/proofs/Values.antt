@@ -2,8 +2,7 @@
 use Rattle.std.proofs.Common.{◌≡◌, ◌+◌, ℕ, List, [], ◌∷◌, ◌++◌, Option, Some, None, refl, sym, ◌∙◌, ap, arith, length, map, append-nil}
 use Rattle.std.proofs.lemmas.List.{length-append, length-map}
 use Rattle.zs_tables.specs.declared.queryable.QueryableRow.{QueryableRow}
-use Rattle.zs_query.specs.declared.query_value.QueryValue.{QueryValue}
-use Rattle.zs_query.specs.declared.request_row.RequestRow.{RequestRow}
+use Rattle.zs_query.specs.Types.{QueryValue, RequestRow}
 use Rattle.zs_query.specs.Unfinished.{value_at, values_from, without_value}
 use Rattle.zs_query.specs.RequestTable.{Handing, with_handed, with_share, with_shared, with_finished}
 use Rattle.zs_query.specs.Drawn.{ValueNews, Drew, GaveBack, just_drawn, giving_back, drawn, unfinished}

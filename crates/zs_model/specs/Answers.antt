@@ -10,10 +10,7 @@ use Rattle.zs_wire.specs.declared.quality.QoSType.{QoSType}
 use Rattle.zs_wire.specs.declared.response.Answered.{Answered}
 use Rattle.zs_wire.specs.declared.response.Response.{Response}
 use Rattle.zs_wire.specs.declared.wire_expr.WireExpr.{WireExpr}
-use Rattle.zs_query.specs.declared.query_value.QueryValue.{QueryValue}
-use Rattle.zs_query.specs.declared.request_row.RequestRow.{RequestRow}
-use Rattle.zs_query.specs.declared.requests.Finished.{Finished}
-use Rattle.zs_query.specs.declared.requests.Finished.TheVariants.{Unknown, MoreLeft, Last}
+use Rattle.zs_query.specs.Types.{QueryValue, RequestRow, Finished, Unknown, MoreLeft, Last}
 use Rattle.zs_query.specs.declared.side.Side.TheVariants.{Local}
 use Rattle.zs_query.specs.Unfinished.{value_at, finished}
 use Rattle.zs_query.specs.Asked.{News, Quiet, ReplyTo, FinalOf}

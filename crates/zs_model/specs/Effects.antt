@@ -25,8 +25,7 @@ use Rattle.zs_wire.specs.declared.interest.InterestWhat.TheVariants.{Subscribers
 use Rattle.zs_wire.specs.declared.message.Message.{Message}
 use Rattle.zs_wire.specs.declared.interest.InterestMode.{InterestMode}
 use Rattle.zs_tables.specs.Recipients.{has_network}
-use Rattle.zs_tables.specs.declared.group_kind.GroupKind.{GroupKind}
-use Rattle.zs_tables.specs.declared.group_kind.GroupKind.TheVariants.{Subscribers, Publishers, Queriers}
+use Rattle.zs_tables.specs.Types.{GroupKind, Subscribers, Publishers, Queriers, LivelinessSub}
 use Rattle.zs_model.specs.Subscribers.{sub_at, sub_ends}
 use Rattle.zs_model.specs.Groups.{Company, company_of, sub_shared, pub_shared, querier_shared, joins_first, sends_if, leaving, subscriber_end, interest_end, querier_end}
 use Rattle.zs_model.specs.Publishers.{pub_at, resolved}
@@ -34,12 +33,11 @@ use Rattle.zs_model.specs.Queryables.{queryable_at, queryable_ends}
 use Rattle.zs_model.specs.declared.querier.QuerierRow.{QuerierRow}
 use Rattle.zs_model.specs.Queriers.{querier_at, querier_declaration, to_gets_by}
 use Rattle.zs_model.specs.Gets.{open_now}
-use Rattle.zs_tables.specs.declared.liveliness_sub.LivelinessSub.{LivelinessSub}
-use Rattle.zs_model.specs.Tokens.{told_tokens, asking_now}
+use Rattle.zs_model.specs.Tokens.{remote_tokens, asking_now}
 use Rattle.zs_model.specs.LivelinessEffects.{Watch, watch_effects, lsub_ends}
 use Rattle.zs_model.specs.GetEffects.{request_effects, told_effects, with_gets}
 use Rattle.zs_query.specs.declared.open_get.OpenGet.{OpenGet}
-use Rattle.zs_query.specs.declared.query_value.QueryValue.{QueryValue}
+use Rattle.zs_query.specs.Types.{QueryValue}
 use Rattle.zs_query.specs.RequestTable.{Handing}
 use Rattle.zs_model.specs.Values.{drawn_by, handing_of}
 use Rattle.zs_model.specs.ValueEffects.{Answering, value_effects, with_values}
@@ -205,7 +203,7 @@ known_of s past = record {
   company = λ kind. company_of s kind past;
   timeout = s.default_timeout;
   gets = open_now s past;
-  watch = record { subs = live_lsubs past; told = told_tokens s past; gets = asking_now s past };
+  watch = record { subs = live_lsubs past; told = remote_tokens s past; gets = asking_now s past };
   zid = s.zid;
   handing = handing_of past;
 }

@@ -20,7 +20,7 @@ use Rattle.zs_events.specs.declared.turn.Effect.{Effect}
 use Rattle.zs_events.specs.declared.turn.Effect.TheVariants.{Send, Hand, End}
 use Rattle.zs_events.specs.declared.turn.HandOver.TheVariants.{Reply as reply_for, Query as query_for}
 use Rattle.zs_query.specs.QueryData.{query_of}
-use Rattle.zs_query.specs.declared.query_value.QueryValue.{QueryValue}
+use Rattle.zs_query.specs.Types.{QueryValue}
 use Rattle.zs_events.specs.declared.turn.Kind.TheVariants.{Get as get_kind}
 use Rattle.zs_model.specs.Sends.{OwnKeys, wire_form, declaration_of}
 use Rattle.zs_events.specs.Kinds.{NamedKey, Question, ToGets, NoGet, Asks, AsksBy, Answers, EndsSide, Reaches, EndsQuerier, Cancels, EndsAll}
@@ -28,7 +28,7 @@ use Rattle.zs_model.specs.Questions.{request_of}
 use Rattle.zs_model.specs.Gets.{sample_reply, error_reply}
 use Rattle.zs_model.specs.LivelinessEffects.{hand_answer, end_asking, cancelled_ends, asking_ends}
 use Rattle.zs_tables.specs.LivelinessGets.{over_at}
-use Rattle.zs_tables.specs.declared.liveliness_get.LivelinessGet.{LivelinessGet}
+use Rattle.zs_tables.specs.Types.{LivelinessGet}
 
 -- a reply for the get of a number
 abbrev pub hand_reply : ℕ → Replied → Effect

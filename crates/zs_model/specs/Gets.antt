@@ -24,7 +24,7 @@ use Rattle.zs_model.specs.Values.{met_by_get, values_now}
 use Rattle.zs_model.specs.Replies.{reply_on, error_on}
 use Rattle.zs_model.specs.Answers.{news_by_value}
 use Rattle.zs_tables.specs.declared.queryable.QueryableRow.{QueryableRow}
-use Rattle.zs_query.specs.declared.query_value.QueryValue.{QueryValue}
+use Rattle.zs_query.specs.Types.{QueryValue}
 
 -- the reply that a response with a value is, given the text of its key, and one with an error
 abbrev pub sample_reply : List ℕ → Response → Body → Replied

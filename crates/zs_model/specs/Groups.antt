@@ -5,8 +5,7 @@ use Rattle.std.specs.Option.{option_or}
 use Rattle.zs_keys.specs.Key.{Key}
 use Rattle.zs_keys.specs.Matching.{includes}
 use Rattle.zs_tables.specs.Groups.{AllGroups, Group, groups_of, members_of, number_of_group, joined, left}
-use Rattle.zs_tables.specs.declared.group_kind.GroupKind.{GroupKind}
-use Rattle.zs_tables.specs.declared.group_kind.GroupKind.TheVariants.{Subscribers, Publishers, Queriers}
+use Rattle.zs_tables.specs.Types.{GroupKind, Subscribers, Publishers, Queriers}
 use Rattle.zs_tables.specs.Recipients.{has_network}
 use Rattle.zs_tables.specs.declared.subscriber.SubRow.{SubRow}
 use Rattle.zs_wire.specs.declared.message.Message.{Message}

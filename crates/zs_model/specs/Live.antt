@@ -2,15 +2,12 @@
 use Rattle.std.specs.Prelude.{ℕ, Bool, true, false, ◌==◌, ◌&&◌, ◌||◌, not, List, [], ◌∷◌, ◌++◌, Option, Some, None, filter}
 use Rattle.std.specs.List.{list_any}
 use Rattle.zs_events.specs.declared.event.Event.{Event}
-use Rattle.zs_events.specs.declared.event.Event.TheVariants.{Sub, Pub, Queryable, Querier, Undeclare, Background, Close, Token, Lsub}
-use Rattle.zs_events.specs.declared.entity_kind.EntityKind.{EntityKind}
-use Rattle.zs_events.specs.declared.entity_kind.EntityKind.TheVariants.{Sub as sub_kind, Pub as pub_kind, Queryable as queryable_sort, Querier as querier_sort, Listener as listener_sort, Token as token_sort, Lsub as lsub_sort}
-use Rattle.zs_events.specs.declared.entity_kind.BackgroundKind.TheVariants.{Sub as background_sub, Queryable as background_queryable, Listener as background_listener, Lsub as background_lsub}
+use Rattle.zs_events.specs.declared.event.Event.TheVariants.{Close}
 use Rattle.zs_events.specs.declared.turn.Kind.{Kind}
-use Rattle.zs_events.specs.declared.turn.Kind.TheVariants.{Subscriber, Publisher, Queryable as queryable_kind, Querier as querier_kind, Token as token_kind, LivelinessSubscriber, Listener}
+use Rattle.zs_events.specs.declared.turn.Kind.TheVariants.{Subscriber, Publisher, Queryable as queryable_kind, Querier as querier_kind, Token as token_kind, LivelinessSubscriber, Listener, Get, LivelinessGet}
 use Rattle.zs_tables.specs.declared.subscriber.SubRow.{SubRow}
 use Rattle.zs_tables.specs.declared.queryable.QueryableRow.{QueryableRow}
-use Rattle.zs_events.specs.Kinds.{Named, ToGets, row_of}
+use Rattle.zs_events.specs.Kinds.{Named, ToGets, ToEntities, Declares, EndsEntity, LeavesEntity, row_of}
 use Rattle.zs_model.specs.Entry.{Entry}
 use Rattle.zs_model.specs.declared.publisher.PubRow.{PubRow}
 use Rattle.zs_model.specs.Subscribers.{sub_row}
@@ -18,7 +15,7 @@ use Rattle.zs_model.specs.Publishers.{pub_row}
 use Rattle.zs_model.specs.Queryables.{queryable_row}
 use Rattle.zs_model.specs.declared.querier.QuerierRow.{QuerierRow}
 use Rattle.zs_model.specs.Queriers.{querier_row, to_gets_by}
-use Rattle.zs_tables.specs.declared.liveliness_sub.LivelinessSub.{LivelinessSub}
+use Rattle.zs_tables.specs.Types.{LivelinessSub}
 use Rattle.zs_model.specs.Liveliness.{token_row, lsub_row}
 use Rattle.zs_tables.specs.declared.listener.ListenerRow.{ListenerRow}
 use Rattle.zs_model.specs.Listeners.{listener_row, ends_listener, is_listener}
@@ -33,68 +30,48 @@ abbrev pub declared : {R : Type 0} → (Event → Option ℕ → Option (List �
 declared row [] = []
 declared row (x ∷ past) = appended (declared row past) (row x.event x.number x.text)
 
--- the kind of subscribers, of publishers, of queryables, of queriers, of tokens and of subscribers to liveliness
-abbrev pub is_subscriber : Kind → Bool
-is_subscriber Subscriber = true
-is_subscriber kind = false
+-- whether two kinds are the same
+abbrev pub is_same : Kind → Kind → Bool
+is_same Subscriber Subscriber = true
+is_same LivelinessSubscriber LivelinessSubscriber = true
+is_same Publisher Publisher = true
+is_same queryable_kind queryable_kind = true
+is_same querier_kind querier_kind = true
+is_same token_kind token_kind = true
+is_same Listener Listener = true
+is_same Get Get = true
+is_same LivelinessGet LivelinessGet = true
+is_same kind other = false
 
-abbrev pub is_publisher : Kind → Bool
-is_publisher Publisher = true
-is_publisher kind = false
+-- whether that is the number that was drawn
+abbrev pub is_that : ℕ → Option ℕ → Bool
+is_that id None = false
+is_that id (Some number) = id == number
 
-abbrev pub is_queryable : Kind → Bool
-is_queryable queryable_kind = true
-is_queryable kind = false
+-- whether an event declares what has this kind, under this number
+abbrev pub drew_as : Kind → ℕ → ToEntities → Option ℕ → Bool
+drew_as kind id (Declares other) number = is_same kind other && is_that id number
+drew_as kind id to number = false
 
-abbrev pub is_querier_kind : Kind → Bool
-is_querier_kind querier_kind = true
-is_querier_kind kind = false
-
-abbrev pub is_token : Kind → Bool
-is_token token_kind = true
-is_token kind = false
-
-abbrev pub is_lsub : Kind → Bool
-is_lsub LivelinessSubscriber = true
-is_lsub kind = false
-
-abbrev pub is_listener_kind : Kind → Bool
-is_listener_kind Listener = true
-is_listener_kind kind = false
-
--- whether the sort of what is undeclared has that kind
-abbrev pub is_of : EntityKind → Kind → Bool
-is_of sub_kind kind = is_subscriber kind
-is_of pub_kind kind = is_publisher kind
-is_of queryable_sort kind = is_queryable kind
-is_of querier_sort kind = is_querier_kind kind
-is_of token_sort kind = is_token kind
-is_of lsub_sort kind = is_lsub kind
-is_of listener_sort kind = is_listener_kind kind
-
--- whether a declaration of that kind drew this number
 abbrev pub drew : Kind → ℕ → Event → Option ℕ → Bool
-drew kind id (Sub origin key to) (Some number) = is_subscriber kind && id == number
-drew kind id (Pub key settings) (Some number) = is_publisher kind && id == number
-drew kind id (Queryable origin complete key) (Some number) = is_queryable kind && id == number
-drew kind id (Querier key settings) (Some number) = is_querier_kind kind && id == number
-drew kind id (Token key) (Some number) = is_token kind && id == number
-drew kind id (Lsub history key) (Some number) = is_lsub kind && id == number
-drew kind id e number = false
+drew kind id e number = drew_as kind id (row_of e).to_entities number
 
--- whether an event ends what has this kind and number: its undeclaration, or the close
+-- whether it ends what has this kind and number: its undeclaration, or the close
+abbrev pub ends_as : Kind → ℕ → ToEntities → Bool
+ends_as kind id (EndsEntity other number) = is_same kind other && id == number
+ends_as kind id to = false
+
 abbrev pub ends : Kind → ℕ → Event → Bool
-ends kind id (Undeclare sort number) = is_of sort kind && id == number
 ends kind id Close = true
-ends kind id e = false
+ends kind id e = ends_as kind id (row_of e).to_entities
 
--- whether an event leaves what has this kind and number to itself
+-- whether it leaves what has this kind and number to itself
+abbrev pub leaves_as : Kind → ℕ → ToEntities → Bool
+leaves_as kind id (LeavesEntity other number) = is_same kind other && id == number
+leaves_as kind id to = false
+
 abbrev pub leaves : Kind → ℕ → Event → Bool
-leaves kind id (Background background_sub number) = is_subscriber kind && id == number
-leaves kind id (Background background_queryable number) = is_queryable kind && id == number
-leaves kind id (Background background_lsub number) = is_lsub kind && id == number
-leaves kind id (Background background_listener number) = is_listener_kind kind && id == number
-leaves kind id e = false
+leaves kind id e = leaves_as kind id (row_of e).to_entities
 
 -- an event of the past drew the number, and none after it, nor any of the later ones, ended it
 abbrev pub drew_unended : Kind → ℕ → List Event → List Entry → Bool
@@ -102,7 +79,7 @@ drew_unended kind id later [] = false
 drew_unended kind id later (x ∷ past) =
     (drew kind id x.event x.number && not (list_any (ends kind id) later)) || drew_unended kind id (x.event ∷ later) past
 
--- whether what has this kind and number is live, where it is no listener
+-- whether what has this kind and number was declared and is not ended since. A listener ends with what it listens to, too: see `is_living`
 abbrev pub is_live : Kind → ℕ → List Entry → Bool
 is_live kind id past = drew_unended kind id [] past
 

@@ -3,9 +3,7 @@ use Rattle.std.specs.Prelude.{ℕ, List, [], ◌∷◌, Option, Some}
 use Rattle.zs_keys.specs.Key.{undeclared}
 use Rattle.zs_events.specs.declared.event.Event.{Event}
 use Rattle.zs_events.specs.declared.event.Event.TheVariants.{Token, Lsub}
-use Rattle.zs_tables.specs.declared.liveliness_sub.LivelinessSub.{LivelinessSub}
-use Rattle.zs_tables.specs.declared.liveliness_get.LivelinessGet.{LivelinessGet}
-use Rattle.zs_tables.specs.declared.told_token.ToldToken.{ToldToken}
+use Rattle.zs_tables.specs.Types.{LivelinessSub, LivelinessGet, ToldToken}
 
 -- the tables: the live tokens of this session, the live subscribers to liveliness, those of them that were left to themselves, the
 -- tokens that the network told, and the open gets of tokens

@@ -36,21 +36,21 @@ renews_queryable (EndsQueryable id) row = row.number == id
 renews_queryable to row = false
 
 -- the subscribers that the network told and did not end, of each number the last one
-abbrev pub told_subs : List Entry → List ToldSub
-told_subs [] = []
-told_subs (x ∷ past) =
-    appended (filter (λ row. not (renews_sub (row_of x.event).to_matching row)) (told_subs past)) (told_sub_row (row_of x.event).to_matching x.text)
+abbrev pub remote_subscribers : List Entry → List ToldSub
+remote_subscribers [] = []
+remote_subscribers (x ∷ past) =
+    appended (filter (λ row. not (renews_sub (row_of x.event).to_matching row)) (remote_subscribers past)) (told_sub_row (row_of x.event).to_matching x.text)
 
 -- and the queryables
-abbrev pub told_queryables : List Entry → List ToldQueryable
-told_queryables [] = []
-told_queryables (x ∷ past) =
-    appended (filter (λ row. not (renews_queryable (row_of x.event).to_matching row)) (told_queryables past))
+abbrev pub remote_queryables : List Entry → List ToldQueryable
+remote_queryables [] = []
+remote_queryables (x ∷ past) =
+    appended (filter (λ row. not (renews_queryable (row_of x.event).to_matching row)) (remote_queryables past))
     (told_queryable_row (row_of x.event).to_matching x.text)
 
 -- all that a listener may listen for
 abbrev pub present : List Entry → List Candidate
-present past = candidates (live_subs past) (live_queryables past) (record { subs = told_subs past; queryables = told_queryables past })
+present past = candidates (live_subs past) (live_queryables past) (record { subs = remote_subscribers past; queryables = remote_queryables past })
 
 -- whether anyone matches a listener
 abbrev pub is_matched : List Entry → ListenerRow → Bool

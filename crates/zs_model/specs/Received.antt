@@ -18,7 +18,7 @@ use Rattle.zs_model.specs.Groups.{share_text}
 use Rattle.zs_model.specs.Effects.{effects}
 use Rattle.zs_model.specs.Held.{named_text}
 use Rattle.zs_model.specs.Values.{values_now}
-use Rattle.zs_query.specs.declared.query_value.QueryValue.{QueryValue}
+use Rattle.zs_query.specs.Types.{QueryValue}
 use Rattle.zs_query.specs.Unfinished.{value_at}
 use Rattle.zs_events.specs.Kinds.{ToValues, AnswersError, row_of}
 

@@ -7,8 +7,7 @@ use Rattle.zs_events.specs.declared.event.Event.{Event}
 use Rattle.zs_events.specs.Kinds.{ToGets, Reaches, Cancels, EndsAll, ToLiveliness, NoToken, Subscribes, AsksTokens, TellsToken, EndsToken, EndsAnswers, row_of}
 use Rattle.zs_tables.specs.Liveliness.{put_new}
 use Rattle.zs_tables.specs.LivelinessGets.{is_asking, is_over, is_own}
-use Rattle.zs_tables.specs.declared.liveliness_get.LivelinessGet.{LivelinessGet}
-use Rattle.zs_tables.specs.declared.told_token.ToldToken.{ToldToken}
+use Rattle.zs_tables.specs.Types.{LivelinessGet, ToldToken}
 use Rattle.zs_model.specs.declared.settings.Settings.{Settings}
 use Rattle.zs_model.specs.Entry.{Entry}
 use Rattle.zs_model.specs.Questions.{last_moment}
@@ -67,9 +66,9 @@ told_behind gets (EndsToken id interest) text tokens = filter (λ t. not (t.numb
 told_behind gets (EndsAnswers interest) text tokens = tokens
 
 -- the tokens that the network told and has not ended, in ascending number
-abbrev pub told_tokens : Settings → List Entry → List ToldToken
-told_tokens s [] = []
-told_tokens s (x ∷ past) = told_behind (asking_now s past) (row_of x.event).to_liveliness x.text (told_tokens s past)
+abbrev pub remote_tokens : Settings → List Entry → List ToldToken
+remote_tokens s [] = []
+remote_tokens s (x ∷ past) = told_behind (asking_now s past) (row_of x.event).to_liveliness x.text (remote_tokens s past)
 
 -- whether a token's number is known
 abbrev pub is_told : ℕ → List ToldToken → Bool

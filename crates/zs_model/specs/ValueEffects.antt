@@ -4,11 +4,8 @@ use Rattle.zs_wire.specs.declared.body.Body.{Body}
 use Rattle.zs_wire.specs.declared.body.Value.{Value}
 use Rattle.zs_wire.specs.declared.message.Message.TheVariants.{Response as response_message, ResponseFinal}
 use Rattle.zs_wire.specs.declared.response.Answered.TheVariants.{Reply, Err as Error}
-use Rattle.zs_query.specs.declared.query_value.QueryValue.{QueryValue}
-use Rattle.zs_query.specs.declared.request_row.RequestRow.{RequestRow}
+use Rattle.zs_query.specs.Types.{QueryValue, RequestRow, Finished, Unknown, MoreLeft, Last}
 use Rattle.zs_query.specs.declared.open_get.OpenGet.{OpenGet}
-use Rattle.zs_query.specs.declared.requests.Finished.{Finished}
-use Rattle.zs_query.specs.declared.requests.Finished.TheVariants.{Unknown, MoreLeft, Last}
 use Rattle.zs_query.specs.declared.side.Side.TheVariants.{Local}
 use Rattle.zs_query.specs.Gets.{get_at, peek_at, final_outcome}
 use Rattle.zs_query.specs.Unfinished.{value_at, finished}

@@ -8,8 +8,7 @@ use Rattle.zs_wire.specs.declared.request.Request.{Request}
 use Rattle.zs_tables.specs.Recipients.{has_session}
 use Rattle.zs_tables.specs.Queryables.{met}
 use Rattle.zs_tables.specs.declared.queryable.QueryableRow.{QueryableRow}
-use Rattle.zs_query.specs.declared.query_value.QueryValue.{QueryValue}
-use Rattle.zs_query.specs.declared.request_row.RequestRow.{RequestRow}
+use Rattle.zs_query.specs.Types.{QueryValue, RequestRow}
 use Rattle.zs_query.specs.Unfinished.{value_at, values_from}
 use Rattle.zs_query.specs.RequestTable.{Handing}
 use Rattle.zs_query.specs.Drawn.{ValueNews, Drew, GaveBack, drawn, unfinished}

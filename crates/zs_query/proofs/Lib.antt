@@ -1,9 +1,7 @@
 pub mod Ascending
 pub mod Searching
-pub mod Requesting
 pub mod Getting
 pub mod Indexed
-pub mod Filed
 pub mod ByKey
 pub mod Order
 pub mod Keeping
@@ -11,4 +9,4 @@ pub mod Standing
 pub mod Arrival
 pub mod Hearing
 pub mod Tabling
-pub mod Drawing
+pub use Rattle.zs_requests.proofs.Drawing

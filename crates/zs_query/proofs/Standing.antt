@@ -1,32 +1,17 @@
 -- The laws.
-use Rattle.std.proofs.Common.{◌≡◌, ℕ, ◌<◌, Bool, true, false, List, [], ◌∷◌, ◌++◌, refl, sym, ap, ◌∙◌, arith}
-use Rattle.std.specs.Prelude.{nat_lt, not, map, filter, if◌then◌else◌}
-use Rattle.std.specs.List.{AllByRecursion}
-use Rattle.std.proofs.lemmas.Bool.Decides.{nat_tests}
-use Rattle.std.proofs.lemmas.List.{append-nil}
+use Rattle.std.proofs.Common.{◌≡◌, Bool, true, false, List, [], ◌∷◌, ◌++◌, refl, sym, ap, ◌∙◌, arith}
+use Rattle.std.specs.Prelude.{map, if◌then◌else◌}
 use Rattle.zs_wire.specs.declared.request.ConsolidationMode.{ConsolidationMode}
 use Rattle.zs_wire.specs.declared.request.ConsolidationMode.TheVariants as by
 use Rattle.zs_sample.specs.Reply.{Replied}
 use Rattle.zs_query.specs.declared.get_row.GetRow.{GetRow}
 use Rattle.zs_query.specs.declared.open_get.OpenGet.{OpenGet}
-use Rattle.zs_query.specs.Ascending.{placed}
+pub use Rattle.zs_requests.proofs.Requesting.{placed_last}
 use Rattle.zs_query.specs.Marks.{Mark, mark_of, key_of}
 use Rattle.zs_query.specs.Kept.{passes_all, kept, put}
 use Rattle.zs_query.specs.Gets.{takes_key, peek_by, peek_get, after_reply, noted}
 use Rattle.zs_query.specs.Laws.{kept_in, passed_in, get_after, peek_in, StandsForReplies}
 use Rattle.zs_query.proofs.Keeping.{kept_more, passes_kept, marks_of_put}
-
--- more elements behind all that are below them
-pub placed_last : {X : Type 0} (number : X → ℕ) (n : ℕ) (more xs : List X) → AllByRecursion (λ x. number x < n) xs → placed number n more xs ≡ xs ++ more
-placed_last {X} number n more xs all = rw (keeps xs all, leaves xs all) (ap (λ rest. xs ++ rest) (append-nil more))
-  where
-    keeps : (ys : List X) → AllByRecursion (λ x. number x < n) ys → filter (λ x. nat_lt (number x) n) ys ≡ ys
-    keeps [] below = refl
-    keeps (y ∷ ys) below = grind (arith, nat_tests, below.0, keeps ys below.1)
-
-    leaves : (ys : List X) → AllByRecursion (λ x. number x < n) ys → filter (λ x. not (nat_lt (number x) n)) ys ≡ []
-    leaves [] below = refl
-    leaves (y ∷ ys) below = grind (arith, nat_tests, below.0, leaves ys below.1)
 
 -- a get with its replies, by a mode
 abbrev with_replies : ConsolidationMode → GetRow → List Replied → OpenGet

@@ -1,6 +1,4 @@
 pub mod Ascending
-pub mod Unfinished
-pub mod ValueRows
 pub mod Marks
 pub mod Kept
 pub mod Gets
@@ -9,7 +7,8 @@ pub mod ByKey
 pub mod Laws
 pub mod Asked
 pub mod GetTable
-pub mod RequestTable
-pub mod Drawn
-pub mod QueryData
-pub mod QueryLoans
+pub mod Types
+pub use Rattle.zs_requests.specs.Unfinished
+pub use Rattle.zs_requests.specs.RequestTable
+pub use Rattle.zs_requests.specs.Drawn
+pub use Rattle.zs_requests.specs.QueryData

@@ -2,16 +2,15 @@ ghost use Rattle.std.specs.Prelude.{◌≡◌, ◌≢◌, ◌+◌, ◌<◌, ◌�
 ghost use Rattle.zs_wire.specs.declared.request.ConsolidationMode.{ConsolidationMode};
 ghost use Rattle.zs_query.specs.Asked.{waits};
 ghost use Rattle.zs_query.specs.GetTable.{with_asked, with_reply, with_final, with_local_final, at_moment, without_querier, without_token, all_ended};
-ghost use Rattle.zs_query.specs.RequestTable.{with_handed};
+ghost use Rattle.zs_requests.specs.RequestTable.{with_handed};
 
 use crate::get_row::GetRow;
 use crate::gets::Gets;
 use crate::outcome::Outcome;
-use crate::request_row::RequestRow;
-use crate::request_table::RequestTable;
 use crate::side::Side;
 use std::alloc::{AllocError, Global};
 use std::marker::Model;
+use zs_requests::{RequestRow, RequestTable};
 use zs_sample::Reply;
 
 /// The open gets of a session, with the counter of their numbers and the moment.

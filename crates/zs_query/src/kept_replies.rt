@@ -4,12 +4,12 @@ ghost use Rattle.zs_query.specs.Marks.{mark_of, key_of, passes};
 ghost use Rattle.zs_query.specs.Kept.{put};
 
 use crate::replies::Replies;
-use crate::request_row::clone_key;
 use crate::timestamps::is_below;
 use indexmap::IndexMap;
 use std::alloc::{AllocError, Global};
 use std::marker::Model;
 use zs_keys::KeyExpr;
+use zs_requests::clone_key;
 use zs_sample::{Reply, Sample, Timestamp};
 
 /// The newest reply of each key, in the order of the keys' first ones.

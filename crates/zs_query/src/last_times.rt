@@ -2,12 +2,12 @@ ghost use Rattle.std.specs.Prelude.{◌≡◌, [], OnOk, OnErr};
 ghost use Rattle.zs_query.specs.Marks.{passes};
 ghost use Rattle.zs_query.specs.Kept.{put};
 
-use crate::request_row::clone_key;
 use crate::timestamps::is_below;
 use indexmap::IndexMap;
 use std::alloc::{AllocError, Global};
 use std::marker::Model;
 use zs_keys::KeyExpr;
+use zs_requests::clone_key;
 use zs_sample::{Sample, Timestamp};
 
 /// The timestamp of the last sample of each key that was handed out, in the order of the keys' first ones.

@@ -2,7 +2,6 @@
 
 ghost use Rattle.zs_query.specs.Laws.{KeptIsLastPassing, KeptIsFreeOfOrder, GetsStandForReplies, OpensLast, HandsLast};
 ghost use Rattle.zs_query.specs.Asked.{OpenGetsAreTold, EndedGetsStay};
-ghost use Rattle.zs_query.specs.Drawn.{ValuesAreTold, EndedRequestsStay};
 
 /// Of the replies to a get, the last that passes is kept for each key, in the order of the keys' first replies.
 pub fn kept_is_last_passing()
@@ -39,14 +38,4 @@ pub fn open_gets_are_told()
 /// A get that has ended is never open again.
 pub fn ended_gets_stay()
     ensures { EndedGetsStay }
-{}
-
-/// A query value is unfinished exactly where it was drawn and not given back since.
-pub fn values_are_told()
-    ensures { ValuesAreTold }
-{}
-
-/// A request of which no query value is unfinished never has one again.
-pub fn ended_requests_stay()
-    ensures { EndedRequestsStay }
 {}

@@ -27,7 +27,7 @@ use Rattle.zs_replicas.specs.Replicas.{Starts, first_events}
 use Rattle.zs_replica_gets.specs.Steps.{Step, Moves, actor, brought, all_taken, all_brought, behind, brought_by, oldest_event, with_step, step_effects, links_after, AreReplicaSteps, store_at as its_store}
 use Rattle.zs_replica.specs.Told.{Told, answerer, letter, opposite, store_at, with_text, with_link, next_turn, with_taken, with_all, with_effects_told, with_said, with_delivered, with_oldest, with_many, waiting_at}
 use Rattle.zs_replica.specs.Language.{Said, To, Move, replica_language, with_line, links_behind}
-use Rattle.zs_replica_gets.specs.Gets.{Answers, GetsHandTheNewest}
+use Rattle.zs_replica_gets.specs.Gets.{Answers, GetsHandTheNewest, RequestsAreAnswered}
 use Rattle.zs_replica.specs.Gets.{moves, steps_of, steps_behind, head_text, steps_text, GetsGo, Prints, GetsShowNewest, LinesPrintGets}
 use Rattle.zs_replica.proofs.Dumps.{same_effects, same_kept, keys_utf8}
 use Rattle.zs_replica.proofs.Saying.{IsSaid, all_said}
@@ -223,7 +223,7 @@ replica_rest : (later before : List Step) → AreReplicaSteps all_keys (later ++
 replica_rest [] before all = all
 replica_rest (x ∷ later) before all = replica_rest later before all.1
 
-module _ (law : GetsHandTheNewest) (s : Settings) (aggregates : AreSpelled s) (first : Starts s all_keys (first_events all_keys)) (second : Starts (other s) all_keys (first_events all_keys))
+module _ (law : GetsHandTheNewest) (requests : RequestsAreAnswered) (s : Settings) (aggregates : AreSpelled s) (first : Starts s all_keys (first_events all_keys)) (second : Starts (other s) all_keys (first_events all_keys))
     (first_answers : Answers s all_keys) (second_answers : Answers (other s) all_keys) where
   pub gets_go : (saids : List Said) → AllByRecursion IsSaid saids → GetsGo s saids
   gets_go saids all = record {
@@ -231,11 +231,14 @@ module _ (law : GetsHandTheNewest) (s : Settings) (aggregates : AreSpelled s) (f
     goes = λ later before step n is.
         law s all_keys before step n keys_utf8 aggregates first second first_answers second_answers
         (replica_rest later (step ∷ before) (subst (AreReplicaSteps all_keys) is (replica_steps s saids all)));
+    answers = λ later before from request waiting number is.
+        requests s all_keys before from request waiting number keys_utf8 aggregates first second first_answers second_answers
+        (replica_rest later (Moves from ∷ before) (subst (AreReplicaSteps all_keys) is (replica_steps s saids all))).1;
   }
 
-pub gets_show : GetsHandTheNewest → GetsShowNewest
-gets_show law s rows aggregates first second first_answers second_answers =
-    gets_go law s aggregates first second first_answers second_answers (events_of (replica_language s) rows) (all_said s rows)
+pub gets_show : GetsHandTheNewest → RequestsAreAnswered → GetsShowNewest
+gets_show law requests s rows aggregates first second first_answers second_answers =
+    gets_go law requests s aggregates first second first_answers second_answers (events_of (replica_language s) rows) (all_said s rows)
 
 pub lines_print : LinesPrintGets
 lines_print s row rows said number is =

@@ -25,7 +25,8 @@ use zs_keys::{Sink, Source};
 /// Whatever lines were read, what `dump` shows of a side is at each key the greatest entry of what the side wrote and of what was
 /// delivered to it of the other's writes, and no other key; where no push waits, both sides show the same. A get prints replies
 /// in the line alone that delivers its final, and ends there: at each key that meets its own one reply, with the latest timestamp
-/// of what its side had when it asked and of what the other one had when it took the request.
+/// of what its side had when it asked and of what the other one had when it took the request. Each request that is delivered and
+/// not refused is answered in the line that delivers it, with its final.
 ///
 /// The status is 0 at the end of input. 2 says that there are words; then nothing is read or written. 3 says that a line is
 /// none of the program's, 4 that a line is too long, 5 that there were too many reads, 6 that the source failed, 7 that the

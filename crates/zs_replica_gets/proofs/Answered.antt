@@ -11,10 +11,7 @@ use Rattle.zs_wire.specs.declared.message.Message.TheVariants.{Response as respo
 use Rattle.zs_wire.specs.declared.response.Answered.TheVariants.{Reply as with_value}
 use Rattle.zs_query.specs.declared.side.Side.TheVariants.{Local}
 use Rattle.zs_query.specs.declared.open_get.OpenGet.{OpenGet}
-use Rattle.zs_query.specs.declared.query_value.QueryValue.{QueryValue}
-use Rattle.zs_query.specs.declared.requests.Finished.{Finished}
-use Rattle.zs_query.specs.declared.requests.Finished.TheVariants.{MoreLeft, Last}
-use Rattle.zs_query.specs.declared.request_row.RequestRow.{RequestRow}
+use Rattle.zs_query.specs.Types.{QueryValue, Finished, MoreLeft, Last, RequestRow}
 use Rattle.zs_query.specs.Asked.{News, Quiet, ReplyTo, FinalOf, gets_after}
 use Rattle.zs_query.specs.Gets.{get_at, with_get, replied, final_outcome, after_final, peek_at}
 use Rattle.zs_query.specs.RequestTable.{Handing}

@@ -13,7 +13,7 @@ use Rattle.zs_wire.specs.declared.quality.QoSType.{QoSType}
 use Rattle.zs_wire.specs.declared.request.ConsolidationMode.{ConsolidationMode}
 use Rattle.zs_wire.specs.declared.request.ConsolidationMode.TheVariants as by
 use Rattle.zs_wire.specs.declared.request.Request.{Request}
-use Rattle.zs_query.specs.declared.request_row.RequestRow.{RequestRow}
+use Rattle.zs_query.specs.Types.{RequestRow}
 use Rattle.zs_sample.specs.Reply.{Replied}
 use Rattle.zs_query.specs.declared.open_get.OpenGet.{OpenGet}
 use Rattle.zs_query.specs.declared.side.Side.TheVariants.{Network}

@@ -14,7 +14,7 @@ use Rattle.zs_model.specs.Causes.{refusal_of}
 use Rattle.zs_model.specs.Entry.{is_closed}
 use Rattle.zs_model.specs.Groups.{joins_first, sends_if}
 use Rattle.zs_model.specs.Sends.{group_wire}
-use Rattle.zs_tables.specs.declared.group_kind.GroupKind.TheVariants.{Subscribers}
+use Rattle.zs_tables.specs.Types.{Subscribers}
 use Rattle.zs_events.specs.declared.key_arg.KeyArg.TheVariants.{Text}
 use Rattle.zs_model.specs.Held.{named_text}
 use Rattle.zs_model.specs.Past.{entry_of, past_of}

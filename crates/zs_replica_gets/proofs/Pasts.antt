@@ -9,7 +9,7 @@ use Rattle.zs_query.specs.declared.side.Side.{Side}
 use Rattle.zs_query.specs.declared.open_get.OpenGet.{OpenGet}
 use Rattle.zs_query.specs.declared.outcome.Outcome.{Outcome}
 use Rattle.zs_query.specs.declared.outcome.Outcome.TheVariants as outcome
-use Rattle.zs_query.specs.declared.query_value.QueryValue.{QueryValue}
+use Rattle.zs_query.specs.Types.{QueryValue}
 use Rattle.zs_query.specs.Asked.{Asked, is_open, state, open_gets, heard, gets_after}
 use Rattle.zs_query.specs.Gets.{get_at, without_get, with_get, replied, less_final, after_reply, peek_get, final_outcome, after_final}
 use Rattle.zs_query.specs.declared.outcome.Peek.{Peek}

@@ -14,8 +14,7 @@ use Rattle.zs_sample.specs.Reply.{Replied}
 use Rattle.zs_tables.specs.declared.queryable.QueryableRow.{QueryableRow}
 use Rattle.zs_query.specs.declared.get_row.GetRow.{GetRow}
 use Rattle.zs_query.specs.declared.open_get.OpenGet.{OpenGet}
-use Rattle.zs_query.specs.declared.query_value.QueryValue.{QueryValue}
-use Rattle.zs_query.specs.declared.request_row.RequestRow.{RequestRow}
+use Rattle.zs_query.specs.Types.{QueryValue, RequestRow}
 use Rattle.zs_query.specs.Asked.{Asked, is_end, waiting, waits, replies_in, open_gets, opened}
 use Rattle.zs_query.specs.Gets.{get_at, fresh}
 use Rattle.zs_query.specs.Laws.{get_after}

@@ -9,7 +9,7 @@ use Rattle.zs_wire.specs.declared.push.Push.{Push as a_push}
 use Rattle.zs_wire.specs.declared.wire_expr.WireExpr.{WireExpr}
 use Rattle.zs_sample.specs.declared.locality.Locality.TheVariants.{Any}
 use Rattle.zs_query.specs.declared.open_get.OpenGet.{OpenGet}
-use Rattle.zs_query.specs.declared.query_value.QueryValue.{QueryValue}
+use Rattle.zs_query.specs.Types.{QueryValue}
 use Rattle.zs_query.specs.Asked.{gets_after}
 use Rattle.zs_query.specs.Gets.{get_at}
 use Rattle.zs_query.specs.RequestTable.{Handing}

@@ -25,7 +25,7 @@ use Rattle.zs_events.specs.declared.update.PushBody.{PushBody}
 use Rattle.zs_events.specs.declared.update.PushBody.TheVariants.{Put, Delete}
 use Rattle.zs_events.specs.declared.update.Update.{Update}
 use Rattle.zs_events.specs.Updates.{body_by}
-use Rattle.zs_events.specs.Kinds.{NoContent, OwnContent, incoming_content, local_content, row_of}
+use Rattle.zs_events.specs.Kinds.{NoContent, OwnContent, incoming_content, local_content, row_of, ToEntities}
 use Rattle.zs_model.specs.declared.settings.Settings.{Settings}
 use Rattle.zs_model.specs.Entry.{Entry, is_closed}
 use Rattle.zs_model.specs.Held.{named_text}
@@ -40,6 +40,8 @@ use Rattle.zs_arrivals.specs.Samples.{samples_to, handed_by}
 use Rattle.zs_replicas.specs.Written.{write_by, timed_write, written_by}
 use Rattle.zs_replicas.specs.Replicas.{keeper, keeper_row, IsWrite, IsReplicaEvent}
 use Rattle.zs_replicas.proofs.Staying.{Stays}
+use Rattle.zs_model.specs.Live.{drew_as, ends_as}
+use Rattle.zs_model.proofs.Entities.{message_none}
 
 -- what a sample writes, if it tells its moment; where its key is a replicated one
 abbrev pub timed_of : Option Timestamp → SampleFields → List Write
@@ -173,7 +175,12 @@ makes_event keys s past e unshut fine = absurd fine
 
 -- none of them touches subscribers
 pub message_stays : (m : Message) → Stays (Net m)
-message_stays m = record { open_still = refl; declares_none = λ n text. refl; draws_none = λ id n. refl; ends_none = λ id. refl }
+message_stays m = record {
+  open_still = refl;
+  declares_none = λ n text. refl;
+  draws_none = λ id n. ap (λ (to : ToEntities). drew_as Subscriber id to n) (message_none m);
+  ends_none = λ id. ap (ends_as Subscriber id) (message_none m);
+}
 
 pub event_stays : (keys : List ℕ) (e : Event) → IsReplicaEvent keys e → Stays e
 event_stays keys (Publish destination key update quality) fine = record { open_still = refl; declares_none = λ n text. refl; draws_none = λ id n. refl; ends_none = λ id. refl }

@@ -20,9 +20,15 @@ enum Name {
 /// What a payload is: a text such as `application/json`. Contracts see its characters.
 ///
 /// Comparisons, hashes and Display see the text alone.
-#[derive(Drop)]
 pub struct Encoding {
     name: Name,
+}
+
+impl Drop for Encoding {
+    fn drop(self) {
+        let Encoding { name } = self;
+        drop(name);
+    }
 }
 
 impl Model for Encoding {

@@ -8,10 +8,17 @@ use std::marker::Model;
 use zs_wire::EntityGlobalId;
 
 /// An answer to a query: a sample or an error, and who sent it. Contracts see its fields.
-#[derive(Debug, Drop)]
+#[derive(Debug)]
 pub struct Reply {
     result: Result<Sample, ReplyError>,
     replier: Option<EntityGlobalId>,
+}
+
+impl Drop for Reply {
+    fn drop(self) {
+        let Reply { result, replier: _ } = self;
+        drop(result);
+    }
 }
 
 impl Model for Reply {
@@ -54,7 +61,8 @@ impl Reply {
     pub fn into_result(self) -> Result<Sample, ReplyError>
         ensures { result ≡ self.result }
     {
-        self.result
+        let Reply { result, replier: _ } = self;
+        result
     }
 
     /// Who sent it, where that is known.

@@ -7,10 +7,18 @@ use std::marker::Model;
 use zs_bytes::ZBytes;
 
 /// What a queryable answers in place of a sample. Contracts see its fields.
-#[derive(Debug, Drop, PartialEq, Eq)]
+#[derive(Debug, PartialEq, Eq)]
 pub struct ReplyError {
     payload: ZBytes,
     encoding: Encoding,
+}
+
+impl Drop for ReplyError {
+    fn drop(self) {
+        let ReplyError { payload, encoding } = self;
+        drop(payload);
+        drop(encoding);
+    }
 }
 
 impl Model for ReplyError {

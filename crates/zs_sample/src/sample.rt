@@ -11,9 +11,16 @@ use zs_keys::KeyExpr;
 use zs_wire::{CongestionControl, SampleKind, SourceInfo, Timestamp};
 
 /// What a subscriber is handed: a publication on a key. Contracts see its fields.
-#[derive(Debug, Drop)]
+#[derive(Debug)]
 pub struct Sample {
     fields: SampleFields,
+}
+
+impl Drop for Sample {
+    fn drop(self) {
+        let Sample { fields } = self;
+        drop(fields);
+    }
 }
 
 impl Model for Sample {
@@ -39,7 +46,8 @@ impl Sample {
     pub fn into_fields(self) -> SampleFields
         ensures { result ≡ self }
     {
-        self.fields
+        let Sample { fields } = self;
+        fields
     }
 
     /// The same sample in memory of its own.

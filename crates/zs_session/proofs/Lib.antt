@@ -9,6 +9,7 @@ pub mod PlainGets
 pub mod PlainAnswers
 pub mod PlainLiveliness
 pub mod Telling
+pub mod Opened
 pub mod ReadsTold
 pub mod Scripts
 pub mod Soaking

@@ -41,13 +41,12 @@ use Rattle.zs_core.specs.GetEffects.{hand_reply, end_get, hand_query, request_se
 use Rattle.zs_core.specs.Live.{live_queryables, to_gets_of}
 use Rattle.zs_core.specs.LivelinessEffects.{hand_answer, end_asking, cancelled_ends, asking_ends}
 use Rattle.zs_tables.specs.LivelinessGets.{over_at, numbers_with}
-use Rattle.zs_tables.specs.declared.liveliness_get.LivelinessGet.{LivelinessGet}
+use Rattle.zs_tables.specs.Types.{LivelinessGet}
 use Rattle.zs_core.specs.Replies.{reply_on}
 use Rattle.zs_core.specs.Answers.{quality_of, replier_of, local_reply, news_of_reply, news_of_finished, news_by_value}
 use Rattle.zs_core.specs.Values.{met_by_get, values_now}
-use Rattle.zs_query.specs.declared.query_value.QueryValue.{QueryValue}
-use Rattle.zs_query.specs.declared.requests.Finished.{Finished}
-use Rattle.zs_query.specs.declared.requests.Finished.TheVariants as finished
+use Rattle.zs_query.specs.Types.{QueryValue, Finished}
+use Rattle.zs_requests.specs.declared.requests.Finished.TheVariants as finished
 use Rattle.zs_query.specs.Unfinished.{value_at, finished as finished_by}
 use Rattle.zs_query.specs.declared.side.Side.{Side}
 use Rattle.zs_tables.specs.declared.queryable.QueryableRow.{QueryableRow}

@@ -10,8 +10,7 @@ use Rattle.zs_wire.specs.declared.sample_kind.SampleKind.{SampleKind}
 use Rattle.zs_wire.specs.declared.sample_kind.SampleKind.TheVariants.{Put as put_kind, Delete as delete_kind}
 use Rattle.zs_tables.specs.Ascending.{placed_by}
 use Rattle.zs_tables.specs.Liveliness.{put_new, met_keys, hearers}
-use Rattle.zs_tables.specs.declared.told_token.ToldToken.{ToldToken}
-use Rattle.zs_tables.specs.declared.liveliness_get.LivelinessGet.{LivelinessGet}
+use Rattle.zs_tables.specs.Types.{ToldToken, LivelinessGet}
 use Rattle.zs_tables.specs.LivelinessGets.{is_asking}
 use Rattle.zs_events.specs.declared.turn.Effect.{Effect}
 use Rattle.zs_events.specs.Kinds.{ToLiveliness, NoToken, Subscribes, AsksTokens, TellsToken, EndsToken, EndsAnswers, row_of}
@@ -19,7 +18,7 @@ use Rattle.zs_events.specs.Updates.{default_encoding}
 use Rattle.zs_core.specs.Types.{Settings}
 use Rattle.zs_core.specs.Entry.{Entry}
 use Rattle.zs_core.specs.Publications.{handed_encoding}
-use Rattle.zs_core.specs.Tokens.{asking_now, answers, is_told, token_told, told_behind, told_tokens}
+use Rattle.zs_core.specs.Tokens.{asking_now, answers, is_told, token_told, told_behind, remote_tokens}
 use Rattle.zs_core.specs.LivelinessEffects.{Watch, token_sample, hand_token, token_hands, hand_told, history_hands, told_hands, answer_hands, end_asking, ended_text, answered_ends, watch_effects}
 use Rattle.zs_script.specs.Plain.{is_plain, is_plain_text, is_plain_sample}
 use Rattle.zs_session.proofs.PlainKeys.{IsText, PlainPast, plain_handed, default_plain, filter_all, found_all}
@@ -72,10 +71,10 @@ behind_plain gets (TellsToken id interest) text tokens named all = recorded_plai
 behind_plain gets (EndsToken id interest) text tokens named all = filter_all PlainToken (λ t. not (t.number == id)) tokens all
 behind_plain gets (EndsAnswers interest) text tokens named all = all
 
-pub tokens_plain : (s : Settings) (past : List Entry) → PlainPast past → AllByRecursion PlainToken (told_tokens s past)
+pub tokens_plain : (s : Settings) (past : List Entry) → PlainPast past → AllByRecursion PlainToken (remote_tokens s past)
 tokens_plain s [] all = tt
 tokens_plain s (x ∷ past) all =
-    behind_plain (asking_now s past) (row_of x.event).to_liveliness x.text (told_tokens s past) all.0.0 (tokens_plain s past all.1)
+    behind_plain (asking_now s past) (row_of x.event).to_liveliness x.text (remote_tokens s past) all.0.0 (tokens_plain s past all.1)
 
 -- the sample of a token
 token_plain : (kind : SampleKind) (text : List ℕ) → IsText text → is_plain_sample (token_sample kind text) ≡ true

@@ -1,6 +1,6 @@
 -- What is sent tells of no refusal and no sample handed to a subscriber, and its texts are plain.
 use Rattle.std.proofs.Common.{◌≡◌, ℕ, zero, suc, ◌==◌, ◌≤◌, ◌++◌, List, [], ◌∷◌, length, take, drop, map, filter, Bool, true, false, not, ◌&&◌, Option, Some, None, IfSome, refl, sym, ◌∙◌, ap, subst, arith}
-use Rattle.std.specs.Prelude.{chars, if◌then◌else◌, is_some, nat_le, option_map, unwrap_or}
+use Rattle.std.specs.Prelude.{chars, if◌then◌else◌, option_map, unwrap_or}
 use Rattle.std.specs.List.{AllByRecursion, list_all, starts_with}
 use Rattle.std.specs.Str.{IsUtf8}
 use Rattle.std.specs.Cmp.Lexicographic.{bytes_decides}
@@ -8,42 +8,32 @@ use Rattle.std.proofs.lemmas.Bool.{and_parts, and_from, eqb-true}
 use Rattle.std.proofs.lemmas.List.{length-take}
 use Rattle.std.proofs.lemmas.Str.{IsUtf8-drop, IsCharBoundary-from_take, encodes-chars}
 use Rattle.zs_keys.specs.declared.declaration.Declared.{Declared}
-use Rattle.zs_wire.specs.declared.message.Message.{Message}
-use Rattle.zs_wire.specs.declared.message.Message.TheVariants.{DeclareKeyExpr, UndeclareKeyExpr, DeclareSubscriber, DeclareQueryable, UndeclareQueryable, Interest}
-use Rattle.zs_wire.specs.declared.interest.InterestMode.TheVariants.{CurrentFuture, Current}
-use Rattle.zs_wire.specs.declared.interest.InterestWhat.TheVariants.{Subscribers as of_subscribers, Queryables as of_queryables}
+use Rattle.zs_wire.specs.declared.message.Message.TheVariants.{DeclareKeyExpr}
 use Rattle.zs_wire.specs.declared.wire_expr.WireExpr.{WireExpr}
-use Rattle.zs_tables.specs.declared.group_kind.GroupKind.{GroupKind}
-use Rattle.zs_tables.specs.declared.group_kind.GroupKind.TheVariants.{Subscribers, Publishers, Queriers}
-use Rattle.zs_tables.specs.Recipients.{has_network}
-use Rattle.zs_tables.specs.declared.queryable.QueryableRow.{QueryableRow}
+use Rattle.zs_tables.specs.Types.{GroupKind, Subscribers, Publishers}
 use Rattle.zs_keys.specs.Key.{Key as a_key}
 use Rattle.zs_keys.specs.Matching.{includes}
 use Rattle.zs_events.specs.declared.event.Event.{Event}
-use Rattle.zs_events.specs.declared.event.Event.TheVariants.{Key, UndeclareKey, Sub, Pub, Queryable, Querier, Token, Lsub, LivelinessGet, Undeclare, Close}
-use Rattle.zs_events.specs.declared.entity_kind.EntityKind.TheVariants.{Sub as sub_kind, Pub as pub_kind, Queryable as queryable_kind, Querier as querier_kind, Token as token_kind, Lsub as lsub_kind}
 use Rattle.zs_events.specs.declared.key_arg.KeyArg.{KeyArg}
-use Rattle.zs_events.specs.declared.key_arg.KeyArg.TheVariants.{Text, Number, Declared as declared_text}
 use Rattle.zs_events.specs.declared.turn.Effect.{Effect}
 use Rattle.zs_events.specs.declared.turn.Effect.TheVariants.{Send, Hand, End, Matching}
 use Rattle.zs_events.specs.declared.turn.HandOver.TheVariants.{Sample, Reply, Query}
 use Rattle.zs_events.specs.declared.turn.Kind.TheVariants.{LivelinessSubscriber}
-use Rattle.zs_events.specs.Kinds.{NamedKey, Publishes, NoContent, OwnContent, ByPublisher, row_of}
+use Rattle.zs_events.specs.Kinds.{OwnContent, row_of}
 use Rattle.zs_core.specs.Types.{PubRow}
-use Rattle.zs_core.specs.Groups.{Company, Shared, aggregate_of, sub_shared, pub_shared, querier_shared, joins_first, last_number, sends_if, last_sends, leaving, subscriber_end, interest_end, querier_end}
-use Rattle.zs_core.specs.Publishers.{pub_at, resolved}
-use Rattle.zs_core.specs.Subscribers.{sub_at}
-use Rattle.zs_core.specs.Queryables.{queryable_at}
-use Rattle.zs_core.specs.Queriers.{querier_at}
-use Rattle.zs_core.specs.Effects.{Known, key_wire, queryable_leaves, declared_sends, lsub_mode, token_interest, token_declaration, entity_sends}
-use Rattle.zs_core.specs.Sends.{OwnKeys, group_wire, declared_by, has_front, goes_by_number, full_wire, number_wire, wire_form, declaration_of, key_sends, return_sends, return_sends_of, is_sent, push_with, publication_sends, sends_of}
+use Rattle.zs_core.specs.Groups.{Company, aggregate_of}
+use Rattle.zs_core.specs.Publishers.{resolved}
+use Rattle.zs_core.specs.Effects.{Known, key_wire, entity_sends}
+use Rattle.zs_core.specs.Sends.{OwnKeys, group_wire, declared_by, has_front, goes_by_number, full_wire, number_wire, wire_form, declaration_of, is_sent, push_with, sends_of}
 use Rattle.zs_printing.specs.Pieces.{written}
 use Rattle.zs_printing.specs.Printing.{hand_pieces, replied_pieces, queried_pieces, effect_fields}
 use Rattle.zs_script.specs.Plain.{is_plain, is_plain_text, is_plain_sample, is_plain_outcome, is_plain_query, is_plain_effect, message_texts}
 use Rattle.zs_session.specs.Telling.{tells}
 use Rattle.zs_driving.proofs.Progress.{all_append}
 use Rattle.zs_session.proofs.PlainIncluding.{included_plain}
-use Rattle.zs_session.proofs.PlainKeys.{IsText, PlainContent, found_all}
+use Rattle.zs_session.proofs.PlainKeys.{IsText, PlainContent}
+use Rattle.zs_laws.proofs.Sends.{Announced, ASubscriber, APublisher, announcement, aggregates_for, announced_wire, Retracted, OfSubscriber, retraction, announced, entity_cases, sends_cases}
+use Rattle.zs_events.specs.declared.publication.Content.{Content}
 
 -- an effect that hands no sample out but to a subscriber to liveliness, with plain texts
 abbrev pub IsQuiet : Effect → Type 0
@@ -125,47 +115,25 @@ wire_plain k text (Some d) all t = go (goes_by_number k text d) refl
         let last = (and_parts (d.tag == k.tag && not (d.number == 0)) (has_front text d.prefix_len (k.text_of d.number)) by).1 in
         chars_plain (drop d.prefix_len text) (fronted (k.text_of d.number) (all d.number) last)
 
--- what is sent under a condition
-one_of : (b : Bool) (xs ys : List Effect) → AreQuiet xs → AreQuiet ys → AreQuiet (if b then xs else ys)
-one_of true xs ys first second = first
-one_of false xs ys first second = second
-
--- what keys, their returns and publications send
-key_sent : (k : OwnKeys) (number : Option ℕ) (text : Option (List ℕ)) → IfSome text IsText → AreQuiet (key_sends k number text)
-key_sent k number None named = tt
-key_sent k None (Some text) named = tt
-key_sent k (Some number) (Some text) named =
-    one_of (is_some (k.number_of text)) [] (Send (DeclareKeyExpr number (full_wire text)) ∷ []) tt
-    (and_from (is_plain_text (chars text)) true (chars_plain text named) refl, tt)
-
-return_sent : (k : OwnKeys) (number : ℕ) → AreQuiet (return_sends k number)
-return_sent k number = one_of (nat_le (k.count_of number) 1) (Send (UndeclareKeyExpr number) ∷ []) [] (refl, tt) tt
-
-return_sent_of : (k : OwnKeys) (key : KeyArg) → AreQuiet (return_sends_of k key)
-return_sent_of k (Text text) = tt
-return_sent_of k (Number number suffix) = return_sent k number
-return_sent_of k (declared_text text number prefix_len) = return_sent k number
-
-publication_sent : (k : OwnKeys) (key : NamedKey) (text : Option (List ℕ)) (p : Publishes) → AreTexts k → IfSome text IsText → PlainContent p
-    → AreQuiet (publication_sends k key text p)
-publication_sent k key text NoContent all named plain = tt
-publication_sent k key None (OwnContent c) all named plain = tt
-publication_sent k key text (ByPublisher id c) all named plain = tt
-publication_sent k key (Some text) (OwnContent c) all named plain =
-    let wire = wire_form k text (declaration_of k text key) in
-    one_of (is_sent c) (Send (push_with wire c) ∷ []) [] (
-      and_from (is_plain_text wire.suffix) (is_plain_text c.body.encoding && true) (wire_plain k text (declaration_of k text key) all named)
-          (and_from (is_plain_text c.body.encoding) true plain refl),
-      tt,
-    ) tt
-
 -- what an event sends by itself
 event_sent : (k : OwnKeys) (pubs : List PubRow) (number : Option ℕ) (text : Option (List ℕ)) (e : Event) → AreTexts k → IfSome text IsText
     → PlainContent (resolved pubs (row_of e).publishes) → AreQuiet (sends_of k pubs number text e)
-event_sent k pubs number text (Key key) all named plain = key_sent k number text named
-event_sent k pubs number text (UndeclareKey key) all named plain = return_sent_of k key
-event_sent k pubs number text Close all named plain = (refl, tt)
-event_sent k pubs number text e all named plain = publication_sent k (row_of e).key text (resolved pubs (row_of e).publishes) all named plain
+event_sent k pubs number text e all named plain = sends_cases AreQuiet tt k pubs number text e declared (λ n. (refl, tt)) (refl, tt) pushed
+  where
+    spoken : (t : List ℕ) → text ≡ Some t → IsText t
+    spoken t its = subst (λ (o : Option (List ℕ)). IfSome o IsText) its named
+
+    declared : (n : ℕ) (t : List ℕ) → number ≡ Some n → text ≡ Some t → AreQuiet (Send (DeclareKeyExpr n (full_wire t)) ∷ [])
+    declared n t drew its = (and_from (is_plain_text (chars t)) true (chars_plain t (spoken t its)) refl, tt)
+
+    pushed : (t : List ℕ) (c : Content) → text ≡ Some t → resolved pubs (row_of e).publishes ≡ OwnContent c → is_sent c ≡ true
+        → AreQuiet (Send (push_with (wire_form k t (declaration_of k t (row_of e).key)) c) ∷ [])
+    pushed t c its is sent =
+        let wire = wire_form k t (declaration_of k t (row_of e).key) in (
+          and_from (is_plain_text wire.suffix) (is_plain_text c.body.encoding && true) (wire_plain k t (declaration_of k t (row_of e).key) all (spoken t its))
+              (and_from (is_plain_text c.body.encoding) true (subst PlainContent is plain) refl),
+          tt,
+        )
 
 -- the aggregate of a text, if it has one, is spelled and includes the text
 found_spelled : (keys : List a_key) (text : List ℕ) → AllByRecursion (λ key. IsUtf8 key.text) keys
@@ -192,88 +160,33 @@ group_plain keys text own all named plain = go (aggregate_of keys text) (found_s
 abbrev pub AreSpelledGroups : (GroupKind → Company) → Type 0
 AreSpelledGroups company = (kind : GroupKind) → AllByRecursion (λ key. IsUtf8 key.text) (company kind).aggregates
 
--- a declaration that is sent under a condition, and what is sent where an entity ends
-sent_if : (b : Bool) (message : Message) → list_all is_plain_text (message_texts message) ≡ true → AreQuiet (sends_if b message)
-sent_if true message plain = (plain, tt)
-sent_if false message plain = tt
+-- what an event announces has no text but its key's, and what it retracts none
+announced_texts : (what : Announced) (id : ℕ) (wire : WireExpr) → message_texts (announcement what id wire) ≡ wire.suffix ∷ []
+announced_texts ASubscriber id wire = refl
+announced_texts what id wire = refl
 
-subscriber_left : (c : Company) (o : Option Shared) → AreQuiet (leaving c subscriber_end o)
-subscriber_left c None = tt
-subscriber_left c (Some x) = go (last_number c x)
-  where
-    go : (o : Option ℕ) → AreQuiet (last_sends subscriber_end o)
-    go None = tt
-    go (Some number) = (refl, tt)
+retracted_quiet : (what : Retracted) (id : ℕ) → AreQuiet (Send (retraction what id) ∷ [])
+retracted_quiet OfSubscriber id = (refl, tt)
+retracted_quiet what id = (refl, tt)
 
-publisher_left : (c : Company) (o : Option Shared) → AreQuiet (leaving c interest_end o)
-publisher_left c None = tt
-publisher_left c (Some x) = go (last_number c x)
-  where
-    go : (o : Option ℕ) → AreQuiet (last_sends interest_end o)
-    go None = tt
-    go (Some number) = (refl, tt)
-
-querier_left : (c : Company) (o : Option Shared) → AreQuiet (leaving c querier_end o)
-querier_left c None = tt
-querier_left c (Some x) = go (last_number c x)
-  where
-    go : (o : Option ℕ) → AreQuiet (last_sends querier_end o)
-    go None = tt
-    go (Some number) = (refl, tt)
-
--- what is sent of liveliness where it is declared, where the message has no text but its key's
-declared_sent : (message : ℕ → WireExpr → Message) (k : OwnKeys) (number : Option ℕ) (text : Option (List ℕ)) (key : KeyArg)
-    → ((id : ℕ) (wire : WireExpr) → message_texts (message id wire) ≡ wire.suffix ∷ []) → AreTexts k → IfSome text IsText
-    → AreQuiet (declared_sends message k number text key)
-declared_sent message k (Some id) (Some text) key texts all named =
-    let wire = key_wire k text key in
-    (ap (list_all is_plain_text) (texts id wire) ∙ and_from (is_plain_text wire.suffix) true (wire_plain k text (declared_by k text key) all named) refl, tt)
-declared_sent message k None text key texts all named = tt
-declared_sent message k (Some id) None key texts all named = tt
-
-queryable_left : (o : Option QueryableRow) → AreQuiet (queryable_leaves o)
-queryable_left None = tt
-queryable_left (Some row) = sent_if (has_network row.origin) (UndeclareQueryable row.id) refl
+spelled_for : (known : Known) (what : Announced) → AreSpelledGroups known.company → AllByRecursion (λ key. IsUtf8 key.text) (aggregates_for known what)
+spelled_for known ASubscriber shared = shared Subscribers
+spelled_for known APublisher shared = shared Publishers
+spelled_for known what shared = tt
 
 entity_sent : (known : Known) (e : Event) (number : Option ℕ) (text : Option (List ℕ)) → AreTexts known.keys → AreSpelledGroups known.company → IfSome text IsText
     → AreQuiet (entity_sends known e number text)
-entity_sent known (Sub origin key to) (Some id) (Some text) all shared named =
-    let own = key_wire known.keys text key in
-    let wire = group_wire (known.company Subscribers).aggregates text own in
-    sent_if (joins_first (known.company Subscribers) (record { id = id; told = has_network origin; text = text })) (DeclareSubscriber id wire)
-    (and_from (is_plain_text wire.suffix) true
-    (group_plain (known.company Subscribers).aggregates text own (shared Subscribers) named (wire_plain known.keys text (declared_by known.keys text key) all named)) refl)
-entity_sent known (Pub key settings) (Some id) (Some text) all shared named =
-    let own = key_wire known.keys text key in
-    let wire = group_wire (known.company Publishers).aggregates text own in
-    sent_if (joins_first (known.company Publishers) (record { id = id; told = has_network settings.destination; text = text }))
-    (Interest id CurrentFuture of_subscribers (Some wire))
-    (and_from (is_plain_text wire.suffix) true
-    (group_plain (known.company Publishers).aggregates text own (shared Publishers) named (wire_plain known.keys text (declared_by known.keys text key) all named)) refl)
-entity_sent known (Undeclare sub_kind id) number text all shared named =
-    subscriber_left (known.company Subscribers) (option_map sub_shared (sub_at id known.subs))
-entity_sent known (Undeclare pub_kind id) number text all shared named =
-    publisher_left (known.company Publishers) (option_map pub_shared (pub_at id known.pubs))
-entity_sent known (Queryable origin complete key) (Some id) (Some text) all shared named =
-    let wire = key_wire known.keys text key in
-    sent_if (has_network origin) (DeclareQueryable id complete wire)
-    (and_from (is_plain_text wire.suffix) true (wire_plain known.keys text (declared_by known.keys text key) all named) refl)
-entity_sent known (Undeclare queryable_kind id) number text all shared named = queryable_left (queryable_at id known.queryables)
-entity_sent known (Querier key settings) (Some id) (Some text) all shared named =
-    let wire = key_wire known.keys text key in
-    sent_if (joins_first (known.company Queriers) (record { id = id; told = has_network settings.destination; text = text }))
-    (Interest id CurrentFuture of_queryables (Some wire))
-    (and_from (is_plain_text wire.suffix) true (wire_plain known.keys text (declared_by known.keys text key) all named) refl)
-entity_sent known (Undeclare querier_kind id) number text all shared named =
-    querier_left (known.company Queriers) (option_map querier_shared (querier_at id known.queriers))
-entity_sent known (Token key) number text all shared named = declared_sent token_declaration known.keys number text key (λ id wire. refl) all named
-entity_sent known (Undeclare token_kind id) number text all shared named = (refl, tt)
-entity_sent known (Lsub history key) number text all shared named =
-    declared_sent (token_interest (lsub_mode history)) known.keys number text key (λ id wire. refl) all named
-entity_sent known (Undeclare lsub_kind id) number text all shared named = (refl, tt)
-entity_sent known (LivelinessGet key timeout token to) number text all shared named =
-    declared_sent (token_interest Current) known.keys number text key (λ id wire. refl) all named
-entity_sent known e number text all shared named = tt
+entity_sent known e number text all shared named = entity_cases AreQuiet tt known e number text begun (λ what id is. retracted_quiet what id)
+  where
+    begun : (what : Announced) (id : ℕ) (t : List ℕ) (key : KeyArg) → announced e ≡ Some what → text ≡ Some t → AreQuiet (Send (announcement what id (announced_wire known what t key)) ∷ [])
+    begun what id t key is its =
+        let plain = subst (λ (o : Option (List ℕ)). IfSome o IsText) its named in
+        let wire = announced_wire known what t key in (
+          ap (list_all is_plain_text) (announced_texts what id wire)
+              ∙ and_from (is_plain_text wire.suffix) true
+              (group_plain (aggregates_for known what) t (key_wire known.keys t key) (spelled_for known what shared) plain (wire_plain known.keys t (declared_by known.keys t key) all plain)) refl,
+          tt,
+        )
 
 -- all that an event sends
 abbrev pub sent_by : Known → Option ℕ → Option (List ℕ) → Event → List Effect

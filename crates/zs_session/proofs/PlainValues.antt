@@ -10,8 +10,7 @@ use Rattle.zs_wire.specs.declared.body.Value.{Value}
 use Rattle.zs_wire.specs.declared.message.Message.TheVariants.{Request as request_message, Response as response_message}
 use Rattle.zs_wire.specs.declared.request.Request.{Request}
 use Rattle.zs_tables.specs.declared.queryable.QueryableRow.{QueryableRow}
-use Rattle.zs_query.specs.declared.query_value.QueryValue.{QueryValue}
-use Rattle.zs_query.specs.declared.request_row.RequestRow.{RequestRow}
+use Rattle.zs_query.specs.Types.{QueryValue, RequestRow}
 use Rattle.zs_query.specs.Unfinished.{value_at, values_from}
 use Rattle.zs_query.specs.RequestTable.{Handing}
 use Rattle.zs_query.specs.Drawn.{ValueNews, Drawn, just_drawn, giving_back, drawn, is_unfinished, unfinished}

@@ -39,6 +39,7 @@ use Rattle.zs_session.specs.Script.{read_refusal, read_text, text_after}
 use Rattle.zs_session.specs.Telling.{plain_line, tells, tells_behind, is_telling, told, refusal_or, event_lines, lines_after}
 use Rattle.zs_session.proofs.Cutting.{ArePlain}
 use Rattle.zs_session.proofs.PlainKeys.{PlainEvents, past_plain}
+use Rattle.zs_session.proofs.Opened.{reads_are_refused}
 use Rattle.zs_session.proofs.Telling.{PlainEffects, plain_turn, plain_turn_effects, event_told, quiet_but, told_turn}
 
 -- no text of a script's events has a tab or a line feed
@@ -160,4 +161,4 @@ text_told s shared h (Recv kind id ∷ es) past all =
     let answer = answer_of s h kind id in
     let closed = is_closed (past_of s (core_of h)) in
     read_told n answer closed (text_after s (Recv kind id ∷ h) es) (plain_answer s shared h past kind id)
-    ∙ ap (λ (later : List (List ℕ)). refusal_or n (read_refusal answer closed) [] ++ later) (text_told s shared (Recv kind id ∷ h) es (refl, past) all.1)
+    ∙ (λ i. refusal_or n (reads_are_refused s h kind id i) [] ++ text_told s shared (Recv kind id ∷ h) es (refl, past) all.1 i)

@@ -2,13 +2,13 @@
 use Rattle.std.proofs.Common.{◌≡◌, List, [], ◌∷◌, ◌++◌, Bool, true, false, Option, Some, None, IfSome, refl, sym, ◌∙◌, ap}
 use Rattle.std.specs.Prelude.{ℕ, ◌&&◌, not, if◌then◌else◌, map, filter}
 use Rattle.std.specs.List.{AllByRecursion, flat_map}
-use Rattle.std.proofs.lemmas.Bool.{and_parts, and_from}
+use Rattle.std.proofs.lemmas.Bool.{and_from}
 use Rattle.std.proofs.lemmas.List.{append-nil, map-append}
 use Rattle.std.proofs.lemmas.List.Elements.{filter-append}
 use Rattle.zs_events.specs.declared.event.Event.{Event}
 use Rattle.zs_events.specs.declared.event.Event.TheVariants.{Undeclare, Publish, PublishBy, Close, Net}
-use Rattle.zs_events.specs.declared.entity_kind.EntityKind.TheVariants.{Sub as sub_kind, Pub as pub_kind, Queryable as queryable_kind, Querier as querier_kind, Listener as listener_kind, Token as token_kind, Lsub as lsub_kind}
-use Rattle.zs_tables.specs.declared.group_kind.GroupKind.TheVariants.{Subscribers, Publishers, Queriers}
+use Rattle.zs_events.specs.declared.entity_kind.EntityKind.TheVariants.{Sub as sub_kind, Queryable as queryable_kind, Lsub as lsub_kind}
+use Rattle.zs_tables.specs.Types.{Subscribers, Publishers, Queriers, LivelinessSub}
 use Rattle.zs_wire.specs.declared.message.Message.TheVariants.{Push}
 use Rattle.zs_core.specs.Types.{Settings}
 use Rattle.zs_events.specs.declared.turn.Answer.TheVariants.{Ok as accepted, Refused}
@@ -32,7 +32,6 @@ use Rattle.zs_core.specs.Listeners.{is_listener, listener_ends}
 use Rattle.zs_core.specs.Matching.{is_matched, listener_effects}
 use Rattle.zs_core.specs.Tokens.{asking_now}
 use Rattle.zs_core.specs.LivelinessEffects.{watch_effects, lsub_ends}
-use Rattle.zs_tables.specs.declared.liveliness_sub.LivelinessSub.{LivelinessSub}
 use Rattle.zs_core.specs.Subscribers.{sub_ends}
 use Rattle.zs_core.specs.Queryables.{queryable_ends}
 use Rattle.zs_core.specs.Publications.{Publication, allows, sample_on}
@@ -44,7 +43,7 @@ use Rattle.zs_core.specs.Groups.{company_of}
 use Rattle.zs_core.specs.Publishers.{resolved}
 use Rattle.zs_core.specs.Effects.{publication_on, hands_for, hands_of, ends_of, draws_of, answering, own_keys_of, known_of, turn_of}
 use Rattle.zs_core.specs.ValueEffects.{value_effects, with_values}
-use Rattle.zs_query.specs.declared.query_value.QueryValue.{QueryValue}
+use Rattle.zs_query.specs.Types.{QueryValue}
 use Rattle.zs_core.specs.Gets.{open_now}
 use Rattle.zs_core.specs.GetEffects.{request_effects, told_effects, with_gets}
 use Rattle.zs_lines.specs.Lines.{lines}
@@ -121,11 +120,7 @@ lsub_ends_quiet (row ∷ rows) = (tt, lsub_ends_quiet rows)
 
 ends_quiet : (queryables : List QueryableRow) (rows : List SubRow) (lsubs : List LivelinessSub) (e : Event) → AreQuiet (ends_of queryables rows lsubs e)
 ends_quiet queryables rows lsubs (Undeclare sub_kind id) = (tt, tt)
-ends_quiet queryables rows lsubs (Undeclare pub_kind id) = tt
 ends_quiet queryables rows lsubs (Undeclare queryable_kind id) = (tt, tt)
-ends_quiet queryables rows lsubs (Undeclare querier_kind id) = tt
-ends_quiet queryables rows lsubs (Undeclare listener_kind id) = tt
-ends_quiet queryables rows lsubs (Undeclare token_kind id) = tt
 ends_quiet queryables rows lsubs (Undeclare lsub_kind id) = (tt, tt)
 ends_quiet queryables rows lsubs Close =
     all_append IsQuiet (queryable_ends queryables ++ sub_ends rows) (lsub_ends lsubs)

@@ -2,6 +2,7 @@ pub mod Heard
 pub mod Script
 pub mod Quiet
 pub mod Scripted
+pub mod Opened
 pub mod Telling
 pub mod Driving
 pub mod Soak

@@ -10,7 +10,7 @@ use Rattle.zs_events.specs.declared.turn.HandOver.TheVariants.{Sample}
 use Rattle.zs_events.specs.declared.turn.Kind.TheVariants.{Subscriber}
 use Rattle.zs_events.specs.declared.turn.Refusal.{Refusal}
 use Rattle.zs_core.specs.Publications.{Publication, allows}
-use Rattle.zs_core.specs.Entry.{Entry, is_closed}
+use Rattle.zs_core.specs.Entry.{Entry}
 use Rattle.zs_core.specs.Held.{named_text}
 use Rattle.zs_core.specs.Live.{live_subs, live_pubs}
 use Rattle.zs_core.specs.Causes.{refusal_of}
@@ -19,8 +19,8 @@ use Rattle.zs_core.specs.Effects.{publication_of}
 use Rattle.zs_lines.specs.Lines.{lines, fields}
 use Rattle.zs_printing.specs.Printing.{answer_fields, effect_fields}
 use Rattle.zs_script.specs.Laws.{row}
-use Rattle.zs_session.specs.Heard.{core_of, answer_of}
-use Rattle.zs_session.specs.Script.{read_refusal}
+use Rattle.zs_session.specs.Heard.{core_of}
+use Rattle.zs_session.specs.Opened.{plain_refusal}
 
 -- a printed line without its line feed
 abbrev pub plain_line : ℕ → List (List ℕ) → List ℕ
@@ -68,10 +68,10 @@ refusal_or number None hands = hands
 abbrev pub event_lines : Settings → List Entry → ℕ → Event → List (List ℕ)
 event_lines s past number e = refusal_or number (refusal_of s past e) (hand_lines past number (published past e))
 
--- the lines that tell an event of a script behind a history: of a read its refusal alone
+-- the lines that tell an event of a script behind a history: of a read its refusal alone, which accepted events tell
 abbrev pub script_lines : Settings → List ScriptEvent → ℕ → ScriptEvent → List (List ℕ)
 script_lines s h number (Core e) = event_lines s (past_of s (core_of h)) number e
-script_lines s h number (Recv kind id) = refusal_or number (read_refusal (answer_of s h kind id) (is_closed (past_of s (core_of h)))) []
+script_lines s h number (Recv kind id) = refusal_or number (plain_refusal (past_of s (core_of h)) kind id) []
 
 -- the lines that tell events behind a history, one event after the other
 abbrev pub lines_after : Settings → List ScriptEvent → List ScriptEvent → List (List ℕ)

@@ -1,17 +1,13 @@
 -- What gets and requests say, told by their changes.
 use Rattle.std.proofs.Common.{◌≡◌, ◌≤◌, ◌+◌, ℕ, length, arith, List, [], ◌∷◌, Bool, true, false, Option, Some, None, refl, sym, ◌∙◌, ap, subst}
 use Rattle.std.specs.Prelude.{◌&&◌, ◌||◌, not, option_map}
-use Rattle.zs_tables.specs.declared.subscriber.SubRow.{SubRow}
-use Rattle.zs_tables.specs.declared.queryable.QueryableRow.{QueryableRow}
 use Rattle.zs_events.specs.declared.event.Event.{Event}
 use Rattle.zs_events.specs.declared.event.Event.TheVariants.{Net, Get, QuerierGet}
 use Rattle.zs_events.specs.declared.chan.Chan.{Chan}
 use Rattle.zs_events.specs.declared.key_arg.KeyArg.{KeyArg}
 use Rattle.zs_wire.specs.declared.message.Message.TheVariants.{Request as request_message}
-use Rattle.zs_events.specs.declared.turn.Kind.{Kind}
-use Rattle.zs_events.specs.declared.turn.Kind.TheVariants.{Subscriber, Publisher, Queryable as queryable_kind, Querier as querier_kind, Token as token_kind, LivelinessSubscriber}
-use Rattle.zs_model.specs.declared.publisher.PubRow.{PubRow}
 use Rattle.zs_world.specs.declared.change.Change.{Change}
+use Rattle.zs_world.specs.declared.change.Change.TheVariants.{Nothing}
 use Rattle.zs_world.specs.World.{World}
 use Rattle.zs_wire.specs.Parameters.{contains_name, time_name}
 use Rattle.zs_wire.specs.declared.request.Request.{Request}
@@ -27,25 +23,17 @@ use Rattle.zs_events.specs.Kinds.{Question, Asks, QueryNumber, NoGet, NoValue, R
 use Rattle.zs_events.specs.declared.inquiry.Inquiry.{Inquiry}
 use Rattle.zs_events.specs.declared.inquiry.QuerySettings.{QuerySettings}
 use Rattle.zs_model.specs.Entry.{Entry}
-use Rattle.zs_model.specs.Subscribers.{sub_row}
-use Rattle.zs_model.specs.Publishers.{pub_row}
-use Rattle.zs_model.specs.Queryables.{queryable_row}
 use Rattle.zs_model.specs.declared.querier.QuerierRow.{QuerierRow}
-use Rattle.zs_model.specs.Queriers.{querier_row, is_querier, querier_at, question_of, asks_of}
+use Rattle.zs_model.specs.Queriers.{is_querier, querier_at, question_of, asks_of}
 use Rattle.zs_model.proofs.Queriers.{missing_there}
 use Rattle.zs_model.specs.Cancelling.{is_drawn, is_any, is_among}
-use Rattle.zs_model.specs.Live.{drew, ends}
-use Rattle.zs_tables.specs.declared.liveliness_sub.LivelinessSub.{LivelinessSub}
-use Rattle.zs_model.specs.Liveliness.{token_row, lsub_row}
-use Rattle.zs_standing.proofs.Watching.{asks_by, stops_by, tokens_by, lsubs_by}
-use Rattle.zs_tables.specs.declared.liveliness_get.LivelinessGet.{LivelinessGet as a_liveliness_get}
 use Rattle.zs_model.specs.Settings.{last_query}
 use Rattle.zs_model.specs.Counters.{is_spent}
 use Rattle.zs_world.specs.Changes.{change_for, Fits, with_change, ask_change, get_change, querier_get_change, request_change}
 use Rattle.zs_world.specs.Turns.{has_run_out, sight}
 use Rattle.zs_standing.proofs.Decisions.{entry_for}
-use Rattle.zs_model.proofs.Entities.{RowChange, Keep, SaysRows}
-use Rattle.zs_standing.proofs.Saying.{closes, declares_by, returns_by, draws_by, IsText, told_by, subs_by, pubs_by, queryables_by, queriers_by, leaves_by, adds, IsNumber, IsMade, HasPassed}
+use Rattle.zs_standing.proofs.Saying.{IsText, IsNumber, IsMade, HasPassed}
+use Rattle.zs_standing.proofs.Said.{Said, said_of, said_by, all_said}
 
 -- neither of two is so
 pub neither : (a b : Bool) → (a || b) ≡ false → (a ≡ false) × (b ≡ false)
@@ -91,79 +79,21 @@ asked_handing w q text [] e = ap (λ (met : List ℕ). with_handed (get_request 
 asked_handing w q text (id ∷ met) e = ap (λ (met : List ℕ). with_handed (get_request w.asking.next text q) met w.handing) (sym e)
 
 -- such a change says nothing but to gets and query values
-pub record IsAsked (w : World) (c : Change) : Type 0 where
-  closes : false ≡ closes c
-  declares : (n : ℕ) → false ≡ declares_by n c
-  returns : (n : ℕ) → false ≡ returns_by n c
-  draws : false ≡ draws_by c
-  tells : (n : ℕ) → false ≡ told_by n c
-  text : (o : Option (List ℕ)) → IsText w o c
-  subs : Keep ≡ subs_by c
-  pubs : Keep ≡ pubs_by c
-  queryables : Keep ≡ queryables_by c
-  queriers : Keep ≡ queriers_by c
-  left : (kind : Kind) (id : ℕ) → false ≡ leaves_by kind id c
-  number : (o : Option ℕ) → IsNumber o c
-  adds : false ≡ adds c
-  counted : (with_change c w).asking.next ≡ w.asking.next + 1
-  cancelling : (with_change c w).cancelling ≡ w.cancelling
-  asks : [] ≡ asks_by c
-  stops : (g : a_liveliness_get) → false ≡ stops_by g c
-  told : (with_change c w).liveliness.told ≡ w.liveliness.told
-  tokens : Keep ≡ tokens_by c
-  lsubs : Keep ≡ lsubs_by c
-
-pub is_asked : (w : World) (q : Question) (text met : List ℕ) → IsAsked w (asked_change w q text met)
-is_asked w q text [] = record {
-  closes = refl;
-  declares = λ n. refl;
-  returns = λ n. refl;
-  draws = refl;
-  tells = λ n. refl;
-  text = λ o. tt;
-  subs = refl;
-  pubs = refl;
-  queryables = refl;
-  queriers = refl;
-  left = λ kind id. refl;
-  number = λ o. tt;
-  adds = refl;
-  counted = refl;
-  cancelling = refl;
-  asks = refl;
-  stops = λ g. refl;
-  told = refl;
-  tokens = refl;
-  lsubs = refl;
-}
-is_asked w q text (id ∷ met) = record {
-  closes = refl;
-  declares = λ n. refl;
-  returns = λ n. refl;
-  draws = refl;
-  tells = λ n. refl;
-  text = λ o. tt;
-  subs = refl;
-  pubs = refl;
-  queryables = refl;
-  queriers = refl;
-  left = λ kind id. refl;
-  number = λ o. tt;
-  adds = refl;
-  counted = refl;
-  cancelling = refl;
-  asks = refl;
-  stops = λ g. refl;
-  told = refl;
-  tokens = refl;
-  lsubs = refl;
+abbrev asked_said : World → Question → List ℕ → Said
+asked_said w q text = record (said_by w Nothing) {
+  asking = asking_by w.settings.default_timeout w.settings.zid w.entities.queryables w.handing.values (Asks q) NoValue (Some text) w.asking;
+  handing = handing_next w.entities.queryables (Asks q) NoValue (Some w.asking.next) (Some text) w.handing;
+  next_query = w.asking.next + 1;
 }
 
--- what says nothing of a sort of entities keeps them
-pub keeps : {R : Type 0} (number : R → ℕ) (kind : Kind) (row : Event → Option ℕ → Option (List ℕ) → List R) (x : Entry) (c : RowChange R)
-    → row x.event x.number x.text ≡ [] → ((id : ℕ) → drew kind id x.event x.number ≡ false) → ((id : ℕ) → ends kind id x.event ≡ false) → Keep ≡ c → SaysRows number kind row x c
-keeps number kind row x c none undrawn unended is =
-    subst (SaysRows number kind row x) is (record { row = none; drew = undrawn; ended = unended })
+asked_says : (w : World) (q : Question) (text met : List ℕ) → met_by_get w.entities.queryables q text ≡ met → asked_said w q text ≡ said_by w (asked_change w q text met)
+asked_says w q text [] e = λ i. record (asked_said w q text) { asking = sym (asked_asking w q text [] e) i; handing = sym (asked_handing w q text [] e) i }
+asked_says w q text (id ∷ met) e = λ i. record (asked_said w q text) { asking = sym (asked_asking w q text (id ∷ met) e) i; handing = sym (asked_handing w q text (id ∷ met) e) i }
+
+-- and hangs on no text and on no number
+unbound : (w : World) (q : Question) (text met : List ℕ) (named : Option (List ℕ)) (number : Option ℕ) → IsText w named (asked_change w q text met) × IsNumber number (asked_change w q text met)
+unbound w q text [] named number = (tt, tt)
+unbound w q text (id ∷ met) named number = (tt, tt)
 
 -- a get that no querier asks
 abbrev pub plainly : QuerySettings → Inquiry → Question
@@ -188,44 +118,11 @@ get_made w key settings inquiry to None o p =
     let undrawn : Bool = not (is_drawn w.cancelling.next inquiry.cancellation_token) || false in
     let found : ((undrawn || true) || false) ≡ false = (neither ((undrawn || true) || false) false p.found).0 in
     let no : true ≡ false = (neither undrawn true (neither (undrawn || true) false found).0).1 in cc
-get_made w key settings inquiry to (Some text) o p = record {
-  unclosed = o;
-  fits = asked_fits w (plainly settings inquiry) text (met_by_get w.entities.queryables (plainly settings inquiry) text) refl p.left;
-  closes = a.closes;
-  keys = record { declares = a.declares; returns = a.returns; draws = a.draws; tells = a.tells; text = a.text (Some text) };
-  entities = record {
-    subs = keeps (λ (row : SubRow). row.id) Subscriber sub_row (x) (subs_by c) refl (λ id. refl) (λ id. refl) a.subs;
-    pubs = keeps (λ (row : PubRow). row.id) Publisher pub_row (x) (pubs_by c) refl (λ id. refl) (λ id. refl) a.pubs;
-    queryables = keeps (λ (row : QueryableRow). row.id) queryable_kind queryable_row (x) (queryables_by c) refl (λ id. refl) (λ id. refl) a.queryables;
-    queriers = keeps (λ (row : QuerierRow). row.id) querier_kind querier_row (x) (queriers_by c) refl (λ id. refl) (λ id. refl) a.queriers;
-    left = a.left;
-    number = a.number (Some w.asking.next);
-    draws = a.adds;
-  };
-  gets = record {
-    asking = asked_asking w (plainly settings inquiry) text (met_by_get w.entities.queryables (plainly settings inquiry) text) refl;
-    handing = asked_handing w (plainly settings inquiry) text (met_by_get w.entities.queryables (plainly settings inquiry) text) refl;
-    under = refl;
-    counted = a.counted;
-    cancelling = a.cancelling;
-  };
-  liveliness = record {
-    asks = a.asks;
-    ends = a.stops;
-    told = a.told;
-    tokens = keeps (λ (id : ℕ). id) token_kind token_row (x) (tokens_by c) refl (λ id. refl) (λ id. refl) a.tokens;
-    lsubs = keeps (λ (row : LivelinessSub). row.id) LivelinessSubscriber lsub_row (x) (lsubs_by c) refl (λ id. refl) (λ id. refl) a.lsubs;
-  };
-}
-  where
-    x : Entry
-    x = record { number = Some w.asking.next; text = Some text; event = Get key settings inquiry to }
-
-    c : Change
-    c = asked_change w (plainly settings inquiry) text (met_by_get w.entities.queryables (plainly settings inquiry) text)
-
-    a : IsAsked w c
-    a = is_asked w (plainly settings inquiry) text (met_by_get w.entities.queryables (plainly settings inquiry) text)
+get_made w key settings inquiry to (Some text) o p =
+    let q : Question = plainly settings inquiry in
+    let met : List ℕ = met_by_get w.entities.queryables q text in
+    let free = unbound w q text met (Some text) (Some w.asking.next) in
+    all_said o (asked_fits w q text met refl p.left) free.0 free.1 refl (asked_says w q text met refl)
 
 -- a get of a querier, which is live
 pub querier_get_made : (w : World) (id : ℕ) (inquiry : Inquiry) (to : Chan) → w.closed ≡ false → HasPassed (row_of (QuerierGet id inquiry to)) (sight w (QuerierGet id inquiry to))
@@ -261,59 +158,19 @@ querier_get_made w id inquiry to o p = go (querier_at id w.entities.queriers) re
     go (Some row) is =
         let question : Question = question_of row inquiry in
         let met : List ℕ = met_by_get w.entities.queryables question row.key.text in
-        let a : IsAsked w (asked_change w question row.key.text met) = is_asked w question row.key.text met in
+        let free = unbound w question row.key.text met (Some row.key.text) (Some w.asking.next) in
+        let under = subst (λ (f : Option QuerierRow). IsAskedUnder (asks_of inquiry f) (Some w.asking.next) w.asking.next) (sym is) refl in
+        let said : said_of w (x (Some row)) ≡ asked_said w question row.key.text =
+        λ i. record (asked_said w question row.key.text) {
+          asking = asking_by w.settings.default_timeout w.settings.zid w.entities.queryables w.handing.values (asks_of inquiry (is i)) NoValue (Some row.key.text) w.asking;
+          handing = handing_next w.entities.queryables (asks_of inquiry (is i)) NoValue (Some w.asking.next) (Some row.key.text) w.handing;
+        } in
         subst (λ (f : Option QuerierRow). IsMade w (x f) (c f)) (sym is)
-        (record {
-          unclosed = o;
-          fits = asked_fits w question row.key.text met refl (lacking (Some row) is);
-          closes = a.closes;
-          keys = record { declares = a.declares; returns = a.returns; draws = a.draws; tells = a.tells; text = a.text (Some row.key.text) };
-          entities = record {
-            subs = keeps (λ (row : SubRow). row.id) Subscriber sub_row (x (Some row)) (subs_by (asked_change w question row.key.text met)) refl (λ id. refl) (λ id. refl) a.subs;
-            pubs = keeps (λ (row : PubRow). row.id) Publisher pub_row (x (Some row)) (pubs_by (asked_change w question row.key.text met)) refl (λ id. refl) (λ id. refl) a.pubs;
-            queryables = keeps (λ (row : QueryableRow). row.id) queryable_kind queryable_row (x (Some row)) (queryables_by (asked_change w question row.key.text met)) refl (λ id. refl) (λ id. refl) a.queryables;
-            queriers = keeps (λ (row : QuerierRow). row.id) querier_kind querier_row (x (Some row)) (queriers_by (asked_change w question row.key.text met)) refl (λ id. refl) (λ id. refl) a.queriers;
-            left = a.left;
-            number = a.number (Some w.asking.next);
-            draws = a.adds;
-          };
-          gets = record {
-            asking = asked_asking w question row.key.text met refl
-                ∙ ap (λ (f : Option QuerierRow). asking_by w.settings.default_timeout w.settings.zid w.entities.queryables w.handing.values (asks_of inquiry f) NoValue (Some row.key.text) w.asking) (sym is);
-            handing = asked_handing w question row.key.text met refl
-                ∙ ap (λ (f : Option QuerierRow). handing_next w.entities.queryables (asks_of inquiry f) NoValue (Some w.asking.next) (Some row.key.text) w.handing) (sym is);
-            under = subst (λ (f : Option QuerierRow). IsAskedUnder (asks_of inquiry f) (Some w.asking.next) w.asking.next) (sym is) refl;
-            counted = a.counted;
-            cancelling = a.cancelling;
-          };
-          liveliness = record {
-            asks = a.asks;
-            ends = a.stops;
-            told = a.told;
-            tokens = keeps (λ (id : ℕ). id) token_kind token_row (x (Some row)) (tokens_by (asked_change w question row.key.text met)) refl (λ id. refl) (λ id. refl) a.tokens;
-            lsubs = keeps (λ (row : LivelinessSub). row.id) LivelinessSubscriber lsub_row (x (Some row)) (lsubs_by (asked_change w question row.key.text met)) refl (λ id. refl) (λ id. refl) a.lsubs;
-          };
-        })
+        (all_said o (asked_fits w question row.key.text met refl (lacking (Some row) is)) free.0 free.1 under (said ∙ asked_says w question row.key.text met refl))
 
 -- a request from the network
 pub request_made : (w : World) (request : Request) (text : Option (List ℕ)) → w.closed ≡ false
     → (lacks_values w.handing.next (met_by w.entities.queryables NoGet (Requested request) text) || false) ≡ false
     → IsMade w (record { number = None; text = text; event = Net (request_message request) }) (request_change w request text)
-request_made w request None o lacks = record {
-  unclosed = o;
-  fits = tt;
-  closes = refl;
-  keys = record { declares = λ n. refl; returns = λ n. refl; draws = refl; tells = λ n. refl; text = tt };
-  entities = record { subs = record { row = refl; drew = λ id. refl; ended = λ id. refl }; pubs = record { row = refl; drew = λ id. refl; ended = λ id. refl }; queryables = record { row = refl; drew = λ id. refl; ended = λ id. refl }; queriers = record { row = refl; drew = λ id. refl; ended = λ id. refl }; left = λ kind id. refl; number = tt; draws = refl };
-  gets = record { asking = refl; handing = refl; under = tt; counted = refl; cancelling = refl };
-  liveliness = record { asks = refl; ends = λ g. refl; told = refl; tokens = record { row = refl; drew = λ id. refl; ended = λ id. refl }; lsubs = record { row = refl; drew = λ id. refl; ended = λ id. refl } };
-}
-request_made w request (Some text) o lacks = record {
-  unclosed = o;
-  fits = (neither (lacks_values w.handing.next (met_by_request w.entities.queryables request text)) false lacks).0;
-  closes = refl;
-  keys = record { declares = λ n. refl; returns = λ n. refl; draws = refl; tells = λ n. refl; text = tt };
-  entities = record { subs = record { row = refl; drew = λ id. refl; ended = λ id. refl }; pubs = record { row = refl; drew = λ id. refl; ended = λ id. refl }; queryables = record { row = refl; drew = λ id. refl; ended = λ id. refl }; queriers = record { row = refl; drew = λ id. refl; ended = λ id. refl }; left = λ kind id. refl; number = tt; draws = refl };
-  gets = record { asking = refl; handing = refl; under = tt; counted = refl; cancelling = refl };
-  liveliness = record { asks = refl; ends = λ g. refl; told = refl; tokens = record { row = refl; drew = λ id. refl; ended = λ id. refl }; lsubs = record { row = refl; drew = λ id. refl; ended = λ id. refl } };
-}
+request_made w request None o lacks = all_said o tt tt tt tt refl
+request_made w request (Some text) o lacks = all_said o (neither (lacks_values w.handing.next (met_by_request w.entities.queryables request text)) false lacks).0 tt tt tt refl

@@ -12,7 +12,7 @@ use Rattle.zs_events.specs.declared.key_arg.KeyArg.{KeyArg}
 use Rattle.zs_events.specs.declared.key_arg.KeyArg.TheVariants.{Number, Declared}
 use Rattle.zs_wire.specs.declared.message.Message.TheVariants.{DeclareKeyExpr}
 use Rattle.zs_world.specs.declared.change.Change.TheVariants.{OfKeys}
-use Rattle.zs_world.specs.declared.change.KeyChange.TheVariants.{Release}
+use Rattle.zs_world.specs.declared.change.KeyChange.TheVariants.{Hold, Release}
 use Rattle.zs_world.specs.World.{World}
 use Rattle.zs_events.specs.Kinds.{EntityNumber, KeyNumber, is_all_of, row_of}
 use Rattle.zs_events.specs.declared.inquiry.QuerySettings.{QuerySettings}
@@ -23,6 +23,7 @@ use Rattle.zs_world.specs.Changes.{key_change, key_change_by, sub_change, pub_ch
 use Rattle.zs_world.specs.Turns.{has_run_out, number_of}
 use Rattle.zs_standing.proofs.Numbers.{number_at-known}
 use Rattle.zs_standing.proofs.Saying.{IsMade, HasPassed}
+use Rattle.zs_standing.proofs.Said.{said_by, all_said}
 
 pub key_made : (w : World) (key : KeyArg) (text : Option (List ℕ)) → w.closed ≡ false
     → HasPassed (row_of (Key key)) (record { text = text; lives = true; claimed = true; owed = true; drawn = true; cancelled = false; disjoint = false; lacks = has_run_out w KeyNumber text; idle = false; spared = false })
@@ -32,38 +33,16 @@ key_made w key (Some text) o p = go (number_at text w.keys.own) refl
   where
     go : (k : Option ℕ) → number_at text w.keys.own ≡ k
         → IsMade w (record { number = Some (unwrap_or k w.counters.key); text = Some text; event = Key key }) (key_change_by w text k)
-    go (Some number) e = record {
-      unclosed = o;
-      fits = number_at-known text w.keys.own number e;
-      closes = refl;
-      keys = record { declares = λ n. refl; returns = λ n. refl; draws = ap (λ (k : Option ℕ). not (is_some k)) e; tells = λ n. refl; text = tt };
-      entities = record { subs = record { row = refl; drew = λ id. refl; ended = λ id. refl }; pubs = record { row = refl; drew = λ id. refl; ended = λ id. refl }; queryables = record { row = refl; drew = λ id. refl; ended = λ id. refl }; queriers = record { row = refl; drew = λ id. refl; ended = λ id. refl }; left = λ kind id. refl; number = tt; draws = refl };
-      gets = record { asking = refl; handing = refl; under = tt; counted = refl; cancelling = refl };
-      liveliness = record { asks = refl; ends = λ g. refl; told = refl; tokens = record { row = refl; drew = λ id. refl; ended = λ id. refl }; lsubs = record { row = refl; drew = λ id. refl; ended = λ id. refl } };
-    }
-    go None e = record {
-      unclosed = o;
-      fits = (refl, sym (ap (λ (k : Option ℕ). not (is_some k) && is_spent last_key w.counters.key) e) ∙ p.left, e);
-      closes = refl;
-      keys = record { declares = λ n. refl; returns = λ n. refl; draws = ap (λ (k : Option ℕ). not (is_some k)) e; tells = λ n. refl; text = refl };
-      entities = record { subs = record { row = refl; drew = λ id. refl; ended = λ id. refl }; pubs = record { row = refl; drew = λ id. refl; ended = λ id. refl }; queryables = record { row = refl; drew = λ id. refl; ended = λ id. refl }; queriers = record { row = refl; drew = λ id. refl; ended = λ id. refl }; left = λ kind id. refl; number = tt; draws = refl };
-      gets = record { asking = refl; handing = refl; under = tt; counted = refl; cancelling = refl };
-      liveliness = record { asks = refl; ends = λ g. refl; told = refl; tokens = record { row = refl; drew = λ id. refl; ended = λ id. refl }; lsubs = record { row = refl; drew = λ id. refl; ended = λ id. refl } };
-    }
+    go (Some number) e = all_said o (number_at-known text w.keys.own number e) tt tt tt (λ i. record (said_by w (OfKeys (Hold number))) { draws_key = not (is_some (e i)) })
+    go None e =
+        all_said o (refl, sym (ap (λ (k : Option ℕ). not (is_some k) && is_spent last_key w.counters.key) e) ∙ p.left, e) refl tt tt
+        (λ i. record (said_by w (key_change_by w text None)) { draws_key = not (is_some (e i)) })
 
 pub back_made : (w : World) (number : ℕ) (suffix : List ℕ) (text : Option (List ℕ)) (o : Option a_key) → key_at number w.keys.own ≡ o → w.closed ≡ false
     → HasPassed (row_of (UndeclareKey (Number number suffix))) (record { text = text_with_suffix suffix o; lives = true; claimed = true; owed = true; drawn = true; cancelled = false; disjoint = false; lacks = false; idle = false; spared = false })
     → IsMade w (record { number = None; text = text; event = UndeclareKey (Number number suffix) }) (OfKeys (Release number))
 back_made w number suffix text None e o p = cc (p.found)
-back_made w number suffix text (Some key) e o p = record {
-  unclosed = o;
-  fits = ap is_some e;
-  closes = refl;
-  keys = record { declares = λ n. refl; returns = λ n. refl; draws = refl; tells = λ n. refl; text = tt };
-  entities = record { subs = record { row = refl; drew = λ id. refl; ended = λ id. refl }; pubs = record { row = refl; drew = λ id. refl; ended = λ id. refl }; queryables = record { row = refl; drew = λ id. refl; ended = λ id. refl }; queriers = record { row = refl; drew = λ id. refl; ended = λ id. refl }; left = λ kind id. refl; number = tt; draws = refl };
-  gets = record { asking = refl; handing = refl; under = tt; counted = refl; cancelling = refl };
-  liveliness = record { asks = refl; ends = λ g. refl; told = refl; tokens = record { row = refl; drew = λ id. refl; ended = λ id. refl }; lsubs = record { row = refl; drew = λ id. refl; ended = λ id. refl } };
-}
+back_made w number suffix text (Some key) e o p = all_said o (ap is_some e) tt tt tt refl
 
 pub declared_back_made : (w : World) (text : List ℕ) (number prefix_len : ℕ) (whole : Bool) → is_all_of text prefix_len ≡ whole → (key : Option a_key)
     → key_at number w.keys.own ≡ key → w.closed ≡ false
@@ -74,58 +53,26 @@ declared_back_made w text number prefix_len false is key e o p = cc (p.whole)
 declared_back_made w text number prefix_len true is None e o p =
     let unclaimed : not (is_key_of (encode_utf8_all text) (key_at number w.keys.own)) ≡ false = p.found in
     let no : true ≡ false = ap (λ (k : Option a_key). not (is_key_of (encode_utf8_all text) k)) (sym e) ∙ unclaimed in cc
-declared_back_made w text number prefix_len true is (Some key) e o p = record {
-  unclosed = o;
-  fits = ap is_some e;
-  closes = refl;
-  keys = record { declares = λ n. refl; returns = λ n. refl; draws = refl; tells = λ n. refl; text = tt };
-  entities = record { subs = record { row = refl; drew = λ id. refl; ended = λ id. refl }; pubs = record { row = refl; drew = λ id. refl; ended = λ id. refl }; queryables = record { row = refl; drew = λ id. refl; ended = λ id. refl }; queriers = record { row = refl; drew = λ id. refl; ended = λ id. refl }; left = λ kind id. refl; number = tt; draws = refl };
-  gets = record { asking = refl; handing = refl; under = tt; counted = refl; cancelling = refl };
-  liveliness = record { asks = refl; ends = λ g. refl; told = refl; tokens = record { row = refl; drew = λ id. refl; ended = λ id. refl }; lsubs = record { row = refl; drew = λ id. refl; ended = λ id. refl } };
-}
+declared_back_made w text number prefix_len true is (Some key) e o p = all_said o (ap is_some e) tt tt tt refl
 
 pub sub_made : (w : World) (origin : Locality) (key : KeyArg) (to : Chan) (text : Option (List ℕ)) → w.closed ≡ false
     → HasPassed (row_of (Sub origin key to)) (record { text = text; lives = true; claimed = true; owed = true; drawn = true; cancelled = false; disjoint = false; lacks = has_run_out w EntityNumber text; idle = false; spared = false })
     → IsMade w (record { number = Some w.counters.entity; text = text; event = Sub origin key to }) (sub_change w.counters.entity origin text)
 sub_made w origin key to None o p = cc (p.found)
-sub_made w origin key to (Some text) o p = record {
-  unclosed = o;
-  fits = (refl, p.left);
-  closes = refl;
-  keys = record { declares = λ n. refl; returns = λ n. refl; draws = refl; tells = λ n. refl; text = tt };
-  entities = record { subs = record { row = refl; drew = λ id. refl; ended = λ id. refl }; pubs = record { row = refl; drew = λ id. refl; ended = λ id. refl }; queryables = record { row = refl; drew = λ id. refl; ended = λ id. refl }; queriers = record { row = refl; drew = λ id. refl; ended = λ id. refl }; left = λ kind id. refl; number = refl; draws = refl };
-  gets = record { asking = refl; handing = refl; under = tt; counted = refl; cancelling = refl };
-  liveliness = record { asks = refl; ends = λ g. refl; told = refl; tokens = record { row = refl; drew = λ id. refl; ended = λ id. refl }; lsubs = record { row = refl; drew = λ id. refl; ended = λ id. refl } };
-}
+sub_made w origin key to (Some text) o p = all_said o (refl, p.left) tt refl tt refl
 
 pub pub_made : (w : World) (key : KeyArg) (settings : PublisherSettings) (text : Option (List ℕ)) → w.closed ≡ false
     → HasPassed (row_of (Pub key settings)) (record { text = text; lives = true; claimed = true; owed = true; drawn = true; cancelled = false; disjoint = false; lacks = has_run_out w EntityNumber text; idle = false; spared = false })
     → IsMade w (record { number = Some w.counters.entity; text = text; event = Pub key settings }) (pub_change w.counters.entity key settings text)
 pub_made w key settings None o p = cc (p.found)
-pub_made w key settings (Some text) o p = record {
-  unclosed = o;
-  fits = (refl, p.left);
-  closes = refl;
-  keys = record { declares = λ n. refl; returns = λ n. refl; draws = refl; tells = λ n. refl; text = tt };
-  entities = record { subs = record { row = refl; drew = λ id. refl; ended = λ id. refl }; pubs = record { row = refl; drew = λ id. refl; ended = λ id. refl }; queryables = record { row = refl; drew = λ id. refl; ended = λ id. refl }; queriers = record { row = refl; drew = λ id. refl; ended = λ id. refl }; left = λ kind id. refl; number = refl; draws = refl };
-  gets = record { asking = refl; handing = refl; under = tt; counted = refl; cancelling = refl };
-  liveliness = record { asks = refl; ends = λ g. refl; told = refl; tokens = record { row = refl; drew = λ id. refl; ended = λ id. refl }; lsubs = record { row = refl; drew = λ id. refl; ended = λ id. refl } };
-}
+pub_made w key settings (Some text) o p = all_said o (refl, p.left) tt refl tt refl
 
 pub queryable_made : (w : World) (origin : Locality) (complete : Bool) (key : KeyArg) (text : Option (List ℕ)) → w.closed ≡ false
     → HasPassed (row_of (Queryable origin complete key)) (record { text = text; lives = true; claimed = true; owed = true; drawn = true; cancelled = false; disjoint = false; lacks = has_run_out w EntityNumber text; idle = false; spared = false })
     → IsMade w (record { number = Some w.counters.entity; text = text; event = Queryable origin complete key })
     (queryable_change w.counters.entity origin complete text)
 queryable_made w origin complete key None o p = cc (p.found)
-queryable_made w origin complete key (Some text) o p = record {
-  unclosed = o;
-  fits = (refl, p.left);
-  closes = refl;
-  keys = record { declares = λ n. refl; returns = λ n. refl; draws = refl; tells = λ n. refl; text = tt };
-  entities = record { subs = record { row = refl; drew = λ id. refl; ended = λ id. refl }; pubs = record { row = refl; drew = λ id. refl; ended = λ id. refl }; queryables = record { row = refl; drew = λ id. refl; ended = λ id. refl }; queriers = record { row = refl; drew = λ id. refl; ended = λ id. refl }; left = λ kind id. refl; number = refl; draws = refl };
-  gets = record { asking = refl; handing = refl; under = tt; counted = refl; cancelling = refl };
-  liveliness = record { asks = refl; ends = λ g. refl; told = refl; tokens = record { row = refl; drew = λ id. refl; ended = λ id. refl }; lsubs = record { row = refl; drew = λ id. refl; ended = λ id. refl } };
-}
+queryable_made w origin complete key (Some text) o p = all_said o (refl, p.left) tt refl tt refl
 
 pub tell_made : (w : World) (number : ℕ) (wire : WireExpr) (text : Option (List ℕ)) → w.closed ≡ false
     → HasPassed (row_of (Net (DeclareKeyExpr number wire))) (record { text = text; lives = true; claimed = true; owed = true; drawn = true; cancelled = false; disjoint = false; lacks = false; idle = false; spared = false })
@@ -135,26 +82,10 @@ tell_made w number wire None o p = let no : ((number == 0) || true) ≡ false = 
     always : (b : Bool) → (b || true) ≡ false → ⊥
     always true h = cc
     always false h = cc
-tell_made w number wire (Some text) o p = record {
-  unclosed = o;
-  fits = tt;
-  closes = refl;
-  keys = record { declares = λ n. refl; returns = λ n. refl; draws = refl; tells = λ n. refl; text = refl };
-  entities = record { subs = record { row = refl; drew = λ id. refl; ended = λ id. refl }; pubs = record { row = refl; drew = λ id. refl; ended = λ id. refl }; queryables = record { row = refl; drew = λ id. refl; ended = λ id. refl }; queriers = record { row = refl; drew = λ id. refl; ended = λ id. refl }; left = λ kind id. refl; number = tt; draws = refl };
-  gets = record { asking = refl; handing = refl; under = tt; counted = refl; cancelling = refl };
-  liveliness = record { asks = refl; ends = λ g. refl; told = refl; tokens = record { row = refl; drew = λ id. refl; ended = λ id. refl }; lsubs = record { row = refl; drew = λ id. refl; ended = λ id. refl } };
-}
+tell_made w number wire (Some text) o p = all_said o tt refl tt tt refl
 
 pub querier_made : (w : World) (key : KeyArg) (settings : QuerySettings) (text : Option (List ℕ)) → w.closed ≡ false
     → HasPassed (row_of (Querier key settings)) (record { text = text; lives = true; claimed = true; owed = true; drawn = true; cancelled = false; disjoint = false; lacks = has_run_out w EntityNumber text; idle = false; spared = false })
     → IsMade w (record { number = Some w.counters.entity; text = text; event = Querier key settings }) (querier_change w.counters.entity key settings text)
 querier_made w key settings None o p = cc (p.found)
-querier_made w key settings (Some text) o p = record {
-  unclosed = o;
-  fits = (refl, p.left);
-  closes = refl;
-  keys = record { declares = λ n. refl; returns = λ n. refl; draws = refl; tells = λ n. refl; text = tt };
-  entities = record { subs = record { row = refl; drew = λ id. refl; ended = λ id. refl }; pubs = record { row = refl; drew = λ id. refl; ended = λ id. refl }; queryables = record { row = refl; drew = λ id. refl; ended = λ id. refl }; queriers = record { row = refl; drew = λ id. refl; ended = λ id. refl }; left = λ kind id. refl; number = refl; draws = refl };
-  gets = record { asking = refl; handing = refl; under = tt; counted = refl; cancelling = refl };
-  liveliness = record { asks = refl; ends = λ g. refl; told = refl; tokens = record { row = refl; drew = λ id. refl; ended = λ id. refl }; lsubs = record { row = refl; drew = λ id. refl; ended = λ id. refl } };
-}
+querier_made w key settings (Some text) o p = all_said o (refl, p.left) tt refl tt refl

@@ -6,8 +6,7 @@ use Rattle.std.proofs.lemmas.Bool.{eqb-true}
 use Rattle.zs_keys.specs.Key.{Key}
 use Rattle.zs_tables.specs.Ascending.{Ascend}
 use Rattle.zs_tables.specs.Groups.{Group, groups_of, number_of_group, members_of}
-use Rattle.zs_tables.specs.declared.group_kind.GroupKind.{GroupKind}
-use Rattle.zs_tables.specs.declared.group_kind.GroupKind.TheVariants.{Subscribers, Publishers, Queriers}
+use Rattle.zs_tables.specs.Types.{GroupKind, Subscribers, Publishers, Queriers}
 use Rattle.zs_tables.specs.declared.subscriber.SubRow.{SubRow}
 use Rattle.zs_model.specs.declared.publisher.PubRow.{PubRow}
 use Rattle.zs_model.specs.declared.querier.QuerierRow.{QuerierRow}
@@ -31,11 +30,11 @@ pub record AreShared (w : World) : Type 0 where
   pub pubs : AreGrouped w.settings.aggregated_publishers w.groups.publishers (map pub_shared w.entities.pubs)
   pub queriers : AreGrouped [] w.groups.queriers (map querier_shared w.entities.queriers)
 
-pushed : {R : Type 0} (shared : R → Shared) (rows : List R) (row : R) → map shared (rows ++ row ∷ []) ≡ map shared rows ++ shared row ∷ []
+pub pushed : {R : Type 0} (shared : R → Shared) (rows : List R) (row : R) → map shared (rows ++ row ∷ []) ≡ map shared rows ++ shared row ∷ []
 pushed shared [] row = refl
 pushed shared (r ∷ rows) row = ap (λ (rest : List Shared). shared r ∷ rest) (pushed shared rows row)
 
-left_out : {R : Type 0} (shared : R → Shared) (rows : List R) (id : ℕ) → map shared (filter (λ row. not ((shared row).id == id)) rows) ≡ filter (λ x. not (x.id == id)) (map shared rows)
+pub left_out : {R : Type 0} (shared : R → Shared) (rows : List R) (id : ℕ) → map shared (filter (λ row. not ((shared row).id == id)) rows) ≡ filter (λ x. not (x.id == id)) (map shared rows)
 left_out shared [] id = refl
 left_out {R} shared (r ∷ rows) id = go (not ((shared r).id == id)) (left_out shared rows id)
   where
@@ -69,7 +68,7 @@ missing_same {R} shared (r ∷ rows) id f = go ((shared r).id == id) f (missing_
     go false f ih = ap (λ (rest : List R). r ∷ rest) (ih f)
 
 -- one that is found by its number leaves
-less_found : {R : Type 0} (shared : R → Shared) (aggregates : List Key) (gs : List Group) (rows : List R) (id : ℕ) → Ascend (λ r. (shared r).id) rows
+pub less_found : {R : Type 0} (shared : R → Shared) (aggregates : List Key) (gs : List Group) (rows : List R) (id : ℕ) → Ascend (λ r. (shared r).id) rows
     → AreGrouped aggregates gs (map shared rows)
     → AreGrouped aggregates (left_found aggregates (option_map shared (find (λ r. (shared r).id == id) rows)) gs) (map shared (filter (λ row. not ((shared row).id == id)) rows))
 less_found {R} shared aggregates gs rows id up are = go (find (λ r. (shared r).id == id) rows) refl

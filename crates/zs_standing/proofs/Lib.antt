@@ -1,5 +1,6 @@
 pub mod Causes
 pub mod Saying
+pub mod Said
 pub mod DeclaredMade
 pub mod AskedMade
 pub mod AnsweredMade

@@ -1,18 +1,17 @@
 -- The tables of entities are the plain filters, and what can be named is found in them.
-use Rattle.std.proofs.Common.{◌≡◌, ◌≤◌, ℕ, List, [], ◌∷◌, Bool, false, Option, Some, refl, sym, ◌∙◌, ap, arith}
+use Rattle.std.proofs.Common.{◌≡◌, ℕ, List, [], ◌∷◌, Bool, false, Option, refl, sym, ◌∙◌, ap}
 use Rattle.std.specs.Prelude.{◌==◌, ◌||◌}
 use Rattle.std.specs.List.{list_any}
 use Rattle.zs_events.specs.declared.event.Event.{Event}
-use Rattle.zs_events.specs.declared.event.Event.TheVariants.{Key, Sub, Pub, Queryable as queryable_event, Querier as querier_event, Token as token_event, Lsub as lsub_event}
+use Rattle.zs_wire.specs.declared.message.Message.TheVariants.{Close as close_message}
+use Rattle.zs_events.specs.declared.event.Event.TheVariants.{Net}
 use Rattle.zs_events.specs.declared.turn.Kind.{Kind}
 use Rattle.zs_events.specs.declared.turn.Kind.TheVariants.{Subscriber, LivelinessSubscriber, Publisher, Queryable, Querier, Token, Listener, Get, LivelinessGet}
 use Rattle.zs_world.specs.declared.change.Change.{Change}
-use Rattle.zs_world.specs.declared.change.Change.TheVariants.{Nothing, OfEntities, Shut, OfLiveliness, OfMatching}
-use Rattle.zs_world.specs.declared.change.EntityChange.TheVariants.{AddSub, EndSub, AddPub, EndPub, AddQueryable, EndQueryable, AddQuerier, EndQuerier, LeaveSub, LeaveQueryable}
-use Rattle.zs_world.specs.declared.change.LivelinessChange.TheVariants.{DeclareToken, EndToken, AddLsub, EndLsub, LeaveLsub, AskTokens}
-use Rattle.zs_world.specs.declared.change.MatchingChange.{MatchingChange}
-use Rattle.zs_world.specs.MatchingChanges.{next_listening}
-use Rattle.zs_world.specs.declared.change.MatchingChange.TheVariants.{AddListener, EndListener, LeaveListener, TellSub}
+use Rattle.zs_world.specs.declared.change.Change.TheVariants.{Nothing, OfEntities, OfLiveliness, OfMatching}
+use Rattle.zs_world.specs.declared.change.EntityChange.TheVariants.{AddSub, AddPub, AddQueryable, AddQuerier, LeaveSub, LeaveQueryable}
+use Rattle.zs_world.specs.declared.change.LivelinessChange.TheVariants.{DeclareToken, AddLsub, LeaveLsub}
+use Rattle.zs_world.specs.declared.change.MatchingChange.TheVariants.{LeaveListener}
 use Rattle.zs_world.specs.World.{World}
 use Rattle.zs_model.specs.Entry.{Entry}
 use Rattle.zs_model.specs.Subscribers.{sub_row}
@@ -21,15 +20,15 @@ use Rattle.zs_model.specs.Queryables.{queryable_row}
 use Rattle.zs_model.specs.declared.querier.QuerierRow.{QuerierRow}
 use Rattle.zs_model.specs.Queriers.{querier_row, to_gets_by}
 use Rattle.zs_events.specs.Kinds.{row_of}
-use Rattle.zs_model.specs.Live.{is_subscriber, is_publisher, is_queryable, is_querier_kind, drew, drew_unended, is_live, was_left, to_gets_of, is_token, is_lsub, is_listener_kind}
+use Rattle.zs_model.specs.Live.{is_same, drew, drew_unended, is_live, was_left, to_gets_of}
 use Rattle.zs_model.specs.Liveliness.{token_row, lsub_row}
-use Rattle.zs_tables.specs.declared.liveliness_sub.LivelinessSub.{LivelinessSub}
+use Rattle.zs_tables.specs.Types.{LivelinessSub}
 use Rattle.zs_world.specs.Changes.{with_change, Fits}
 use Rattle.zs_world.specs.Turns.{is_there, is_left, to_gets_at, left_of}
 use Rattle.zs_model.proofs.Placing.{placed_any}
 use Rattle.zs_model.proofs.Entities.{FitsIn, AreRows, rows_after, rows_none, rows_more}
 use Rattle.zs_standing.proofs.Saying.{IsMade, subs_by, pubs_by, queryables_by, queriers_by, leaves_by}
-use Rattle.zs_standing.proofs.Watching.{placed_new, put_last, never_down, entity_up, tokens_by, lsubs_by}
+use Rattle.zs_standing.proofs.Watching.{placed_new, put_last, entity_up, tokens_by, lsubs_by}
 
 -- what the tables of entities are behind a past
 pub record AreLive (w : World) (past : List Entry) : Type 0 where
@@ -44,120 +43,53 @@ pub record AreLive (w : World) (past : List Entry) : Type 0 where
 -- what a change makes of each table
 subs_step : (w : World) (c : Change) → (with_change c w).entities.subs ≡ rows_after (λ row. row.id) (subs_by c) w.entities.subs
 subs_step w (OfEntities (AddSub row)) = refl
-subs_step w (OfEntities (EndSub id)) = refl
-subs_step w Shut = refl
-subs_step w Nothing = refl
 subs_step w c = refl
 
 pubs_step : (w : World) (c : Change) → (with_change c w).entities.pubs ≡ rows_after (λ row. row.id) (pubs_by c) w.entities.pubs
 pubs_step w (OfEntities (AddPub row)) = refl
-pubs_step w (OfEntities (EndPub id)) = refl
-pubs_step w Shut = refl
-pubs_step w Nothing = refl
 pubs_step w c = refl
 
 queryables_step : (w : World) (c : Change) → (with_change c w).entities.queryables ≡ rows_after (λ row. row.id) (queryables_by c) w.entities.queryables
 queryables_step w (OfEntities (AddQueryable row)) = refl
-queryables_step w (OfEntities (EndQueryable id)) = refl
-queryables_step w Shut = refl
-queryables_step w Nothing = refl
 queryables_step w c = refl
 
 queriers_step : (w : World) (c : Change) → (with_change c w).entities.queriers ≡ rows_after (λ row. row.id) (queriers_by c) w.entities.queriers
 queriers_step w (OfEntities (AddQuerier row)) = refl
-queriers_step w (OfEntities (EndQuerier id)) = refl
-queriers_step w Shut = refl
-queriers_step w Nothing = refl
 queriers_step w c = refl
-
-same : (n : ℕ) → n ≤ n
-same n = omega arith
-
-matching_up : (w : World) (change : MatchingChange) → w.counters.entity ≤ next_listening change w.counters.entity
-matching_up w (AddListener row) = omega arith
-matching_up w (EndListener id) = same w.counters.entity
-matching_up w (TellSub row) = same w.counters.entity
-matching_up w change = same w.counters.entity
 
 subs_fit : (w : World) (c : Change) → Fits w c → FitsIn (λ row. row.id) w.counters.entity (with_change c w).counters.entity (subs_by c)
 subs_fit w (OfEntities (AddSub row)) fits = (fits.0, refl)
-subs_fit w (OfEntities (AddPub row)) fits = omega arith
-subs_fit w (OfEntities (AddQueryable row)) fits = omega arith
-subs_fit w (OfEntities (AddQuerier row)) fits = omega arith
-subs_fit w (OfEntities (EndSub id)) fits = same w.counters.entity
-subs_fit w (OfLiveliness change) fits = never_down change w.counters.entity
-subs_fit w (OfMatching change) fits = matching_up w change
-subs_fit w Nothing fits = same w.counters.entity
-subs_fit w c fits = same w.counters.entity
+subs_fit w c fits = entity_up w c
 
 pubs_fit : (w : World) (c : Change) → Fits w c → FitsIn (λ row. row.id) w.counters.entity (with_change c w).counters.entity (pubs_by c)
 pubs_fit w (OfEntities (AddPub row)) fits = (fits.0, refl)
-pubs_fit w (OfEntities (AddSub row)) fits = omega arith
-pubs_fit w (OfEntities (AddQueryable row)) fits = omega arith
-pubs_fit w (OfEntities (AddQuerier row)) fits = omega arith
-pubs_fit w (OfEntities (EndPub id)) fits = same w.counters.entity
-pubs_fit w (OfLiveliness change) fits = never_down change w.counters.entity
-pubs_fit w (OfMatching change) fits = matching_up w change
-pubs_fit w Nothing fits = same w.counters.entity
-pubs_fit w c fits = same w.counters.entity
+pubs_fit w c fits = entity_up w c
 
 queryables_fit : (w : World) (c : Change) → Fits w c → FitsIn (λ row. row.id) w.counters.entity (with_change c w).counters.entity (queryables_by c)
 queryables_fit w (OfEntities (AddQueryable row)) fits = (fits.0, refl)
-queryables_fit w (OfEntities (AddSub row)) fits = omega arith
-queryables_fit w (OfEntities (AddPub row)) fits = omega arith
-queryables_fit w (OfEntities (AddQuerier row)) fits = omega arith
-queryables_fit w (OfEntities (EndQueryable id)) fits = same w.counters.entity
-queryables_fit w (OfLiveliness change) fits = never_down change w.counters.entity
-queryables_fit w (OfMatching change) fits = matching_up w change
-queryables_fit w Nothing fits = same w.counters.entity
-queryables_fit w c fits = same w.counters.entity
+queryables_fit w c fits = entity_up w c
 
 queriers_fit : (w : World) (c : Change) → Fits w c → FitsIn (λ row. row.id) w.counters.entity (with_change c w).counters.entity (queriers_by c)
 queriers_fit w (OfEntities (AddQuerier row)) fits = (fits.0, refl)
-queriers_fit w (OfEntities (AddSub row)) fits = omega arith
-queriers_fit w (OfEntities (AddPub row)) fits = omega arith
-queriers_fit w (OfEntities (AddQueryable row)) fits = omega arith
-queriers_fit w (OfEntities (EndQuerier id)) fits = same w.counters.entity
-queriers_fit w (OfLiveliness change) fits = never_down change w.counters.entity
-queriers_fit w (OfMatching change) fits = matching_up w change
-queriers_fit w Nothing fits = same w.counters.entity
-queriers_fit w c fits = same w.counters.entity
+queriers_fit w c fits = entity_up w c
 
 tokens_step : (w : World) (c : Change) (past : List Entry) → Fits w c → AreRows (λ id. id) Token token_row w.liveliness.tokens w.counters.entity past
     → (with_change c w).liveliness.tokens ≡ rows_after (λ id. id) (tokens_by c) w.liveliness.tokens
 tokens_step w (OfLiveliness (DeclareToken id)) past fits rows = placed_new (λ (n : ℕ). n) Token token_row w.liveliness.tokens w.counters.entity past id fits.0 rows
-tokens_step w (OfLiveliness (EndToken id)) past fits rows = refl
-tokens_step w Shut past fits rows = refl
-tokens_step w Nothing past fits rows = refl
 tokens_step w c past fits rows = refl
 
 tokens_fit : (w : World) (c : Change) → Fits w c → FitsIn (λ id. id) w.counters.entity (with_change c w).counters.entity (tokens_by c)
 tokens_fit w (OfLiveliness (DeclareToken id)) fits = (fits.0, refl)
-tokens_fit w (OfLiveliness (EndToken id)) fits = same w.counters.entity
-tokens_fit w (OfLiveliness (AddLsub row)) fits = omega arith
-tokens_fit w (OfLiveliness (AskTokens row)) fits = omega arith
-tokens_fit w (OfEntities change) fits = entity_up w (OfEntities change)
-tokens_fit w (OfMatching change) fits = matching_up w change
-tokens_fit w Nothing fits = same w.counters.entity
-tokens_fit w c fits = same w.counters.entity
+tokens_fit w c fits = entity_up w c
 
 lsubs_step : (w : World) (c : Change) (past : List Entry) → Fits w c → AreRows (λ row. row.id) LivelinessSubscriber lsub_row w.liveliness.subs w.counters.entity past
     → (with_change c w).liveliness.subs ≡ rows_after (λ row. row.id) (lsubs_by c) w.liveliness.subs
 lsubs_step w (OfLiveliness (AddLsub row)) past fits rows = put_last (λ (s : LivelinessSub). s.id) LivelinessSubscriber lsub_row w.liveliness.subs w.counters.entity past row fits.0 rows
-lsubs_step w (OfLiveliness (EndLsub id)) past fits rows = refl
-lsubs_step w Shut past fits rows = refl
-lsubs_step w Nothing past fits rows = refl
 lsubs_step w c past fits rows = refl
 
 lsubs_fit : (w : World) (c : Change) → Fits w c → FitsIn (λ row. row.id) w.counters.entity (with_change c w).counters.entity (lsubs_by c)
 lsubs_fit w (OfLiveliness (AddLsub row)) fits = (fits.0, refl)
-lsubs_fit w (OfLiveliness (DeclareToken id)) fits = omega arith
-lsubs_fit w (OfLiveliness (AskTokens row)) fits = omega arith
-lsubs_fit w (OfLiveliness (EndLsub id)) fits = same w.counters.entity
-lsubs_fit w (OfEntities change) fits = entity_up w (OfEntities change)
-lsubs_fit w (OfMatching change) fits = matching_up w change
-lsubs_fit w Nothing fits = same w.counters.entity
-lsubs_fit w c fits = same w.counters.entity
+lsubs_fit w c fits = entity_up w c
 
 left_same : (kind : Kind) (w v : World) → v.entities.left_subs ≡ w.entities.left_subs → v.entities.left_queryables ≡ w.entities.left_queryables → v.liveliness.left ≡ w.liveliness.left → v.matching.left ≡ w.matching.left
     → left_of kind v ≡ left_of kind w
@@ -226,31 +158,21 @@ live_none w subs pubs queryables queriers tokens lsubs left left_queryables left
 pub same_gets : (w : World) (past : List Entry) (e : Event) → AreLive w past → to_gets_at w e ≡ to_gets_of past e
 same_gets w past e l = ap (λ (rows : List QuerierRow). to_gets_by rows (row_of e).to_gets) l.queriers.table
 
--- the kinds of which nothing is ever drawn
-record IsOther (kind : Kind) : Type 0 where
-  sub : is_subscriber kind ≡ false
-  publisher : is_publisher kind ≡ false
-  queryable : is_queryable kind ≡ false
-  querier : is_querier_kind kind ≡ false
-  token : is_token kind ≡ false
-  lsub : is_lsub kind ≡ false
+-- a kind of which nothing is ever drawn is never live
+undrawn : (kind : Kind) (id : ℕ) → ((e : Event) (number : Option ℕ) → drew kind id e number ≡ false) → (later : List Event) (past : List Entry) → drew_unended kind id later past ≡ false
+undrawn kind id none later [] = refl
+undrawn kind id none later (x ∷ past) = rw (none x.event x.number, undrawn kind id none (x.event ∷ later) past) refl
 
-other_drew : (kind : Kind) (id : ℕ) → IsOther kind → (e : Event) (number : Option ℕ) → drew kind id e number ≡ false
-other_drew kind id o (Sub origin key to) (Some number) = rw o.sub refl
-other_drew kind id o (Pub key settings) (Some number) = rw o.publisher refl
-other_drew kind id o (queryable_event origin complete key) (Some number) = rw o.queryable refl
-other_drew kind id o (querier_event key settings) (Some number) = rw o.querier refl
-other_drew kind id o (token_event key) (Some number) = rw o.token refl
-other_drew kind id o (lsub_event history key) (Some number) = rw o.lsub refl
-other_drew kind id o (Key key) number = refl
-other_drew kind id o e number = refl
+no_get : (id : ℕ) (e : Event) (number : Option ℕ) → drew Get id e number ≡ false
+no_get id (Net close_message) number = refl
+no_get id e number = refl
 
-other_live : (kind : Kind) (id : ℕ) → IsOther kind → (later : List Event) (past : List Entry) → drew_unended kind id later past ≡ false
-other_live kind id o later [] = refl
-other_live kind id o later (x ∷ past) = rw (other_drew kind id o x.event x.number, other_live kind id o (x.event ∷ later) past) refl
+no_tokens : (id : ℕ) (e : Event) (number : Option ℕ) → drew LivelinessGet id e number ≡ false
+no_tokens id (Net close_message) number = refl
+no_tokens id e number = refl
 
 -- what is live is there, where it is no listener
-pub there_is : (w : World) (past : List Entry) (kind : Kind) (id : ℕ) → is_listener_kind kind ≡ false → AreLive w past → is_there kind id w ≡ is_live kind id past
+pub there_is : (w : World) (past : List Entry) (kind : Kind) (id : ℕ) → is_same kind Listener ≡ false → AreLive w past → is_there kind id w ≡ is_live kind id past
 there_is w past Subscriber id other l = l.subs.found id
 there_is w past Publisher id other l = l.pubs.found id
 there_is w past LivelinessSubscriber id other l = l.lsubs.found id
@@ -258,5 +180,5 @@ there_is w past Queryable id other l = l.queryables.found id
 there_is w past Querier id other l = l.queriers.found id
 there_is w past Token id other l = l.tokens.found id
 there_is w past Listener id other l = absurd (cc)
-there_is w past Get id other l = sym (other_live Get id (record { sub = refl; publisher = refl; queryable = refl; querier = refl; token = refl; lsub = refl }) [] past)
-there_is w past LivelinessGet id other l = sym (other_live LivelinessGet id (record { sub = refl; publisher = refl; queryable = refl; querier = refl; token = refl; lsub = refl }) [] past)
+there_is w past Get id other l = sym (undrawn Get id (no_get id) [] past)
+there_is w past LivelinessGet id other l = sym (undrawn LivelinessGet id (no_tokens id) [] past)

@@ -22,7 +22,7 @@ use Rattle.zs_world.specs.World.{World, present_at}
 use Rattle.zs_model.specs.Entry.{Entry}
 use Rattle.zs_model.specs.Live.{appended, live_subs, live_queryables, live_pubs, live_queriers, live_listeners, is_living}
 use Rattle.zs_model.specs.Listeners.{listening, listener_row, ends_listener, is_listener}
-use Rattle.zs_model.specs.Matching.{told_sub_row, renews_sub, told_queryable_row, renews_queryable, told_subs, told_queryables, is_matched, as_number, status_of, is_untold}
+use Rattle.zs_model.specs.Matching.{told_sub_row, renews_sub, told_queryable_row, renews_queryable, remote_subscribers, remote_queryables, is_matched, as_number, status_of, is_untold}
 use Rattle.zs_world.specs.Turns.{status_at, is_there}
 use Rattle.zs_world.specs.Changes.{with_change}
 use Rattle.zs_standing.proofs.Live.{AreLive, there_is}
@@ -30,8 +30,8 @@ use Rattle.zs_standing.proofs.Live.{AreLive, there_is}
 -- what the tables of matching are behind a past
 pub record AreMatched (w : World) (past : List Entry) : Type 0 where
   pub listeners : w.matching.listeners ≡ live_listeners past
-  pub subs : (test : ToldSub → Bool) → list_any test w.matching.told.subs ≡ list_any test (told_subs past)
-  pub queryables : (test : ToldQueryable → Bool) → list_any test w.matching.told.queryables ≡ list_any test (told_queryables past)
+  pub subs : (test : ToldSub → Bool) → list_any test w.matching.told.subs ≡ list_any test (remote_subscribers past)
+  pub queryables : (test : ToldQueryable → Bool) → list_any test w.matching.told.queryables ≡ list_any test (remote_queryables past)
   pub subs_ascend : Ascend (λ (row : ToldSub). row.number) w.matching.told.subs
   pub queryables_ascend : Ascend (λ (row : ToldQueryable). row.number) w.matching.told.queryables
 
@@ -142,7 +142,7 @@ matched_is w past row l m =
     let far_queryables = m.queryables (λ q. suits (told_queryable q) row) in
     any_apart w.entities.subs w.entities.queryables w.matching.told row
     ∙ (λ i. ((list_any (λ s. suits (own_sub s) row) (subs i) || list_any (λ q. suits (own_queryable q) row) (queryables i)) || far_subs i) || far_queryables i)
-    ∙ sym (any_apart (live_subs past) (live_queryables past) (record { subs = told_subs past; queryables = told_queryables past }) row)
+    ∙ sym (any_apart (live_subs past) (live_queryables past) (record { subs = remote_subscribers past; queryables = remote_queryables past }) row)
 
 pub status_is : (w : World) (past : List Entry) (kind : Kind) (id : ℕ) → AreLive w past → AreMatched w past → status_at w kind id ≡ status_of past kind id
 status_is w past kind id l m =
@@ -210,8 +210,8 @@ matched_more w past x c k l m = record {
   listeners =
       k.listeners
       ∙ (λ i. appended (filter (λ row. not (ends_listener x.event row)) (m.listeners i)) (listener_row (l.pubs.table i) (l.queriers.table i) x.event x.number));
-  subs = λ test. ap (list_any test) k.subs ∙ subs_step (row_of x.event).to_matching x.text w.matching.told.subs (told_subs past) k.text m.subs_ascend m.subs test;
-  queryables = λ test. ap (list_any test) k.queryables ∙ queryables_step (row_of x.event).to_matching x.text w.matching.told.queryables (told_queryables past) k.text m.queryables_ascend m.queryables test;
+  subs = λ test. ap (list_any test) k.subs ∙ subs_step (row_of x.event).to_matching x.text w.matching.told.subs (remote_subscribers past) k.text m.subs_ascend m.subs test;
+  queryables = λ test. ap (list_any test) k.queryables ∙ queryables_step (row_of x.event).to_matching x.text w.matching.told.queryables (remote_queryables past) k.text m.queryables_ascend m.queryables test;
   subs_ascend = rw k.subs (subs_up (row_of x.event).to_matching x.text w.matching.told.subs m.subs_ascend);
   queryables_ascend = rw k.queryables (queryables_up (row_of x.event).to_matching x.text w.matching.told.queryables m.queryables_ascend);
 }
@@ -226,7 +226,7 @@ matched_none w listeners told = record {
 }
 
 -- so is whether an end means nothing
-pub untold_is : (w : World) (past : List Entry) (to : ToMatching) → AreMatched w past → is_untold w.matching.told.subs w.matching.told.queryables to ≡ is_untold (told_subs past) (told_queryables past) to
+pub untold_is : (w : World) (past : List Entry) (to : ToMatching) → AreMatched w past → is_untold w.matching.told.subs w.matching.told.queryables to ≡ is_untold (remote_subscribers past) (remote_queryables past) to
 untold_is w past (EndsSub id) m = ap not (m.subs (λ row. row.number == id))
 untold_is w past (EndsQueryable id) m = ap not (m.queryables (λ row. row.number == id))
 untold_is w past NoMatch m = refl

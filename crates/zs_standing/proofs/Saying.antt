@@ -1,11 +1,11 @@
 -- What an entry says and what its change says: what is to be proved of each kind of event.
 use Rattle.std.proofs.Common.{◌≡◌, ◌+◌, ℕ, List, Bool, true, false, Option, Some, None, refl}
-use Rattle.std.specs.Prelude.{◌==◌, ◌&&◌, not, is_some, if◌then◌else◌}
+use Rattle.std.specs.Prelude.{◌==◌, ◌&&◌, ◌||◌, not, is_some, if◌then◌else◌}
 use Rattle.zs_tables.specs.Numbers.{number_at}
 use Rattle.zs_tables.specs.declared.subscriber.SubRow.{SubRow}
 use Rattle.zs_tables.specs.declared.queryable.QueryableRow.{QueryableRow}
 use Rattle.zs_events.specs.declared.turn.Kind.{Kind}
-use Rattle.zs_events.specs.declared.turn.Kind.TheVariants.{Subscriber, Publisher, Queryable as queryable_kind, Querier as querier_kind}
+use Rattle.zs_events.specs.declared.turn.Kind.TheVariants.{Subscriber, Publisher, Queryable as queryable_kind, Querier as querier_kind, LivelinessSubscriber, Listener}
 use Rattle.zs_model.specs.declared.publisher.PubRow.{PubRow}
 use Rattle.zs_events.specs.declared.turn.Refusal.TheVariants.{NotFound, UnknownScope, BadKeyExpr, QueryCancelled, ReplyDisjoint, NotDeclared, IdsExhausted, Ignored}
 use Rattle.zs_world.specs.declared.change.Change.{Change}
@@ -17,7 +17,7 @@ use Rattle.zs_world.specs.declared.change.LivelinessChange.TheVariants.{DeclareT
 use Rattle.zs_world.specs.World.{World}
 use Rattle.zs_model.proofs.Values.{handing_next}
 use Rattle.zs_model.proofs.Gets.{asking_by, IsAskedUnder}
-use Rattle.zs_events.specs.Kinds.{Draws, KeyNumber, Row, row_of}
+use Rattle.zs_events.specs.Kinds.{Draws, KeyNumber, ToEntities, Declares, EndsEntity, LeavesEntity, ToMatching, NoMatch, TellsSub, TellsQueryable, Row, row_of}
 use Rattle.zs_model.specs.Seen.{Sight, is_not_found, is_unknown, is_bad_key}
 use Rattle.zs_model.specs.Entry.{Entry, is_close}
 use Rattle.zs_model.specs.Held.{declares_number, returns_number, tells_number}
@@ -27,7 +27,7 @@ use Rattle.zs_model.specs.Queryables.{queryable_row}
 use Rattle.zs_model.specs.declared.querier.QuerierRow.{QuerierRow}
 use Rattle.zs_model.specs.Queriers.{querier_row}
 use Rattle.zs_model.proofs.Cancelling.{cancelling_by}
-use Rattle.zs_model.specs.Live.{is_subscriber, is_queryable, leaves, is_lsub, is_listener_kind}
+use Rattle.zs_model.specs.Live.{is_same, leaves}
 use Rattle.zs_world.specs.declared.change.MatchingChange.TheVariants.{AddListener, LeaveListener}
 use Rattle.zs_standing.proofs.Watching.{SaysLiveliness}
 use Rattle.zs_model.specs.Counters.{draws_entity, draws_query}
@@ -99,10 +99,10 @@ queriers_by c = Keep
 
 -- that leaves an entity to itself
 abbrev pub leaves_by : Kind → ℕ → Change → Bool
-leaves_by kind id (OfEntities (LeaveSub number)) = is_subscriber kind && id == number
-leaves_by kind id (OfEntities (LeaveQueryable number)) = is_queryable kind && id == number
-leaves_by kind id (OfLiveliness (LeaveLsub number)) = is_lsub kind && id == number
-leaves_by kind id (OfMatching (LeaveListener number)) = is_listener_kind kind && id == number
+leaves_by kind id (OfEntities (LeaveSub number)) = is_same kind Subscriber && id == number
+leaves_by kind id (OfEntities (LeaveQueryable number)) = is_same kind queryable_kind && id == number
+leaves_by kind id (OfLiveliness (LeaveLsub number)) = is_same kind LivelinessSubscriber && id == number
+leaves_by kind id (OfMatching (LeaveListener number)) = is_same kind Listener && id == number
 leaves_by kind id c = false
 
 -- that draws a number for an entity, and which
@@ -156,6 +156,27 @@ pub record SaysGets (w : World) (x : Entry) (c : Change) : Type 0 where
   pub counted : (with_change c w).asking.next ≡ (if draws_query (row_of x.event).draws then w.asking.next + 1 else w.asking.next)
   pub cancelling : (with_change c w).cancelling ≡ cancelling_by (row_of x.event) w.cancelling
 
+-- whether an event touches listeners, or what the network told of those whom one can match
+abbrev pub tells_matching : ToMatching → Option (List ℕ) → Bool
+tells_matching NoMatch text = false
+tells_matching (TellsSub id) text = is_some text
+tells_matching (TellsQueryable id complete) text = is_some text
+tells_matching to text = true
+
+abbrev pub of_listeners : ToEntities → Bool
+of_listeners (Declares Listener) = true
+of_listeners (EndsEntity Listener id) = true
+of_listeners (LeavesEntity Listener id) = true
+of_listeners to = false
+
+abbrev pub touches_matching : Entry → Bool
+touches_matching x = of_listeners (row_of x.event).to_entities || tells_matching (row_of x.event).to_matching x.text
+
+-- and whether a change does
+abbrev pub matches_by : Change → Bool
+matches_by (OfMatching change) = true
+matches_by c = false
+
 -- an entry and its change, made in an open session
 pub record IsMade (w : World) (x : Entry) (c : Change) : Type 0 where
   pub unclosed : w.closed ≡ false
@@ -165,6 +186,7 @@ pub record IsMade (w : World) (x : Entry) (c : Change) : Type 0 where
   pub entities : SaysEntities x c
   pub gets : SaysGets w x c
   pub liveliness : SaysLiveliness w x c
+  pub matching : touches_matching x ≡ matches_by c
 
 -- the tests that an accepted event has passed
 pub record HasPassed (row : Row) (seen : Sight) : Type 0 where

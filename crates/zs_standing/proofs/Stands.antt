@@ -6,20 +6,20 @@ use Rattle.zs_model.specs.declared.settings.Settings.{Settings}
 use Rattle.zs_world.specs.declared.change.Change.{Change}
 use Rattle.zs_world.specs.declared.change.Change.TheVariants.{Nothing, OfKeys, OfEntities, OfLiveliness, OfMatching}
 use Rattle.zs_world.specs.declared.change.KeyChange.TheVariants.{Declare, Hold, Release}
-use Rattle.zs_world.specs.declared.change.EntityChange.TheVariants.{AddSub, EndSub, AddPub, AddQueryable, AddQuerier}
-use Rattle.zs_world.specs.declared.change.LivelinessChange.TheVariants.{DeclareToken, EndToken, AddLsub, AskTokens}
+use Rattle.zs_world.specs.declared.change.EntityChange.TheVariants.{AddSub}
+use Rattle.zs_world.specs.declared.change.LivelinessChange.TheVariants.{DeclareToken}
 use Rattle.zs_world.specs.declared.change.Decision.{Decision}
 use Rattle.zs_events.specs.declared.turn.Refusal.{Refusal}
 use Rattle.zs_events.specs.declared.turn.Turn.{Turn}
 use Rattle.zs_model.specs.Settings.{last_entity, last_query, last_key}
 use Rattle.zs_events.specs.Turn.{answered}
 use Rattle.zs_world.specs.World.{World}
-use Rattle.zs_events.specs.Kinds.{Draws, NoNumber, EntityNumber, QueryNumber, ValueNumber, CancellationNumber, KeyNumber, StatusOf, Named, ToGets, asking_token, token_named, row_of}
+use Rattle.zs_events.specs.Kinds.{Draws, NoNumber, EntityNumber, QueryNumber, ValueNumber, CancellationNumber, KeyNumber, StatusOf, Named, ToGets, asking_cancellation_token, cancellation_token_named, row_of}
 use Rattle.zs_model.specs.Seen.{Sight}
 use Rattle.zs_model.specs.Entry.{Entry, is_closed}
 use Rattle.zs_model.specs.Held.{held_number, is_claimed, named_text}
 use Rattle.zs_world.specs.Keys.{has_claim}
-use Rattle.zs_model.specs.Matching.{told_subs, told_queryables, is_untold, turned, listener_effects}
+use Rattle.zs_model.specs.Matching.{remote_subscribers, remote_queryables, is_untold, turned, listener_effects}
 use Rattle.zs_standing.proofs.Matched.{AreMatched, SaysMatching, matched_more, matched_none, status_is, untold_is, living_is, matched_is}
 use Rattle.zs_standing.proofs.MatchingMade.{matching_made}
 use Rattle.zs_world.proofs.Hearing.{between_same}
@@ -32,8 +32,7 @@ use Rattle.zs_model.specs.Values.{met_by, handing_of, values_now, last_value, la
 use Rattle.zs_model.specs.Answers.{is_owed, is_disjoint}
 use Rattle.zs_model.proofs.Values.{handing_next, handing_more}
 use Rattle.zs_tables.specs.Groups.{groups_of, number_of_group}
-use Rattle.zs_tables.specs.declared.group_kind.GroupKind.{GroupKind}
-use Rattle.zs_tables.specs.declared.group_kind.GroupKind.TheVariants.{Subscribers, Publishers, Queriers}
+use Rattle.zs_tables.specs.Types.{GroupKind, Subscribers, Publishers, Queriers, ToldToken}
 use Rattle.zs_model.specs.Publishers.{pub_at}
 use Rattle.zs_model.specs.Sends.{prefix_declaration}
 use Rattle.zs_model.specs.Queriers.{querier_at, querier_declaration}
@@ -51,7 +50,7 @@ use Rattle.zs_world.specs.World.{new_world}
 use Rattle.zs_standing.proofs.Decisions.{entry_for, past_with_by, cases}
 use Rattle.zs_standing.proofs.Saying.{IsMade, adds, draws_by, draws_new}
 use Rattle.zs_standing.proofs.Changes.{made}
-use Rattle.zs_world.specs.declared.change.MatchingChange.TheVariants.{AddListener, EndListener}
+use Rattle.zs_world.specs.declared.change.MatchingChange.TheVariants.{AddListener}
 use Rattle.zs_standing.proofs.Live.{AreLive, live_more, live_none, same_gets}
 use Rattle.zs_model.proofs.Sharing.{grouped_none}
 use Rattle.zs_standing.proofs.GroupNumbers.{AreShared, shared_more, members_are, number_next}
@@ -61,8 +60,7 @@ use Rattle.zs_standing.proofs.Causes.{is_first}
 use Rattle.zs_query.specs.declared.open_get.OpenGet.{OpenGet}
 use Rattle.zs_model.specs.Gets.{open_now, is_idle}
 use Rattle.zs_model.proofs.Gets.{AreAsked, IsAskedUnder, asking_by, asked_more, asked_opened}
-use Rattle.zs_tables.specs.declared.told_token.ToldToken.{ToldToken}
-use Rattle.zs_model.specs.Tokens.{told_tokens, is_spared, is_pointless}
+use Rattle.zs_model.specs.Tokens.{remote_tokens, is_spared, is_pointless}
 use Rattle.zs_standing.proofs.Watching.{AreWatched, watched_more}
 
 -- what the tables and counters are behind a past
@@ -86,17 +84,8 @@ settings_step w c = refl
 
 entity_step : (w : World) (c : Change) → (with_change c w).counters.entity ≡ (if adds c then w.counters.entity + 1 else w.counters.entity)
 entity_step w (OfEntities (AddSub row)) = refl
-entity_step w (OfEntities (AddPub row)) = refl
-entity_step w (OfEntities (AddQueryable row)) = refl
-entity_step w (OfEntities (AddQuerier row)) = refl
 entity_step w (OfLiveliness (DeclareToken id)) = refl
-entity_step w (OfLiveliness (AddLsub row)) = refl
-entity_step w (OfLiveliness (AskTokens row)) = refl
-entity_step w (OfLiveliness (EndToken id)) = refl
 entity_step w (OfMatching (AddListener row)) = refl
-entity_step w (OfMatching (EndListener id)) = refl
-entity_step w (OfEntities (EndSub id)) = refl
-entity_step w Nothing = refl
 entity_step w c = refl
 
 key_step : (w : World) (c : Change) → (with_change c w).counters.key ≡ (if draws_by c then w.counters.key + 1 else w.counters.key)
@@ -205,22 +194,22 @@ same_sight s w past e st =
     let handing : w.handing ≡ handing_of past = st.handing in
     let rows : w.entities.queryables ≡ live_queryables past = st.live.queryables.table in
     let owed : is_owed w.handing.values (row_of e).to_values ≡ is_owed (values_now past) (row_of e).to_values = ap (λ (h : Handing). is_owed h.values (row_of e).to_values) handing in
-    let drawn : is_drawn w.cancelling.next (token_named (row_of e).to_gets (row_of e).to_liveliness) ≡ is_drawn (next_cancellation_token past) (token_named (row_of e).to_gets (row_of e).to_liveliness) =
-    ap (λ (n : ℕ). is_drawn n (token_named (row_of e).to_gets (row_of e).to_liveliness)) st.cancelling.next in
-    let cancelled : is_any (is_among w.cancelling.taken) (asking_token (row_of e).to_gets (row_of e).to_liveliness) ≡ is_any (λ token. is_taken token past) (asking_token (row_of e).to_gets (row_of e).to_liveliness) =
-    any_told w.cancelling past (asking_token (row_of e).to_gets (row_of e).to_liveliness) st.cancelling in
+    let drawn : is_drawn w.cancelling.next (cancellation_token_named (row_of e).to_gets (row_of e).to_liveliness) ≡ is_drawn (next_cancellation_token past) (cancellation_token_named (row_of e).to_gets (row_of e).to_liveliness) =
+    ap (λ (n : ℕ). is_drawn n (cancellation_token_named (row_of e).to_gets (row_of e).to_liveliness)) st.cancelling.next in
+    let cancelled : is_any (is_among w.cancelling.taken) (asking_cancellation_token (row_of e).to_gets (row_of e).to_liveliness) ≡ is_any (λ token. is_taken token past) (asking_cancellation_token (row_of e).to_gets (row_of e).to_liveliness) =
+    any_told w.cancelling past (asking_cancellation_token (row_of e).to_gets (row_of e).to_liveliness) st.cancelling in
     let to : to_gets_at w e ≡ to_gets_of past e = same_gets w past e st.live in
     let disjoint : is_disjoint w.handing.values (row_of e).to_values (text_for w e) ≡ is_disjoint (values_now past) (row_of e).to_values (named_text past e) =
     λ i. is_disjoint (handing i).values (row_of e).to_values (text i) in
     let lacks : lacks_values w.handing.next (met_by w.entities.queryables (to_gets_at w e) (row_of e).to_values (text_for w e)) || has_run_out w (row_of e).draws (text_for w e)
     ≡ (lacks_values (next_value past) (met_by (live_queryables past) (to_gets_of past e) (row_of e).to_values (named_text past e)) || lacks_number s past (row_of e).draws (named_text past e)) =
     λ i. lacks_values (handing i).next (met_by (rows i) (to i) (row_of e).to_values (text i)) || spent i in
-    let untold : is_untold w.matching.told.subs w.matching.told.queryables (row_of e).to_matching ≡ is_untold (told_subs past) (told_queryables past) (row_of e).to_matching = untold_is w past (row_of e).to_matching st.matched in
-    let idle : (is_pointless (row_of e).to_liveliness || is_untold w.matching.told.subs w.matching.told.queryables (row_of e).to_matching || is_idle w.asking.gets (row_of e).to_gets (text_for w e)) ≡ (is_pointless (row_of e).to_liveliness || is_untold (told_subs past) (told_queryables past) (row_of e).to_matching || is_idle (open_now s past) (row_of e).to_gets (named_text past e)) =
+    let untold : is_untold w.matching.told.subs w.matching.told.queryables (row_of e).to_matching ≡ is_untold (remote_subscribers past) (remote_queryables past) (row_of e).to_matching = untold_is w past (row_of e).to_matching st.matched in
+    let idle : (is_pointless (row_of e).to_liveliness || is_untold w.matching.told.subs w.matching.told.queryables (row_of e).to_matching || is_idle w.asking.gets (row_of e).to_gets (text_for w e)) ≡ (is_pointless (row_of e).to_liveliness || is_untold (remote_subscribers past) (remote_queryables past) (row_of e).to_matching || is_idle (open_now s past) (row_of e).to_gets (named_text past e)) =
     ap (λ (b : Bool). is_pointless (row_of e).to_liveliness || b || is_idle w.asking.gets (row_of e).to_gets (text_for w e)) untold
-    ∙ ap (λ (b : Bool). is_pointless (row_of e).to_liveliness || is_untold (told_subs past) (told_queryables past) (row_of e).to_matching || b)
+    ∙ ap (λ (b : Bool). is_pointless (row_of e).to_liveliness || is_untold (remote_subscribers past) (remote_queryables past) (row_of e).to_matching || b)
     (ap (λ (gets : List OpenGet). is_idle gets (row_of e).to_gets (text_for w e)) st.asking.gets ∙ ap (is_idle (open_now s past) (row_of e).to_gets) text) in
-    let spared : is_spared w.liveliness.told (row_of e).to_liveliness ≡ is_spared (told_tokens s past) (row_of e).to_liveliness =
+    let spared : is_spared w.liveliness.told (row_of e).to_liveliness ≡ is_spared (remote_tokens s past) (row_of e).to_liveliness =
     ap (λ (tokens : List ToldToken). is_spared tokens (row_of e).to_liveliness) st.watched.told in
     λ i. record { text = text i; lives = lives i; claimed = claimed i; owed = owed i; drawn = drawn i; cancelled = cancelled i; disjoint = disjoint i; lacks = lacks i; idle = idle i; spared = spared i }
 
@@ -307,7 +296,7 @@ turn_decided s w past e st = go w.closed refl
         → (with_listeners w (decision_of o (number_for w e) (effects_of w e) (change_for w e))).turn ≡ answered o (number_for w e) (effects_of w e ++ listener_effects past (entry_for w e))
     by_open (Some refusal) k c = ap (λ (fx : List Effect). record (answered (Some refusal) None []) { effects = fx }) quiet
     by_open None k c =
-        let next = standing_more s w past (entry_for w e) (change_for w e) (made w e c k) (matching_made w e c k) st in
+        let next = standing_more s w past (entry_for w e) (change_for w e) (made w e c k) (matching_made w e (made w e c k) k) st in
         ap (λ (heard : List Effect). answered None (number_for w e) (effects_of w e ++ heard))
         (listeners_agree w (with_change (change_for w e) w) past (entry_for w e) st.live st.matched next.live next.matched)
 
@@ -367,7 +356,7 @@ standing s (e ∷ h) =
     subst (λ (past : List Entry). AreStanding s (world_of s past) past) (same_joins s w (past_of s h) e st)
     (cases w e (past_of s h) (λ (made_is : Decision) (past : List Entry). AreStanding s (world_of s past) past)
     (λ refusal number fx c. st) (λ shut. st)
-    (λ unshut accepted. standing_more s w (past_of s h) (entry_for w e) (change_for w e) (made w e unshut accepted) (matching_made w e unshut accepted) st))
+    (λ unshut accepted. standing_more s w (past_of s h) (entry_for w e) (change_for w e) (made w e unshut accepted) (matching_made w e (made w e unshut accepted) accepted) st))
 
 -- what holds of a decision and the past that it makes holds behind every history
 pub steps : (s : Settings) (h : List Event) (e : Event) (P : Decision → List Entry → Type 0)

@@ -39,7 +39,7 @@ along s P none more (e ∷ h) =
     steps s h e (λ (d : Decision) (past : List Entry). P (world_of s past) past)
     (cases w e (past_of s h) (λ (d : Decision) (past : List Entry). P (world_of s past) past)
     (λ refusal number fx c. p) (λ shut. p)
-    (λ unshut accepted. more w (past_of s h) (entry_for w e) (change_for w e) (made w e unshut accepted) (matching_made w e unshut accepted) p))
+    (λ unshut accepted. more w (past_of s h) (entry_for w e) (change_for w e) (made w e unshut accepted) (matching_made w e (made w e unshut accepted) accepted) p))
 
 -- a decision's change makes of the world what the event makes of it
 pub next_is : (s : Settings) (h : List Event) (e : Event) → with_change (decision (world_after s h) e).change (world_after s h) ≡ world_after s (e ∷ h)

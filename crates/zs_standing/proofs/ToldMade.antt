@@ -8,6 +8,9 @@ use Rattle.zs_events.specs.declared.chan.Chan.{Chan}
 use Rattle.zs_events.specs.declared.key_arg.KeyArg.{KeyArg}
 use Rattle.zs_wire.specs.declared.message.Message.TheVariants.{DeclareToken as token_message, DeclareSubscriber, DeclareQueryable}
 use Rattle.zs_model.specs.declared.publisher.PubRow.{PubRow}
+use Rattle.zs_tables.specs.Liveliness.{put_new}
+use Rattle.zs_tables.specs.Types.{ToldToken}
+use Rattle.zs_model.specs.Entry.{Entry}
 use Rattle.zs_world.specs.declared.change.Change.TheVariants.{Nothing, OfLiveliness}
 use Rattle.zs_world.specs.declared.change.LivelinessChange.TheVariants.{RecordToken}
 use Rattle.zs_world.specs.World.{World}
@@ -27,6 +30,7 @@ use Rattle.zs_events.specs.declared.entity_kind.ParentKind.TheVariants.{Pub as p
 use Rattle.zs_model.specs.Listeners.{listening, on_pub, on_querier}
 use Rattle.zs_world.specs.MatchingChanges.{listen_change, told_sub_change, told_queryable_change}
 use Rattle.zs_world.specs.Turns.{has_run_out, sight, is_there, is_left}
+use Rattle.zs_standing.proofs.Said.{Said, said_of, all_said}
 use Rattle.zs_standing.proofs.Saying.{IsMade, HasPassed}
 use Rattle.zs_standing.proofs.AskedMade.{neither}
 
@@ -34,15 +38,7 @@ pub lsub_made : (w : World) (history : Bool) (key : KeyArg) (text : Option (List
     → HasPassed (row_of (Lsub history key)) (record { text = text; lives = true; claimed = true; owed = true; drawn = true; cancelled = false; disjoint = false; lacks = has_run_out w EntityNumber text; idle = false; spared = false })
     → IsMade w (record { number = Some w.counters.entity; text = text; event = Lsub history key }) (lsub_change w.counters.entity history text)
 lsub_made w history key None o p = cc (p.found)
-lsub_made w history key (Some text) o p = record {
-  unclosed = o;
-  fits = (refl, p.left);
-  closes = refl;
-  keys = record { declares = λ n. refl; returns = λ n. refl; draws = refl; tells = λ n. refl; text = tt };
-  entities = record { subs = record { row = refl; drew = λ id. refl; ended = λ id. refl }; pubs = record { row = refl; drew = λ id. refl; ended = λ id. refl }; queryables = record { row = refl; drew = λ id. refl; ended = λ id. refl }; queriers = record { row = refl; drew = λ id. refl; ended = λ id. refl }; left = λ kind id. refl; number = refl; draws = refl };
-  gets = record { asking = refl; handing = refl; under = tt; counted = refl; cancelling = refl };
-  liveliness = record { asks = refl; ends = λ g. refl; told = refl; tokens = record { row = refl; drew = λ id. refl; ended = λ id. refl }; lsubs = record { row = refl; drew = λ id. refl; ended = λ id. refl } };
-}
+lsub_made w history key (Some text) o p = all_said o (refl, p.left) tt refl tt refl
 
 pub tokens_made : (w : World) (key : KeyArg) (timeout token : Option ℕ) (to : Chan) (text : Option (List ℕ)) → w.closed ≡ false
     → HasPassed (row_of (LivelinessGet key timeout token to))
@@ -64,50 +60,23 @@ tokens_made w key timeout token to None o p =
     let undrawn : Bool = not (is_drawn w.cancelling.next token) || false in
     let found : ((undrawn || true) || false) ≡ false = (neither ((undrawn || true) || false) false p.found).0 in
     let no : true ≡ false = (neither undrawn true (neither (undrawn || true) false found).0).1 in cc
-tokens_made w key timeout token to (Some text) o p = record {
-  unclosed = o;
-  fits = (refl, p.left);
-  closes = refl;
-  keys = record { declares = λ n. refl; returns = λ n. refl; draws = refl; tells = λ n. refl; text = tt };
-  entities = record { subs = record { row = refl; drew = λ id. refl; ended = λ id. refl }; pubs = record { row = refl; drew = λ id. refl; ended = λ id. refl }; queryables = record { row = refl; drew = λ id. refl; ended = λ id. refl }; queriers = record { row = refl; drew = λ id. refl; ended = λ id. refl }; left = λ kind id. refl; number = refl; draws = refl };
-  gets = record { asking = refl; handing = refl; under = tt; counted = refl; cancelling = refl };
-  liveliness = record { asks = refl; ends = λ g. refl; told = refl; tokens = record { row = refl; drew = λ id. refl; ended = λ id. refl }; lsubs = record { row = refl; drew = λ id. refl; ended = λ id. refl } };
-}
+tokens_made w key timeout token to (Some text) o p = all_said o (refl, p.left) tt refl tt refl
 
 pub told_made : (w : World) (id : ℕ) (wire : WireExpr) (interest : Option ℕ) (text : Option (List ℕ)) → w.closed ≡ false
     → IsMade w (record { number = None; text = text; event = Net (token_message id wire interest) }) (told_change w.liveliness.gets id interest text)
-told_made w id wire interest None o = record {
-  unclosed = o;
-  fits = tt;
-  closes = refl;
-  keys = record { declares = λ n. refl; returns = λ n. refl; draws = refl; tells = λ n. refl; text = tt };
-  entities = record { subs = record { row = refl; drew = λ id. refl; ended = λ id. refl }; pubs = record { row = refl; drew = λ id. refl; ended = λ id. refl }; queryables = record { row = refl; drew = λ id. refl; ended = λ id. refl }; queriers = record { row = refl; drew = λ id. refl; ended = λ id. refl }; left = λ kind id. refl; number = tt; draws = refl };
-  gets = record { asking = refl; handing = refl; under = tt; counted = refl; cancelling = refl };
-  liveliness = record { asks = refl; ends = λ g. refl; told = refl; tokens = record { row = refl; drew = λ id. refl; ended = λ id. refl }; lsubs = record { row = refl; drew = λ id. refl; ended = λ id. refl } };
-}
+told_made w id wire interest None o = all_said o tt tt tt tt refl
 told_made w id wire interest (Some text) o = go (answers interest w.liveliness.gets) refl
   where
-    go : (b : Bool) → answers interest w.liveliness.gets ≡ b
-        → IsMade w (record { number = None; text = Some text; event = Net (token_message id wire interest) })
-        (if b then Nothing else OfLiveliness (RecordToken (record { number = id; key = undeclared text })))
-    go true is = record {
-      unclosed = o;
-      fits = tt;
-      closes = refl;
-      keys = record { declares = λ n. refl; returns = λ n. refl; draws = refl; tells = λ n. refl; text = tt };
-      entities = record { subs = record { row = refl; drew = λ id. refl; ended = λ id. refl }; pubs = record { row = refl; drew = λ id. refl; ended = λ id. refl }; queryables = record { row = refl; drew = λ id. refl; ended = λ id. refl }; queriers = record { row = refl; drew = λ id. refl; ended = λ id. refl }; left = λ kind id. refl; number = tt; draws = refl };
-      gets = record { asking = refl; handing = refl; under = tt; counted = refl; cancelling = refl };
-      liveliness = record { asks = refl; ends = λ g. refl; told = rw is refl; tokens = record { row = refl; drew = λ id. refl; ended = λ id. refl }; lsubs = record { row = refl; drew = λ id. refl; ended = λ id. refl } };
-    }
-    go false is = record {
-      unclosed = o;
-      fits = tt;
-      closes = refl;
-      keys = record { declares = λ n. refl; returns = λ n. refl; draws = refl; tells = λ n. refl; text = tt };
-      entities = record { subs = record { row = refl; drew = λ id. refl; ended = λ id. refl }; pubs = record { row = refl; drew = λ id. refl; ended = λ id. refl }; queryables = record { row = refl; drew = λ id. refl; ended = λ id. refl }; queriers = record { row = refl; drew = λ id. refl; ended = λ id. refl }; left = λ kind id. refl; number = tt; draws = refl };
-      gets = record { asking = refl; handing = refl; under = tt; counted = refl; cancelling = refl };
-      liveliness = record { asks = refl; ends = λ g. refl; told = rw is refl; tokens = record { row = refl; drew = λ id. refl; ended = λ id. refl }; lsubs = record { row = refl; drew = λ id. refl; ended = λ id. refl } };
-    }
+    x : Entry
+    x = record { number = None; text = Some text; event = Net (token_message id wire interest) }
+
+    -- what it says, by whether it answers a get
+    heard : Bool → Said
+    heard b = record (said_of w x) { told = if b then w.liveliness.told else put_new (λ (t : ToldToken). t.number) (record { number = id; key = undeclared text }) w.liveliness.told }
+
+    go : (b : Bool) → answers interest w.liveliness.gets ≡ b → IsMade w x (if b then Nothing else OfLiveliness (RecordToken (record { number = id; key = undeclared text })))
+    go true is = all_said o tt tt tt tt (λ i. heard (is i))
+    go false is = all_said o tt tt tt tt (λ i. heard (is i))
 
 -- the number of a listener
 abbrev pub head_id : ℕ → List ListenerRow → ℕ
@@ -149,55 +118,15 @@ pub listen_made : (w : World) (parent : ParentKind) (id : ℕ) (rows : List List
     → HasPassed (row_of (Listen parent id)) (sight w (Listen parent id))
     → IsMade w (record { number = Some w.counters.entity; text = None; event = Listen parent id }) (listen_change rows)
 listen_made w parent id [] e o p = absurd (unfound (is_there (parent_kind_of parent) id w) (is_left (parent_kind_of parent) id w) (none_listening w parent id e) p.found)
-listen_made w parent id (row ∷ rows) e o p = record {
-  unclosed = o;
-  fits = (sym (ap (head_id w.counters.entity) e) ∙ listening_id w.entities.pubs w.entities.queriers w.counters.entity parent id, p.left);
-  closes = refl;
-  keys = record { declares = λ n. refl; returns = λ n. refl; draws = refl; tells = λ n. refl; text = tt };
-  entities = record { subs = record { row = refl; drew = λ id. refl; ended = λ id. refl }; pubs = record { row = refl; drew = λ id. refl; ended = λ id. refl }; queryables = record { row = refl; drew = λ id. refl; ended = λ id. refl }; queriers = record { row = refl; drew = λ id. refl; ended = λ id. refl }; left = λ kind id. refl; number = ap (λ (n : ℕ). Some n) (sym (listening_id w.entities.pubs w.entities.queriers w.counters.entity parent id) ∙ ap (head_id w.counters.entity) e); draws = refl };
-  gets = record { asking = refl; handing = refl; under = tt; counted = refl; cancelling = refl };
-  liveliness = record { asks = refl; ends = λ g. refl; told = refl; tokens = record { row = refl; drew = λ id. refl; ended = λ id. refl }; lsubs = record { row = refl; drew = λ id. refl; ended = λ id. refl } };
-}
+listen_made w parent id (row ∷ rows) e o p = all_said o (sym (ap (head_id w.counters.entity) e) ∙ listening_id w.entities.pubs w.entities.queriers w.counters.entity parent id, p.left) tt (ap (λ (n : ℕ). Some n) (sym (listening_id w.entities.pubs w.entities.queriers w.counters.entity parent id) ∙ ap (head_id w.counters.entity) e)) tt refl
 
 -- a subscriber that the network tells, and a queryable
 pub told_sub_made : (w : World) (id : ℕ) (wire : WireExpr) (text : Option (List ℕ)) → w.closed ≡ false
     → IsMade w (record { number = None; text = text; event = Net (DeclareSubscriber id wire) }) (told_sub_change id text)
-told_sub_made w id wire None o = record {
-  unclosed = o;
-  fits = tt;
-  closes = refl;
-  keys = record { declares = λ n. refl; returns = λ n. refl; draws = refl; tells = λ n. refl; text = tt };
-  entities = record { subs = record { row = refl; drew = λ id. refl; ended = λ id. refl }; pubs = record { row = refl; drew = λ id. refl; ended = λ id. refl }; queryables = record { row = refl; drew = λ id. refl; ended = λ id. refl }; queriers = record { row = refl; drew = λ id. refl; ended = λ id. refl }; left = λ kind id. refl; number = tt; draws = refl };
-  gets = record { asking = refl; handing = refl; under = tt; counted = refl; cancelling = refl };
-  liveliness = record { asks = refl; ends = λ g. refl; told = refl; tokens = record { row = refl; drew = λ id. refl; ended = λ id. refl }; lsubs = record { row = refl; drew = λ id. refl; ended = λ id. refl } };
-}
-told_sub_made w id wire (Some text) o = record {
-  unclosed = o;
-  fits = tt;
-  closes = refl;
-  keys = record { declares = λ n. refl; returns = λ n. refl; draws = refl; tells = λ n. refl; text = tt };
-  entities = record { subs = record { row = refl; drew = λ id. refl; ended = λ id. refl }; pubs = record { row = refl; drew = λ id. refl; ended = λ id. refl }; queryables = record { row = refl; drew = λ id. refl; ended = λ id. refl }; queriers = record { row = refl; drew = λ id. refl; ended = λ id. refl }; left = λ kind id. refl; number = tt; draws = refl };
-  gets = record { asking = refl; handing = refl; under = tt; counted = refl; cancelling = refl };
-  liveliness = record { asks = refl; ends = λ g. refl; told = refl; tokens = record { row = refl; drew = λ id. refl; ended = λ id. refl }; lsubs = record { row = refl; drew = λ id. refl; ended = λ id. refl } };
-}
+told_sub_made w id wire None o = all_said o tt tt tt tt refl
+told_sub_made w id wire (Some text) o = all_said o tt tt tt tt refl
 
 pub told_queryable_made : (w : World) (id : ℕ) (complete : Bool) (wire : WireExpr) (text : Option (List ℕ)) → w.closed ≡ false
     → IsMade w (record { number = None; text = text; event = Net (DeclareQueryable id complete wire) }) (told_queryable_change id complete text)
-told_queryable_made w id complete wire None o = record {
-  unclosed = o;
-  fits = tt;
-  closes = refl;
-  keys = record { declares = λ n. refl; returns = λ n. refl; draws = refl; tells = λ n. refl; text = tt };
-  entities = record { subs = record { row = refl; drew = λ id. refl; ended = λ id. refl }; pubs = record { row = refl; drew = λ id. refl; ended = λ id. refl }; queryables = record { row = refl; drew = λ id. refl; ended = λ id. refl }; queriers = record { row = refl; drew = λ id. refl; ended = λ id. refl }; left = λ kind id. refl; number = tt; draws = refl };
-  gets = record { asking = refl; handing = refl; under = tt; counted = refl; cancelling = refl };
-  liveliness = record { asks = refl; ends = λ g. refl; told = refl; tokens = record { row = refl; drew = λ id. refl; ended = λ id. refl }; lsubs = record { row = refl; drew = λ id. refl; ended = λ id. refl } };
-}
-told_queryable_made w id complete wire (Some text) o = record {
-  unclosed = o;
-  fits = tt;
-  closes = refl;
-  keys = record { declares = λ n. refl; returns = λ n. refl; draws = refl; tells = λ n. refl; text = tt };
-  entities = record { subs = record { row = refl; drew = λ id. refl; ended = λ id. refl }; pubs = record { row = refl; drew = λ id. refl; ended = λ id. refl }; queryables = record { row = refl; drew = λ id. refl; ended = λ id. refl }; queriers = record { row = refl; drew = λ id. refl; ended = λ id. refl }; left = λ kind id. refl; number = tt; draws = refl };
-  gets = record { asking = refl; handing = refl; under = tt; counted = refl; cancelling = refl };
-  liveliness = record { asks = refl; ends = λ g. refl; told = refl; tokens = record { row = refl; drew = λ id. refl; ended = λ id. refl }; lsubs = record { row = refl; drew = λ id. refl; ended = λ id. refl } };
-}
+told_queryable_made w id complete wire None o = all_said o tt tt tt tt refl
+told_queryable_made w id complete wire (Some text) o = all_said o tt tt tt tt refl

@@ -9,8 +9,7 @@ use mathlib.Core.List.{append-nil}
 use Rattle.zs_tables.specs.Ascending.{placed_by}
 use Rattle.zs_tables.specs.Liveliness.{put_new}
 use Rattle.zs_tables.specs.LivelinessGets.{is_over, is_own}
-use Rattle.zs_tables.specs.declared.liveliness_get.LivelinessGet.{LivelinessGet}
-use Rattle.zs_tables.specs.declared.liveliness_sub.LivelinessSub.{LivelinessSub}
+use Rattle.zs_tables.specs.Types.{LivelinessGet, LivelinessSub}
 use Rattle.zs_tables.proofs.Ascending.{all_filter}
 use Rattle.zs_events.specs.Kinds.{row_of}
 use Rattle.zs_events.specs.declared.event.Event.{Event}
@@ -29,7 +28,7 @@ use Rattle.zs_model.specs.Entry.{Entry}
 use Rattle.zs_model.specs.Live.{declared, is_live}
 use Rattle.zs_model.specs.Liveliness.{token_row, lsub_row}
 use Rattle.zs_model.specs.Gets.{moment_of}
-use Rattle.zs_model.specs.Tokens.{tokens_asked, ends_asking, unended, asking_now, told_behind, told_tokens}
+use Rattle.zs_model.specs.Tokens.{tokens_asked, ends_asking, unended, asking_now, told_behind, remote_tokens}
 use Rattle.zs_world.specs.LivelinessChanges.{next_behind}
 use Rattle.zs_world.specs.declared.change.MatchingChange.{MatchingChange}
 use Rattle.zs_world.specs.declared.change.MatchingChange.TheVariants.{AddListener}
@@ -68,8 +67,6 @@ put_last number kind row_of rows next past new is l =
 -- no change takes a number back
 pub never_down : (c : LivelinessChange) (next : ℕ) → next ≤ next_behind c next
 never_down (DeclareToken id) next = omega arith
-never_down (AddLsub row) next = omega arith
-never_down (AskTokens row) next = omega arith
 never_down c next = omega arith
 
 pub listening_up : (c : MatchingChange) (next : ℕ) → next ≤ next_listening c next
@@ -118,7 +115,7 @@ or_false false = refl
 pub record AreWatched (s : Settings) (w : World) (past : List Entry) : Type 0 where
   pub gets : w.liveliness.gets ≡ asking_now s past
   pub below : AllByRecursion (λ g. g.number < w.counters.entity) w.liveliness.gets
-  pub told : w.liveliness.told ≡ told_tokens s past
+  pub told : w.liveliness.told ≡ remote_tokens s past
 
 filter_true : {X : Type 0} (xs : List X) → filter (λ x. true) xs ≡ xs
 filter_true [] = refl
@@ -151,7 +148,6 @@ entity_up w (OfEntities (AddQueryable row)) = omega arith
 entity_up w (OfEntities (AddQuerier row)) = omega arith
 entity_up w (OfLiveliness change) = never_down change w.counters.entity
 entity_up w (OfMatching change) = listening_up change w.counters.entity
-entity_up w Nothing = same w.counters.entity
 entity_up w c = same w.counters.entity
 
 asked_below : (w : World) (c : Change) → Fits w c → AllByRecursion (λ (g : LivelinessGet). g.number < (with_change c w).counters.entity) (asks_by c)

@@ -6,7 +6,7 @@ use Rattle.std.specs.Option.{IfSome}
 use Rattle.zs_wire.specs.declared.wire_expr.Mapping.{Mapping}
 use Rattle.zs_tables.specs.Ascending.{Ascend}
 use Rattle.zs_tables.specs.Groups.{groups_of, members_of, number_of_group}
-use Rattle.zs_tables.specs.declared.group_kind.GroupKind.{GroupKind}
+use Rattle.zs_tables.specs.Types.{GroupKind}
 use Rattle.zs_tables.specs.Numbers.{key_at}
 use Rattle.zs_tables.specs.Recipients.{matches, has_network}
 use Rattle.zs_events.specs.declared.event.Event.{Event}
@@ -37,7 +37,7 @@ use Rattle.zs_tables.specs.declared.told_row.ToldSub.{ToldSub}
 use Rattle.zs_tables.specs.declared.told_row.ToldQueryable.{ToldQueryable}
 use Rattle.zs_tables.specs.MatchingLaws.{differ}
 use Rattle.zs_model.specs.Listeners.{is_listener}
-use Rattle.zs_model.specs.Matching.{told_subs, told_queryables, is_matched}
+use Rattle.zs_model.specs.Matching.{remote_subscribers, remote_queryables, is_matched}
 use Rattle.zs_model.specs.Heard.{told_to, last_told}
 use Rattle.zs_world.specs.Keys.{numbers_for}
 use Rattle.zs_world.specs.DeclaredKeys.{holders_of}
@@ -238,8 +238,8 @@ ListenersAreLive = (s : Settings) (h : List Event) → (world_after s h).matchin
 abbrev pub ToldAreLast : Type 0
 ToldAreLast =
     (s : Settings) (h : List Event)
-    → ((test : ToldSub → Bool) → list_any test (world_after s h).matching.told.subs ≡ list_any test (told_subs (past_of s h)))
-    × ((test : ToldQueryable → Bool) → list_any test (world_after s h).matching.told.queryables ≡ list_any test (told_queryables (past_of s h)))
+    → ((test : ToldSub → Bool) → list_any test (world_after s h).matching.told.subs ≡ list_any test (remote_subscribers (past_of s h)))
+    × ((test : ToldQueryable → Bool) → list_any test (world_after s h).matching.told.queryables ≡ list_any test (remote_queryables (past_of s h)))
 
 -- each live listener was told last whether anyone matches, or nobody does and it was told nothing
 abbrev pub ListenersKnow : Type 0

@@ -49,7 +49,7 @@ impl Step<LivelinessSubs> for Act {
                 true
             }
             Act::Has(id, is) => subs.has(*id) == *is,
-            Act::Rows(count) => subs.rows().len() == *count,
+            Act::Rows(count) => subs.len() == *count,
             Act::Hears(history, ids) => hears(alloc, subs, *history, ids),
         }
     }

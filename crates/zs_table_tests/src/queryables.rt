@@ -30,8 +30,7 @@ fn adds(
     let Ok(key) = KeyExpr::new(text) else {
         return false;
     };
-    let rows = table.rows();
-    if !rows.iter().all(|row| row.id < id) {
+    if !table.is_above(id) {
         return false;
     }
     let row = QueryableRow {

@@ -1,10 +1,11 @@
 //! The table of subscribers and numbers, by scripts: each step does something and says what it has to find.
 
 ghost use Rattle.std.specs.Prelude.{◌≡◌, ◌<◌, IsSome};
-ghost use Rattle.zs_tables.specs.Contents.{text_meant};
+ghost use Rattle.zs_tables.specs.Contents.{numbers_of, text_meant};
+ghost use Rattle.zs_tables.specs.Numbers.{key_at};
 
 use crate::script::{Step, first_wrong};
-use std::alloc::Global;
+use std::alloc::{AllocError, Global};
 use std::marker::Brand;
 use std::sync::ledger::{Blank, Ledger};
 use zs_keys::{KeyExpr, Steps};
@@ -42,8 +43,7 @@ fn adds(tables: &mut Tables, id: u32, origin: Locality, text: &'static str) -> b
     let Ok(key) = KeyExpr::new(text) else {
         return false;
     };
-    let rows = tables.rows();
-    if !rows.iter().all(|row| row.id < id) {
+    if !tables.is_above(id) {
         return false;
     }
     tables.add(SubRow { id, origin, key }).is_ok()
@@ -67,6 +67,40 @@ fn lists(tables: &Tables, mapping: Mapping, number: u16, ids: &[u32]) -> bool {
     }
 }
 
+/// Makes a list the recipients, with a counter of its own.
+fn reach<L: Ledger>(
+    tables: &Tables,
+    key: &KeyExpr<'_>,
+    local: bool,
+    found: &mut Vec<u32>,
+    blank: Blank,
+) -> Result<(), AllocError>
+    requires name { blank.name ≡ L.name }
+    requires parts { blank.parts ≡ L.parts }
+    requires some { 0 < blank.parts }
+{
+    let mut steps = Steps::<L>::new(blank);
+    tables.recipients_into(key, local, found, &mut steps)
+}
+
+/// Makes a list those of a number, with a counter of its own.
+fn reach_by_number<L: Ledger>(
+    tables: &Tables,
+    mapping: Mapping,
+    number: u16,
+    local: bool,
+    found: &mut Vec<u32>,
+    blank: Blank,
+) -> Result<(), AllocError>
+    requires known { IsSome (key_at number (numbers_of mapping tables.now)) }
+    requires name { blank.name ≡ L.name }
+    requires parts { blank.parts ≡ L.parts }
+    requires some { 0 < blank.parts }
+{
+    let mut steps = Steps::<L>::new(blank);
+    tables.recipients_of_number_into(mapping, number, local, found, &mut steps)
+}
+
 /// Whether a publication reaches just these, by a list that holds something.
 fn reaches(alloc: Global, tables: &Tables, text: &'static str, local: bool, ids: &[u32]) -> bool {
     let Ok(key) = KeyExpr::new(text) else {
@@ -75,7 +109,7 @@ fn reaches(alloc: Global, tables: &Tables, text: &'static str, local: bool, ids:
     let Ok(mut found) = [9].to_vec(alloc) else {
         return false;
     };
-    let done = tables.recipients_into(&key, local, &mut found).is_ok();
+    let done = reach::<Brand>(tables, &key, local, &mut found, Blank::new(1)).is_ok();
     done && found.as_slice() == ids
 }
 
@@ -93,9 +127,14 @@ fn reaches_by_number(
     let Ok(mut found) = [9].to_vec(alloc) else {
         return false;
     };
-    let done = tables
-        .recipients_of_number_into(mapping, number, local, &mut found)
-        .is_ok();
+    let done = reach_by_number::<Brand>(
+        tables,
+        mapping,
+        number,
+        local,
+        &mut found,
+        Blank::new(1),
+    ).is_ok();
     done && found.as_slice() == ids
 }
 
@@ -155,7 +194,7 @@ impl Step<Tables> for Act {
 /// The steps that change nothing.
 fn finds(alloc: Global, tables: &Tables, act: &Act) -> bool {
     match act {
-        Act::Rows(count) => tables.rows().len() == *count,
+        Act::Rows(count) => tables.len() == *count,
         Act::Unknown(mapping, number) => is_unknown(tables, *mapping, *number),
         Act::Lists(mapping, number, ids) => lists(tables, *mapping, *number, ids),
         Act::NumberOf(text, number) => tables.number_of(text) == *number,

@@ -39,22 +39,24 @@ fn sets_queryable(told: &mut ToldTable, number: u32, complete: bool, text: &'sta
     told.set_queryable(row).is_ok()
 }
 
-fn subscribes(told: &ToldTable, text: &'static str, is: bool) -> bool {
+fn subscribes(alloc: Global, told: &ToldTable, text: &'static str, is: bool) -> bool {
     let Ok(key) = KeyExpr::new(text) else {
         return false;
     };
-    told.is_subscribed(&key) == is
+    let mut numbers = Vec::new(alloc);
+    told.subs_into(&key, &mut numbers).is_ok() && numbers.is_empty() != is
 }
 
-fn answers(told: &ToldTable, text: &'static str, complete: bool, is: bool) -> bool {
+fn answers(alloc: Global, told: &ToldTable, text: &'static str, complete: bool, is: bool) -> bool {
     let Ok(key) = KeyExpr::new(text) else {
         return false;
     };
-    told.is_answered(&key, complete) == is
+    let mut numbers = Vec::new(alloc);
+    told.answering_into(&key, complete, &mut numbers).is_ok() && numbers.is_empty() != is
 }
 
 impl Step<ToldTable> for Act {
-    fn holds(&self, _alloc: Global, told: &mut ToldTable) -> bool {
+    fn holds(&self, alloc: Global, told: &mut ToldTable) -> bool {
         match self {
             Act::SetSub(number, text) => sets_sub(told, *number, text),
             Act::UnsetSub(number, was) => told.unset_sub(*number) == *was,
@@ -63,8 +65,8 @@ impl Step<ToldTable> for Act {
             }
             Act::UnsetQueryable(number, was) => told.unset_queryable(*number) == *was,
             Act::HasQueryable(number, is) => told.find_queryable(*number).is_some() == *is,
-            Act::Subscribed(text, is) => subscribes(told, text, *is),
-            Act::Answered(text, complete, is) => answers(told, text, *complete, *is),
+            Act::Subscribed(text, is) => subscribes(alloc, told, text, *is),
+            Act::Answered(text, complete, is) => answers(alloc, told, text, *complete, *is),
         }
     }
 }

@@ -56,6 +56,21 @@ fn removes(tree: &mut KeyTree, text: &'static str, id: u32) -> bool {
     }
 }
 
+/// Makes a list the numbers that the tree finds, with a counter of its own.
+fn gathers<L: Ledger>(
+    tree: &KeyTree,
+    key: &KeyExpr<'_>,
+    found: &mut Vec<u32>,
+    blank: Blank,
+) -> Result<(), AllocError>
+    requires name { blank.name ≡ L.name }
+    requires parts { blank.parts ≡ L.parts }
+    requires some { 0 < blank.parts }
+{
+    let mut steps = Steps::<L>::new(blank);
+    tree.matches_into(key, found, &mut steps)
+}
+
 /// Whether the tree finds just these, by a list that holds something.
 fn finds(alloc: Global, tree: &KeyTree, text: &'static str, ids: &[u32]) -> bool {
     let Ok(key) = KeyExpr::new(text) else {
@@ -64,7 +79,7 @@ fn finds(alloc: Global, tree: &KeyTree, text: &'static str, ids: &[u32]) -> bool
     let Ok(mut found) = [7, 1, 3, 4].to_vec(alloc) else {
         return false;
     };
-    let done = tree.matches_into(&key, &mut found).is_ok();
+    let done = gathers::<Brand>(tree, &key, &mut found, Blank::new(1)).is_ok();
     done && found.as_slice() == ids
 }
 
@@ -190,7 +205,7 @@ fn finds_the_same(
     asked: &KeyExpr<'_>,
 ) -> Result<bool, AllocError> {
     let mut found = Vec::new(alloc);
-    tree.matches_into(asked, &mut found)?;
+    gathers::<Brand>(tree, asked, &mut found, Blank::new(1))?;
     let expected = meeting(alloc, keys, asked)?;
     Ok(found.as_slice() == expected.as_slice())
 }

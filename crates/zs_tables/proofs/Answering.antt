@@ -17,7 +17,7 @@ use Rattle.zs_tables.specs.declared.told_row.ToldSub.{ToldSub}
 use Rattle.zs_tables.specs.declared.told_row.ToldQueryable.{ToldQueryable}
 use Rattle.zs_tables.specs.Recipients.{takes}
 use Rattle.zs_tables.specs.Queryables.{answers_for, answers_whole}
-use Rattle.zs_tables.specs.Told.{Told, answers}
+use Rattle.zs_tables.specs.Told.{Told, is_whole, answers}
 use Rattle.zs_tables.specs.Matching.{candidates, count_of, is_sought}
 use Rattle.zs_tables.specs.Present.{own_sought, own_count, told_sought, told_count}
 use Rattle.zs_tables.proofs.ByKey.{by_test}
@@ -79,6 +79,14 @@ whole_is_for false text is q = absurd (cc)
 
 pub meets_is_for : (complete : Bool) (text : List ℕ) → complete ≡ false → (q : QueryableRow) → intersects text q.key.text ≡ answers_for complete text q
 meets_is_for complete text is q = rw is (meet_both text q.key.text)
+
+-- the same of those that the other side declared
+pub told_whole_is_for : (complete : Bool) (text : List ℕ) → complete ≡ true → (q : ToldQueryable) → (is_whole text q && intersects text q.key.text) ≡ answers complete text q
+told_whole_is_for true text is q = both_include q.complete q.key.text text
+told_whole_is_for false text is q = absurd (cc)
+
+pub told_meets_is_for : (complete : Bool) (text : List ℕ) → complete ≡ false → (q : ToldQueryable) → intersects text q.key.text ≡ answers complete text q
+told_meets_is_for complete text is q = rw is (meet_both text q.key.text)
 
 own_by : (b : Bool) (sought : Sought) (mine : List ℕ) (subs : List SubRow) (queryables : List QueryableRow)
     → (if b then own_sought sought mine subs queryables else 0)

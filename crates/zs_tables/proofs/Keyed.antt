@@ -1,4 +1,4 @@
--- The tree has the keys of the subscribers.
+-- Those that match, looked up in the tree of keys.
 use Rattle.std.proofs.Common.{◌≡◌, ◌≢◌, ℕ, zero, suc, ◌<◌, Bool, true, false, List, [], ◌∷◌, ◌++◌, length, get_or, Option, Some, None, refl, sym, ap, ◌∙◌, arith}
 use Rattle.std.specs.Prelude.{◌==◌, ◌&&◌, nat_lt, not, map, filter, All, bytes_eq}
 use Rattle.std.specs.List.{AllByRecursion, find}
@@ -6,17 +6,13 @@ use Rattle.std.specs.Cmp.Lexicographic.{nat_list_eq_equiv}
 use Rattle.std.proofs.lemmas.Bool.Decides.{nat_tests}
 use Rattle.std.proofs.lemmas.List.Elements.{recursion_from_All, All-from_recursion}
 use Rattle.zs_keys.specs.Matching.{intersects}
-use Rattle.zs_tree.specs.Rows.{Row, is_row, first_above, is_above, placed as tree_placed, matches as tree_matches}
+use Rattle.zs_tree.specs.Rows.{first_above}
 use Rattle.zs_tables.specs.declared.subscriber.SubRow.{SubRow}
 use Rattle.zs_tables.specs.Ascending.{Ascend}
 use Rattle.zs_tables.specs.Recipients.{matches, takes, receives, recipients, is_behind, first_behind, next_recipient}
-use Rattle.zs_tables.specs.Lists.{keyed, takes_by_id}
-use Rattle.zs_tables.proofs.ByKey.{by_test, kept, tree_matches_is as keyed_matches_is}
+use Rattle.zs_tables.specs.Lists.{takes_by_id}
+use Rattle.zs_tables.proofs.ByKey.{by_test, kept}
 use Rattle.zs_tables.proofs.Walking.{ids_next, first_of_numbers}
-
--- what matches in the tree is what matches
-pub tree_matches_is : (text : List ℕ) (rows : List SubRow) (tree : List Row) → tree ≡ map keyed rows → tree_matches text tree ≡ matches text rows
-tree_matches_is text rows tree is = keyed_matches_is (λ row. row.id) (λ row. row.key.text) text rows tree is
 
 -- the first above a number is the first behind it
 pub above_behind : (after : Option ℕ) (ids : List ℕ) → first_above after ids ≡ first_behind after ids
@@ -59,16 +55,15 @@ sought_none p ids after last s up none =
     sym (s.same ∙ ap (find p) all)
 
 -- of all that match, those that take it are the recipients
-pub takers : (local : Bool) (text : List ℕ) (rows : List SubRow) (tree : List Row) (found out : List ℕ) → Ascend (λ row. row.id) rows
-    → tree ≡ map keyed rows → found ≡ tree_matches text tree → out ≡ filter (takes_by_id local rows) found → out ≡ recipients local text rows
-takers local text rows tree found out up is p q =
-    kept (λ row. row.id) (λ row. row.key.text) (λ row. takes local row.origin) text rows found out up (p ∙ tree_matches_is text rows tree is) q
+pub takers : (local : Bool) (text : List ℕ) (rows : List SubRow) (found out : List ℕ) → Ascend (λ row. row.id) rows
+    → found ≡ matches text rows → out ≡ filter (takes_by_id local rows) found → out ≡ recipients local text rows
+takers local text rows found out up p q =
+    kept (λ row. row.id) (λ row. row.key.text) (λ row. takes local row.origin) text rows found out up p q
 
--- by text the first that takes it of those in the tree is the next recipient
-pub next_by_tree : (local : Bool) (own_text text : List ℕ) (after : Option ℕ) (rows : List SubRow) (tree : List Row) → Ascend (λ row. row.id) rows
-    → tree ≡ map keyed rows → Some own_text ≡ Some text
-    → find (takes_by_id local rows) (filter (is_behind after) (tree_matches own_text tree)) ≡ next_recipient local text after rows
-next_by_tree local own_text text after rows tree up is meant =
+-- by text the first that takes it of those that match is the next recipient
+pub next_by_tree : (local : Bool) (own_text text : List ℕ) (after : Option ℕ) (rows : List SubRow) → Ascend (λ row. row.id) rows
+    → Some own_text ≡ Some text
+    → find (takes_by_id local rows) (filter (is_behind after) (matches own_text rows)) ≡ next_recipient local text after rows
+next_by_tree local own_text text after rows up meant =
     let same : own_text ≡ text = cc in
-    ap (λ (ids : List ℕ). find (takes_by_id local rows) (filter (is_behind after) ids)) (tree_matches_is own_text rows tree is)
-    ∙ first_of_numbers local own_text after rows up ∙ ap (λ (t : List ℕ). next_recipient local t after rows) same
+    first_of_numbers local own_text after rows up ∙ ap (λ (t : List ℕ). next_recipient local t after rows) same

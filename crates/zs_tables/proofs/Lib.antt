@@ -6,11 +6,8 @@ pub mod Walking
 pub mod Changing
 pub mod Indexing
 pub mod Keyed
-pub mod GroupLemmas
 pub mod Tabled
-pub mod Putting
-pub mod Telling
-pub mod Pairs
+pub mod Parents
 pub mod Merging
 pub mod Recounting
 pub mod Counting

@@ -16,7 +16,7 @@ use Rattle.zs_tables.specs.MatchingLaws.{one_if, Moves, Heard, heard, told_of, d
 use Rattle.zs_tables.proofs.Ascending.{all_weaker, all_map, all_filter}
 use Rattle.zs_tables.proofs.ByKey.{by_test, passed}
 use Rattle.zs_tables.proofs.Counting.{count_push, count_append, count_map, count_without, count_placed, any_counted}
-use Rattle.zs_tables.proofs.Pairs.{set_nobody}
+use Rattle.zs_tables.proofs.Parents.{set_nobody}
 
 -- the counts of the four sorts of candidates
 abbrev own_subs_of : ListenerRow → List SubRow → ℕ

@@ -56,7 +56,7 @@ unmet_stays goes comes l h =
     (suits_meets comes l.row (or_right (meets_if goes l.row) (meets_if comes l.row) h))
 
 -- each listener is found by its number
-found_each : (ls : List Listener) → Ascend (λ (l : Listener). l.row.id) ls → AllByRecursion (λ (l : Listener). find (λ (other : Listener). other.row.id == l.row.id) ls ≡ Some l) ls
+pub found_each : (ls : List Listener) → Ascend (λ (l : Listener). l.row.id) ls → AllByRecursion (λ (l : Listener). find (λ (other : Listener). other.row.id == l.row.id) ls ≡ Some l) ls
 found_each [] up = tt
 found_each (l ∷ ls) up = (
   grind (arith, nat_tests),

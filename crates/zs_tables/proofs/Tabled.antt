@@ -3,6 +3,7 @@ use Rattle.std.proofs.Common.{◌≡◌, ℕ, ◌<◌, Bool, true, false, List, 
 use Rattle.std.specs.Prelude.{◌==◌, not, map, filter, All}
 use Rattle.std.specs.Option.{option_map, ForSome}
 use Rattle.std.specs.List.{AllByRecursion, find}
+use Rattle.std.proofs.lemmas.Bool.Decides.{nat_tests}
 use Rattle.std.proofs.lemmas.List.Elements.{recursion_from_All, All-from_recursion}
 use Rattle.zs_keys.specs.Key.{Key}
 use Rattle.zs_wire.specs.declared.wire_expr.Mapping.{Mapping}
@@ -155,3 +156,18 @@ lists_ascend rows numbers up is =
     All-from_recursion IsAscending numbers
     (all_weaker (λ (row : NumberRow). row.matches.items ≡ matches row.key.text rows) IsAscending (λ row is. rw is (matches_ascend row.key.text rows up)) numbers
     (all_unmap (λ (n : Listed). n.matches ≡ matches n.key.text rows) shown numbers is.current))
+
+found_last : (row : SubRow) (rows : List SubRow) → AllByRecursion (λ other. other.id < row.id) rows → find (λ other. other.id == row.id) (rows ++ row ∷ []) ≡ Some row
+found_last row [] above = grind (arith, nat_tests)
+found_last row (first ∷ rows) above = grind (arith, nat_tests, above.0, found_last row rows above.1)
+
+-- a subscriber behind all others is found by its id
+pub last_is : (row found : SubRow) (rows rows' : List SubRow) → All (λ other. other.id < row.id) rows → rows' ≡ rows ++ row ∷ [] → Some found ≡ find (λ other. other.id == row.id) rows' → found ≡ row
+last_is row found rows rows' above is there =
+    let same : Some found ≡ Some row = there ∙ ap (find (λ (other : SubRow). other.id == row.id)) is ∙ found_last row rows (recursion_from_All (λ (other : SubRow). other.id < row.id) rows above) in
+    cc
+
+pub last_there : (row : SubRow) (rows rows' : List SubRow) → All (λ other. other.id < row.id) rows → rows' ≡ rows ++ row ∷ [] → None ≡ find (λ other. other.id == row.id) rows' → ⊥
+last_there row rows rows' above is none =
+    let some : None ≡ Some row = none ∙ ap (find (λ (other : SubRow). other.id == row.id)) is ∙ found_last row rows (recursion_from_All (λ (other : SubRow). other.id < row.id) rows above) in
+    cc

@@ -1,20 +1,2 @@
--- Lists in ascending order, and a place in one.
-use Rattle.std.specs.Prelude.{◌≡◌, ℕ, ◌<◌, ◌≤◌, ◌==◌, nat_lt, List, [], ◌∷◌, length, Result, MatchResult, if◌then◌else◌}
-use Rattle.std.specs.List.{AllByRecursion, AllWithin, HoldsAt}
-
--- the numbers of the elements rise from each one to all behind it
-abbrev pub Ascend : {X : Type 0} → (X → ℕ) → List X → Type 0
-Ascend number [] = Unit {0}
-Ascend number (x ∷ xs) = AllByRecursion (λ later. number x < number later) xs × Ascend number xs
-
--- the elements with one more, in ascending order; it takes the place of one with its number
-abbrev pub placed_by : {X : Type 0} → (X → ℕ) → X → List X → List X
-placed_by number new [] = new ∷ []
-placed_by number new (x ∷ xs) =
-    if number x == number new then new ∷ xs
-    else if nat_lt (number new) (number x) then new ∷ x ∷ xs
-    else x ∷ placed_by number new xs
-
--- the element at that place has the number, or the number would go to that place
-abbrev pub IsPlaceOf : {X : Type 0} → (X → ℕ) → ℕ → List X → Result ℕ ℕ → Type 0
-IsPlaceOf number n xs place = MatchResult place (λ at. (at < length xs) × HoldsAt (λ x. number x ≡ n) xs at) (λ at. (at ≤ length xs) × AllWithin (λ x. number x < n) xs 0 at × AllWithin (λ x. n < number x) xs at (length xs))
+-- Lists in ascending order, a place in one, and one more element.
+pub use Rattle.zs_keyed.specs.Ascending.{Ascend, IsPlaceOf, placed_by}

@@ -1,16 +1,21 @@
--- How the table of listeners keeps their counts: words that no public contract needs.
-use Rattle.std.specs.Prelude.{ℕ, nat_lt, Bool, false, ◌||◌, ◌==◌, List, [], ◌∷◌, ◌++◌, Option, Some, None, if◌then◌else◌}
+-- How the table of listeners finds them: words that no public contract needs.
+use Rattle.std.specs.Prelude.{◌≡◌, ℕ, nat_lt, Bool, false, ◌||◌, ◌==◌, List, [], ◌∷◌, ◌++◌, Option, Some, None, if◌then◌else◌}
 use Rattle.std.specs.List.{find, flat_map}
 use Rattle.zs_keys.specs.Matching.{intersects}
+use Rattle.zs_rows.specs.Index.{is_marked}
+use Rattle.zs_rows.specs.declared.mark.Mark.{Mark}
 use Rattle.zs_tables.specs.declared.listener.ListenerRow.{ListenerRow}
 use Rattle.zs_tables.specs.declared.recount.Recount.{Recount}
 use Rattle.zs_tables.specs.Matching.{Candidate, Listener, is_moved, recount_of}
 
--- each row with its count
-abbrev pub paired : List ListenerRow → List ℕ → List Listener
-paired [] counts = []
-paired (row ∷ rows) [] = []
-paired (row ∷ rows) (n ∷ counts) = record { row = row; count = n } ∷ paired rows counts
+-- whether a listener, if there is one, listens to that publisher or querier
+abbrev pub is_of : ℕ → Option Listener → Bool
+is_of parent None = false
+is_of parent (Some l) = l.row.parent == parent
+
+-- the index has the number of each listener under that of its publisher or querier, and no other
+abbrev pub AreIndexed : List Listener → List Mark → Type 0
+AreIndexed ls marks = (parent id : ℕ) → is_marked parent id marks ≡ is_of parent (find (λ l. l.row.id == id) ls)
 
 -- whether a candidate's key has a key in common with that of a listener, if there is such a candidate
 abbrev pub meets_if : Option Candidate → ListenerRow → Bool

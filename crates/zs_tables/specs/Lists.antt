@@ -6,7 +6,6 @@ use Rattle.zs_keys.specs.Key.{Key}
 use Rattle.zs_wire.specs.declared.wire_expr.Mapping.{Mapping}
 use Rattle.zs_wire.specs.declared.wire_expr.Mapping.TheVariants.{Sender, Receiver}
 use Rattle.zs_keys.specs.Matching.{intersects}
-use Rattle.zs_tree.specs.Rows.{Row}
 use Rattle.zs_tables.specs.declared.subscriber.SubRow.{SubRow}
 use Rattle.zs_tables.specs.declared.number_row.NumberRow.{NumberRow}
 use Rattle.zs_tables.specs.Ascending.{Ascend}
@@ -63,14 +62,9 @@ pub record AreInOrder (rows : List SubRow) (own told : List Listed) : Type 0 whe
   pub own_current : AreCurrent rows own
   pub told_current : AreCurrent rows told
 
--- the row of a subscriber in the tree of keys
-abbrev pub keyed : SubRow → Row
-keyed row = record { id = row.id; text = row.key.text }
-
--- rows and numbers are in order, the tree has the keys of the rows, and the index has the numbers of each text
-pub record AreKept {A S : Type 0} (rows : List SubRow) (own told : List Listed) (tree : List Row) (texts : HashMap (String A) (Vec ℕ A) S) : Type 0 where
+-- rows and numbers are in order, and the index has the numbers of each text
+pub record AreKept {A S : Type 0} (rows : List SubRow) (own told : List Listed) (texts : HashMap (String A) (Vec ℕ A) S) : Type 0 where
   pub order : AreInOrder rows own told
-  pub tree_is : tree ≡ map keyed rows
   pub indexed : ListsNumbers (map held_of own) texts
 
 -- whether the subscriber of that id takes the publication

@@ -8,6 +8,7 @@ use Rattle.zs_tables.specs.declared.candidate.Candidate.{Candidate as candidate_
 use Rattle.zs_tables.specs.declared.listener.Sought.{Sought}
 use Rattle.zs_tables.specs.declared.listener.Sought.TheVariants.{Subscribers, Queryables, CompleteQueryables}
 use Rattle.zs_tables.specs.declared.listener.ListenerRow.{ListenerRow}
+pub use Rattle.zs_tables.specs.declared.listener.Listener.{Listener}
 use Rattle.zs_tables.specs.declared.recount.Recount.{Recount}
 use Rattle.zs_tables.specs.declared.subscriber.SubRow.{SubRow}
 use Rattle.zs_tables.specs.declared.queryable.QueryableRow.{QueryableRow}
@@ -65,11 +66,6 @@ status cs row = list_any (λ c. suits c row) cs
 
 abbrev pub count_of : List Candidate → ListenerRow → ℕ
 count_of cs row = count_by (λ c. suits c row) cs
-
--- a listener, and how many match
-pub record Listener : Type 0 where
-  pub row : ListenerRow
-  pub count : ℕ
 
 -- the count of each listener is that of the candidates that match
 abbrev pub AreCounted : List Candidate → List Listener → Type 0

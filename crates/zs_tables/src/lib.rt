@@ -4,16 +4,10 @@
 #![tactic(auto)]
 
 pub use candidate::{Candidate, Offer};
-pub use group_kind::GroupKind;
-pub use groups::Groups;
 pub use key_ref::KeyRef;
 pub use laws::{each_is_next, matches_ascend, next_is_least, walk_visits_all};
-pub use listener::{ListenerRow, Sought};
+pub use listener::{Listener, ListenerRow, Sought};
 pub use listener_table::ListenerTable;
-pub use liveliness_get::LivelinessGet;
-pub use liveliness_gets::LivelinessGets;
-pub use liveliness_sub::LivelinessSub;
-pub use liveliness_subs::LivelinessSubs;
 pub use matching_laws::{
     changes_are_heard, queryables_move, recounts_are_current, recounts_keep_listeners,
     status_is_count, subs_move, told_queryables_move, told_subs_move,
@@ -26,25 +20,17 @@ pub use subscriber::SubRow;
 pub use tables::Tables;
 pub use told_row::{ToldQueryable, ToldSub};
 pub use told_table::ToldTable;
-pub use told_token::ToldToken;
-pub use told_tokens::ToldTokens;
+pub use zs_grouped::{GroupKind, Groups};
+pub use zs_liveliness::{
+    LivelinessGet, LivelinessGets, LivelinessSub, LivelinessSubs, ToldToken, ToldTokens,
+};
 
 mod candidate;
-mod group_kind;
-mod group_row;
-mod grouping;
-mod groups;
 mod key_ref;
-mod keyed_row;
-mod keyed_rows;
 mod laws;
 mod listener;
 mod listener_table;
 mod lists;
-mod liveliness_get;
-mod liveliness_gets;
-mod liveliness_sub;
-mod liveliness_subs;
 mod matching_laws;
 mod number_row;
 mod numbers;
@@ -59,7 +45,4 @@ mod subscriber;
 mod tables;
 mod texts;
 mod told_row;
-mod told_rows;
 mod told_table;
-mod told_token;
-mod told_tokens;

@@ -1,4 +1,4 @@
-use crate::keyed_row::Keyed;
+use zs_keyed::{Counted, Keyed};
 use zs_keys::KeyExpr;
 use zs_sample::Locality;
 
@@ -27,16 +27,31 @@ pub struct ListenerRow {
     pub key: KeyExpr<'static>,
 }
 
-impl Keyed for ListenerRow {
-    ghost number = { λ row. row.id };
+/// A live listener, and how many match it.
+#[derive(Drop)]
+pub struct Listener {
+    pub row: ListenerRow,
+    pub count: usize,
+}
 
-    ghost text = { λ row. row.key.text };
+impl Keyed for Listener {
+    ghost number = { λ l. l.row.id };
+
+    ghost text = { λ l. l.row.key.text };
 
     fn number(&self) -> u32 {
-        self.id
+        self.row.id
     }
 
     fn key(&self) -> &KeyExpr<'static> {
-        &self.key
+        &self.row.key
+    }
+}
+
+impl Counted for Listener {
+    ghost counted = { λ n l. record l { count = n } };
+
+    fn set_count(&mut self, count: usize) {
+        self.count = count;
     }
 }

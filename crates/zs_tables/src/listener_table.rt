@@ -1,36 +1,40 @@
-ghost use Rattle.std.specs.Prelude.{◌≡◌, ◌<◌, ◌==◌, ◌&&◌, ◌+◌, ◌-◌, ◌++◌, [], ◌∷◌, All, map, not, filter, length, Some, true, false, MatchOption, IfSome, IfOk, OnOk, OnErr, if◌then◌else◌};
-ghost use Rattle.std.specs.List.{find, list_any, HoldsAt, remove};
+ghost use Rattle.std.specs.Prelude.{◌≡◌, ℕ, ◌<◌, ◌==◌, ◌&&◌, ◌+◌, ◌-◌, ◌++◌, [], ◌∷◌, true, false, All, map, not, filter, length, Some, MatchOption, IfSome, IfOk, OnOk, OnErr, if◌then◌else◌};
+ghost use Rattle.std.specs.List.{find, list_any};
+ghost use Rattle.std.specs.Map.Iter.{ShowsInOrder, deref_pair};
 ghost use Rattle.zs_tables.specs.Ascending.{Ascend};
+ghost use Rattle.zs_tables.specs.Recipients.{first_behind};
 ghost use Rattle.zs_tables.specs.Matching.{seen_if, suits_if, recounts, recounted, with_count};
-ghost use Rattle.zs_tables.specs.Listeners.{meets_if, meets_one, merged, recounts_at, recount_in, listed};
+ghost use Rattle.zs_tables.specs.Listeners.{is_of, meets_if, meets_one, merged, recounts_at, recount_in, listed};
 
 use crate::candidate::Candidate;
-use crate::keyed_rows::{KeyedRows, keyed_place};
-use crate::listener::ListenerRow;
-use crate::lists::put_last;
+use crate::listener::{Listener, ListenerRow};
 use crate::recount::Recount;
 use std::alloc::{AllocError, Global};
+use std::collections::btree_map::Iter;
 use std::marker::Model;
+use zs_keyed::KeyedRows;
+use zs_rows::Index;
 
 /// The live listeners in ascending id, each with how many match, and a tree of their keys that finds those which
-/// someone who comes or goes concerns. No call that answers want of memory has changed anything.
+/// someone who comes or goes concerns. Those of a publisher or querier are found by its number. No call that answers want
+/// of memory has changed anything.
 #[derive(Drop)]
 pub struct ListenerTable {
     alloc: Global,
-    rows: KeyedRows<ListenerRow>,
-    counts: Vec<usize>,
+    rows: KeyedRows<Listener>,
+    parents: Index,
 }
 
 impl Model for ListenerTable {
-    ghost use Rattle.std.specs.Prelude.{◌≡◌, List, length};
+    ghost use Rattle.std.specs.Prelude.{List};
     ghost use Rattle.zs_tables.specs.Matching.{Listener};
-    ghost use Rattle.zs_tables.specs.Listeners.{paired};
+    ghost use Rattle.zs_tables.specs.Listeners.{AreIndexed};
 
     ghost Value = { List Listener };
 
-    ghost view = { λ t. paired t.rows t.counts.items };
+    ghost view = { λ t. t.rows };
 
-    ghost invariant = { λ t. length t.counts.items ≡ length t.rows };
+    ghost invariant = { λ t. AreIndexed t.rows t.parents };
 }
 
 impl ListenerTable {
@@ -41,7 +45,7 @@ impl ListenerTable {
         ListenerTable {
             alloc,
             rows: KeyedRows::new(alloc),
-            counts: Vec::new(alloc),
+            parents: Index::new(alloc),
         }
     }
 
@@ -55,9 +59,13 @@ impl ListenerTable {
         ensures ok { OnOk result (self.new ≡ self.old ++ record { row = row; count = count } ∷ []) }
         ensures err { OnErr result (self.new ≡ self.old) }
     {
-        self.counts.reserve(1)?;
-        self.rows.add(row)?;
-        put_last(&mut self.counts, count);
+        let id = row.id;
+        let parent = Some(u64::from(row.parent));
+        self.parents.note(parent, id)?;
+        if let Err(error) = self.rows.add(Listener { row, count }) {
+            self.parents.forget(parent, id);
+            return Err(error);
+        }
         Ok(())
     }
 
@@ -66,10 +74,11 @@ impl ListenerTable {
         ensures answer { result ≡ list_any (λ l. l.row.id == id) self.old }
         ensures rows { self.new ≡ filter (λ l. not (l.row.id == id)) self.old }
     {
-        let Ok(at) = keyed_place(self.rows.rows(), id) else {
+        let Some(listener) = self.rows.take(id) else {
             return false;
         };
-        self.remove_at(at);
+        self.parents
+            .forget(Some(u64::from(listener.row.parent)), id);
         true
     }
 
@@ -77,19 +86,19 @@ impl ListenerTable {
     pub fn remove_of(&mut self, parent: u32)
         ensures { self.new ≡ filter (λ l. not (l.row.parent == parent)) self.old }
     {
-        while let Some(at) = first_of(parent, self.rows.rows()) {
-            self.remove_at(at);
+        while let Some(id) = self.first_of(parent) {
+            self.remove(id);
         }
     }
 
-    /// Takes out the one at that place.
-    fn remove_at(&mut self, at: usize)
-        requires { at < length self.old }
-        ensures { self.new ≡ remove self.old at }
+    /// The least id of those that listen to a publisher or a querier.
+    fn first_of(&self, parent: u32) -> Option<u32>
+        ensures first { MatchOption result (All (λ l. (l.row.parent == parent) ≡ false) self.now)
+            (λ id. is_of parent (find (λ l. l.row.id == id) self.now) ≡ true) }
+        ensures ascending { Ascend (λ l. l.row.id) self.now }
     {
-        let id = self.rows.rows()[at].id;
-        self.rows.remove(id);
-        self.counts.remove(at);
+        let _ascending = self.rows.len();
+        self.parents.first_under(u64::from(parent))
     }
 
     /// Takes all out.
@@ -97,15 +106,32 @@ impl ListenerTable {
         ensures { self.new ≡ [] }
     {
         self.rows.clear();
-        self.counts.clear();
+        self.parents.clear();
     }
 
-    /// The listeners, in ascending id.
-    pub fn rows(&self) -> &[ListenerRow]
-        ensures rows { result.now ≡ map (λ l. l.row) self.now }
+    /// How many listeners there are. Their ids ascend.
+    pub fn len(&self) -> usize
+        ensures len { result ≡ length self.now }
         ensures ascending { Ascend (λ l. l.row.id) self.now }
     {
-        self.rows.rows()
+        self.rows.len()
+    }
+
+    /// The listeners with their ids, ascending.
+    pub fn iter(&self) -> Iter<'_, u32, Listener>
+        ensures rest { map (λ e. e.1) result ≡ self.now }
+        ensures runs { ShowsInOrder (deref_pair {K = ℕ} {X = Listener}) }
+    {
+        self.rows.iter()
+    }
+
+    /// The least id above that one, or of all, of those that listen to a publisher or a querier.
+    pub fn next_of(&self, parent: u32, after: Option<u32>) -> Option<u32>
+        ensures next { result ≡ first_behind after (map (λ l. l.row.id) (filter (λ l. l.row.parent == parent) self.now)) }
+        ensures ascending { Ascend (λ l. l.row.id) self.now }
+    {
+        let _ascending = self.rows.len();
+        self.parents.next_of(u64::from(parent), after)
     }
 
     /// Whether there is a listener of that id.
@@ -128,7 +154,7 @@ impl ListenerTable {
     ) -> Result<Vec<Recount>, AllocError>
         ensures { IfOk result (λ all. all.items ≡ recounts (seen_if goes.entry) (seen_if comes.entry) self.now) }
     {
-        if self.rows().is_empty() {
+        if self.rows.len() == 0 {
             return Ok(Vec::new(self.alloc));
         }
         let ids = self.met(goes, comes)?;
@@ -195,20 +221,17 @@ impl ListenerTable {
     ) -> Result<Option<Recount>, AllocError>
         ensures { IfOk result (λ one. one ≡ recount_in (seen_if goes.entry) (seen_if comes.entry) (find (λ l. l.row.id == id) self.now)) }
     {
-        let Ok(at) = keyed_place(self.rows.rows(), id) else {
+        let Some(listener) = self.rows.find(id) else {
             return Ok(None);
         };
-        recount_of(&self.rows.rows()[at], self.counts[at], goes, comes)
+        recount_of(&listener.row, listener.count, goes, comes)
     }
 
     /// Sets a count.
     fn set_count(&mut self, one: &Recount)
         ensures { self.new ≡ with_count one.now self.old }
     {
-        let Ok(at) = keyed_place(self.rows.rows(), one.id) else {
-            return;
-        };
-        self.counts[at] = one.is;
+        self.rows.set_count(one.id, one.is);
     }
 }
 
@@ -265,19 +288,6 @@ fn push_if(all: &mut Vec<Recount>, one: Option<Recount>) -> Result<(), AllocErro
         Some(one) => Ok(all.push(one)?),
         None => Ok(()),
     }
-}
-
-/// The place of the first listener of a publisher or querier.
-fn first_of(parent: u32, rows: &[ListenerRow]) -> Option<usize>
-    ensures { MatchOption result (All (λ row. (row.parent == parent) ≡ false) rows.now)
-        (λ at. (at < length rows.now) × HoldsAt (λ row. (row.parent == parent) ≡ true) rows.now at) }
-{
-    for at in 0..rows.len() {
-        if rows[at].parent == parent {
-            return Some(at);
-        }
-    }
-    None
 }
 
 /// Two ascending lists in one.

@@ -1,6 +1,6 @@
 //! The lists that the numbers keep.
 
-ghost use Rattle.std.specs.Prelude.{◌≡◌, ◌<◌, ◌==◌, ◌++◌, [], ◌∷◌, vec_len, vec_capacity, All, map, filter, not, OnOk};
+ghost use Rattle.std.specs.Prelude.{◌≡◌, ◌==◌, All, map, filter, not, OnOk};
 ghost use Rattle.zs_tables.specs.Ascending.{Ascend};
 ghost use Rattle.zs_tables.specs.Lists.{shown, HasRoomFor, IsAscending, noted, forgotten, emptied};
 
@@ -92,12 +92,4 @@ fn empty(row: &mut NumberRow)
     ensures { shown row.new ≡ emptied (shown row.old) }
 {
     row.matches.clear();
-}
-
-/// Puts a row behind the others, where there is room.
-pub(crate) fn put_last<R: Drop>(rows: &mut Vec<R>, row: R)
-    requires { vec_len rows.old < vec_capacity rows.old }
-    ensures { rows.new.items ≡ rows.old.items ++ row ∷ [] }
-{
-    let _ = rows.push(row);
 }

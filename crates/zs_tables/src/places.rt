@@ -7,7 +7,6 @@ ghost use Rattle.zs_tables.specs.Ascending.{Ascend, IsPlaceOf, placed_by};
 ghost use Rattle.zs_tables.specs.Recipients.{is_behind};
 
 use crate::number_row::NumberRow;
-use crate::subscriber::SubRow;
 use std::alloc::AllocError;
 
 /// Where a number stands, or where it would go.
@@ -16,14 +15,6 @@ pub(crate) fn place_of(numbers: &[NumberRow], number: u16) -> Result<usize, usiz
     ensures { IsPlaceOf (λ row. row.number) number numbers.now result }
 {
     numbers.binary_search_by_key(&number, |row| row.number)
-}
-
-/// Where a subscriber stands, or where it would go.
-pub(crate) fn row_place(rows: &[SubRow], id: u32) -> Result<usize, usize>
-    requires { Ascend (λ row. row.id) rows.now }
-    ensures { IsPlaceOf (λ row. row.id) id rows.now result }
-{
-    rows.binary_search_by_key(&id, |row| row.id)
 }
 
 /// Where an id stands in a list, or where it would go.
@@ -49,17 +40,6 @@ pub(crate) fn find(numbers: &[NumberRow], number: u16) -> Option<&NumberRow>
 {
     match place_of(numbers, number) {
         Ok(at) => Some(&numbers[at]),
-        Err(_) => None,
-    }
-}
-
-/// The row of a subscriber.
-pub(crate) fn find_row(rows: &[SubRow], id: u32) -> Option<&SubRow>
-    requires { Ascend (λ row. row.id) rows.now }
-    ensures { option_copied result ≡ find (λ row. row.id == id) rows.now }
-{
-    match row_place(rows, id) {
-        Ok(at) => Some(&rows[at]),
         Err(_) => None,
     }
 }

@@ -1,6 +1,7 @@
-ghost use Rattle.std.specs.Prelude.{◌≡◌, length, IfOk, OnOk};
+ghost use Rattle.std.specs.Prelude.{◌≡◌, ◌<◌, length, IfOk, OnOk};
 ghost use Rattle.zs_tables.specs.Matching.{candidates, count_of};
 ghost use Rattle.zs_tables.specs.Present.{own_count, told_count, own_sought, told_sought};
+ghost use Rattle.zs_tables.specs.Recipients.{matches};
 
 use crate::listener::{ListenerRow, Sought};
 use crate::queryable_table::QueryableTable;
@@ -8,6 +9,9 @@ use crate::recipients::takes;
 use crate::tables::Tables;
 use crate::told_table::ToldTable;
 use std::alloc::{AllocError, Global};
+use std::marker::Brand;
+use std::sync::ledger::{Blank, Ledger};
+use zs_keys::{KeyExpr, Steps};
 
 /// Those whom a listener may listen for: the live subscribers and queryables, and those that the other side declared.
 #[derive(Clone, Copy)]
@@ -27,7 +31,8 @@ impl Present<'_> {
         ensures { IfOk result (λ n. n ≡ count_of (candidates self.now.tables.now.rows self.now.queryables.now self.now.told.now) listener.now) }
     {
         let own = self.count_own(alloc, listener)?;
-        let Some(count) = own.checked_add(self.count_told(listener)) else {
+        let told = self.count_told(alloc, listener)?;
+        let Some(count) = own.checked_add(told) else {
             return Err(AllocError);
         };
         Ok(count)
@@ -50,23 +55,55 @@ impl Present<'_> {
         ensures { OnOk result (length ids.new.items ≡ own_sought listener.now.sought listener.now.key.text self.now.tables.now.rows self.now.queryables.now) }
     {
         match listener.sought {
-            Sought::Subscribers => self.tables.met_into(&listener.key, ids),
+            Sought::Subscribers => own_subs_into(self.tables, &listener.key, ids),
             Sought::Queryables => self.queryables.answering_into(&listener.key, false, ids),
             Sought::CompleteQueryables => self.queryables.answering_into(&listener.key, true, ids),
         }
     }
 
     /// How many of the other side.
-    fn count_told(&self, listener: &ListenerRow) -> usize
-        ensures { result ≡ told_count self.now.told.now listener.now }
+    fn count_told(&self, alloc: Global, listener: &ListenerRow) -> Result<usize, AllocError>
+        ensures { IfOk result (λ n. n ≡ told_count self.now.told.now listener.now) }
     {
         if !takes(false, listener.destination) {
-            return 0;
+            return Ok(0);
         }
+        let mut numbers = Vec::new(alloc);
+        self.told_into(listener, &mut numbers)?;
+        Ok(numbers.len())
+    }
+
+    /// Makes a list the numbers of those of the other side.
+    fn told_into(&self, listener: &ListenerRow, numbers: &mut Vec<u32>) -> Result<(), AllocError>
+        ensures { OnOk result (length numbers.new.items ≡ told_sought listener.now.sought listener.now.key.text self.now.told.now) }
+    {
         match listener.sought {
-            Sought::Subscribers => self.told.count_subs(&listener.key),
-            Sought::Queryables => self.told.count_queryables(&listener.key, false),
-            Sought::CompleteQueryables => self.told.count_queryables(&listener.key, true),
+            Sought::Subscribers => self.told.subs_into(&listener.key, numbers),
+            Sought::Queryables => self.told.answering_into(&listener.key, false, numbers),
+            Sought::CompleteQueryables => self.told.answering_into(&listener.key, true, numbers),
         }
     }
+}
+
+/// Makes a list the ids of the subscribers whose key has a key in common with that one.
+fn own_subs_into(tables: &Tables, key: &KeyExpr<'_>, ids: &mut Vec<u32>) -> Result<(), AllocError>
+    ensures { OnOk result (ids.new.items ≡ matches key.now.text tables.now.rows) }
+{
+    met_uncounted::<Brand>(tables, Blank::new(1), key, ids)
+}
+
+/// `Tables::met_into` with a counter of its own, which nobody reads.
+fn met_uncounted<L: Ledger>(
+    tables: &Tables,
+    blank: Blank,
+    key: &KeyExpr<'_>,
+    ids: &mut Vec<u32>,
+) -> Result<(), AllocError>
+    requires name { blank.name ≡ L.name }
+    requires parts { blank.parts ≡ L.parts }
+    requires some { 0 < blank.parts }
+    ensures { OnOk result (ids.new.items ≡ matches key.now.text tables.now.rows) }
+{
+    let mut steps = Steps::<L>::new(blank);
+    tables.met_into(key, ids, &mut steps)
 }

@@ -1,15 +1,17 @@
-ghost use Rattle.std.specs.Prelude.{◌≡◌, ◌<◌, ◌==◌, ◌++◌, [], ◌∷◌, All, map, not, filter, OnOk, OnErr};
+ghost use Rattle.std.specs.Prelude.{◌≡◌, ℕ, ◌<◌, ◌==◌, ◌++◌, [], ◌∷◌, true, All, MatchBool, nat_lt, length, map, not, filter, OnOk, OnErr};
 ghost use Rattle.std.specs.List.{find, list_any};
+ghost use Rattle.std.specs.Map.Iter.{ShowsInOrder, deref_pair};
 ghost use Rattle.std.specs.Option.{option_copied};
 ghost use Rattle.zs_tables.specs.Ascending.{Ascend};
-ghost use Rattle.zs_tables.specs.Keyed.{passes_by};
+ghost use Rattle.zs_keyed.specs.Keyed.{passes_by};
 ghost use Rattle.zs_tables.specs.Queryables.{met, is_for, answers_for, answers_whole};
 
-use crate::keyed_rows::{KeyedRows, find_keyed};
 use crate::queryable::QueryableRow;
 use crate::recipients::takes;
 use std::alloc::{AllocError, Global};
+use std::collections::btree_map::Iter;
 use std::marker::Model;
+use zs_keyed::KeyedRows;
 use zs_keys::KeyExpr;
 
 /// The live queryables in ascending id, with a tree of their keys that finds those which a request meets. No call that
@@ -66,12 +68,27 @@ impl QueryableTable {
         self.rows.clear();
     }
 
-    /// The queryables, in ascending id.
-    pub fn rows(&self) -> &[QueryableRow]
-        ensures rows { result.now ≡ self.now }
+    /// Whether an id is above those of all queryables.
+    pub fn is_above(&self, id: u32) -> bool
+        ensures { MatchBool result (All (λ row. row.id < id) self.now) (list_any (λ row. not (nat_lt row.id id)) self.now ≡ true) }
+    {
+        self.rows.is_above(id)
+    }
+
+    /// How many queryables there are. Their ids ascend.
+    pub fn len(&self) -> usize
+        ensures len { result ≡ length self.now }
         ensures ascending { Ascend (λ row. row.id) self.now }
     {
-        self.rows.rows()
+        self.rows.len()
+    }
+
+    /// The queryables with their ids, ascending.
+    pub fn iter(&self) -> Iter<'_, u32, QueryableRow>
+        ensures rest { map (λ e. e.1) result ≡ self.now }
+        ensures runs { ShowsInOrder (deref_pair {K = ℕ} {X = QueryableRow}) }
+    {
+        self.rows.iter()
     }
 
     /// The queryable of that id, if there is one.
@@ -105,7 +122,7 @@ impl QueryableTable {
         ensures err { OnErr result (into.new.items ≡ into.old.items) }
     {
         self.rows.matches_into(key, into)?;
-        keep_met(local, complete, self.rows.rows(), into);
+        keep_met(local, complete, &self.rows, into);
         Ok(())
     }
 
@@ -128,13 +145,13 @@ impl QueryableTable {
             return self.rows.matches_into(key, into);
         }
         self.rows.matches_into(key, into)?;
-        keep_complete(key, self.rows.rows(), into);
+        keep_complete(key, &self.rows, into);
         Ok(())
     }
 }
 
 /// Leaves those ids out of a list whose queryables aren't complete, or don't include that key.
-fn keep_complete(key: &KeyExpr<'_>, rows: &[QueryableRow], ids: &mut Vec<u32>)
+fn keep_complete(key: &KeyExpr<'_>, rows: &KeyedRows<QueryableRow>, ids: &mut Vec<u32>)
     requires { Ascend (λ row. row.id) rows.now }
     ensures { ids.new.items ≡ filter (passes_by (λ row. row.id) (answers_whole key.now.text) rows.now) ids.old.items }
 {
@@ -142,11 +159,11 @@ fn keep_complete(key: &KeyExpr<'_>, rows: &[QueryableRow], ids: &mut Vec<u32>)
 }
 
 /// Whether the queryable of that id is complete and includes that key.
-fn is_whole(key: &KeyExpr<'_>, rows: &[QueryableRow], id: u32) -> bool
+fn is_whole(key: &KeyExpr<'_>, rows: &KeyedRows<QueryableRow>, id: u32) -> bool
     requires { Ascend (λ row. row.id) rows.now }
     ensures { result ≡ passes_by (λ row. row.id) (answers_whole key.now.text) rows.now id }
 {
-    let Some(row) = find_keyed(rows, id) else {
+    let Some(row) = rows.find(id) else {
         return false;
     };
     answers_whole(key, row)
@@ -160,7 +177,7 @@ fn answers_whole(key: &KeyExpr<'_>, row: &QueryableRow) -> bool
 }
 
 /// Leaves those ids out of a list whose queryables don't take such a request.
-fn keep_met(local: bool, complete: bool, rows: &[QueryableRow], ids: &mut Vec<u32>)
+fn keep_met(local: bool, complete: bool, rows: &KeyedRows<QueryableRow>, ids: &mut Vec<u32>)
     requires { Ascend (λ row. row.id) rows.now }
     ensures { ids.new.items ≡ filter (passes_by (λ row. row.id) (is_for local complete) rows.now) ids.old.items }
 {
@@ -168,11 +185,11 @@ fn keep_met(local: bool, complete: bool, rows: &[QueryableRow], ids: &mut Vec<u3
 }
 
 /// Whether the queryable of that id takes such a request.
-fn is_met(local: bool, complete: bool, rows: &[QueryableRow], id: u32) -> bool
+fn is_met(local: bool, complete: bool, rows: &KeyedRows<QueryableRow>, id: u32) -> bool
     requires { Ascend (λ row. row.id) rows.now }
     ensures { result ≡ passes_by (λ row. row.id) (is_for local complete) rows.now id }
 {
-    let Some(row) = find_keyed(rows, id) else {
+    let Some(row) = rows.find(id) else {
         return false;
     };
     is_for(local, complete, row)

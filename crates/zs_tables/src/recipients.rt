@@ -1,19 +1,17 @@
 //! Who receives a publication next.
 
 ghost use Rattle.std.specs.Prelude.{◌≡◌, filter, OnOk, OnErr};
-ghost use Rattle.zs_tree.specs.Rows.{matches as tree_matches};
 ghost use Rattle.std.specs.List.{find};
 ghost use Rattle.zs_tables.specs.Ascending.{Ascend};
 ghost use Rattle.zs_tables.specs.Lists.{takes_by_id};
-ghost use Rattle.zs_tables.specs.Recipients.{takes, is_behind};
+ghost use Rattle.zs_tables.specs.Recipients.{matches, takes, is_behind};
 
-use crate::places::find_row;
 use crate::subscriber::SubRow;
 use std::alloc::AllocError;
 use std::sync::ledger::Ledger;
+use zs_keyed::KeyedRows;
 use zs_keys::{KeyExpr, Steps};
 use zs_sample::Locality;
-use zs_tree::KeyTree;
 
 /// Whether those of that origin take what was made here, or what came in.
 pub(crate) fn takes(local: bool, origin: Locality) -> bool
@@ -27,18 +25,18 @@ pub(crate) fn takes(local: bool, origin: Locality) -> bool
 }
 
 /// Whether the subscriber of that id takes it.
-fn takes_by_id(local: bool, rows: &[SubRow], id: u32) -> bool
+fn takes_by_id(local: bool, rows: &KeyedRows<SubRow>, id: u32) -> bool
     requires { Ascend (λ row. row.id) rows.now }
     ensures { result ≡ takes_by_id local rows.now id }
 {
-    let Some(row) = find_row(rows, id) else {
+    let Some(row) = rows.find(id) else {
         return false;
     };
     takes(local, row.origin)
 }
 
 /// The first of the ids whose subscriber takes it.
-pub(crate) fn first_by_id(local: bool, rows: &[SubRow], ids: &[u32]) -> Option<u32>
+pub(crate) fn first_by_id(local: bool, rows: &KeyedRows<SubRow>, ids: &[u32]) -> Option<u32>
     requires { Ascend (λ row. row.id) rows.now }
     ensures { result ≡ find (takes_by_id local rows.now) ids.now }
 {
@@ -53,18 +51,17 @@ pub(crate) fn first_by_id(local: bool, rows: &[SubRow], ids: &[u32]) -> Option<u
 /// The first subscriber in the tree that takes a publication on that key, behind the last one, if there was one.
 pub(crate) fn first_in_tree<L: Ledger>(
     local: bool,
-    rows: &[SubRow],
-    tree: &KeyTree,
+    rows: &KeyedRows<SubRow>,
     key: &KeyExpr<'_>,
     after: Option<u32>,
     steps: &mut Steps<L>,
 ) -> Option<u32>
     requires rows { Ascend (λ row. row.id) rows.now }
-    requires ids { Ascend (λ id. id) (tree_matches key.now.text tree.now) }
-    ensures { result ≡ find (takes_by_id local rows.now) (filter (is_behind after) (tree_matches key.now.text tree.now)) }
+    requires ids { Ascend (λ id. id) (matches key.now.text rows.now) }
+    ensures { result ≡ find (takes_by_id local rows.now) (filter (is_behind after) (matches key.now.text rows.now)) }
 {
     let mut last = after;
-    while let Some(id) = tree.least_above(key, last, steps) {
+    while let Some(id) = rows.least_above(key, last, steps) {
         if takes_by_id(local, rows, id) {
             return Some(id);
         }
@@ -74,7 +71,7 @@ pub(crate) fn first_in_tree<L: Ledger>(
 }
 
 /// Leaves those ids out of a list whose subscribers do not take it.
-pub(crate) fn keep_takers(local: bool, rows: &[SubRow], ids: &mut Vec<u32>)
+pub(crate) fn keep_takers(local: bool, rows: &KeyedRows<SubRow>, ids: &mut Vec<u32>)
     requires { Ascend (λ row. row.id) rows.now }
     ensures { ids.new.items ≡ filter (takes_by_id local rows.now) ids.old.items }
 {

@@ -1,3 +1,4 @@
+use zs_keyed::Keyed;
 use zs_keys::KeyExpr;
 use zs_sample::Locality;
 
@@ -9,4 +10,18 @@ pub struct SubRow {
     /// Whose publications it takes.
     pub origin: Locality,
     pub key: KeyExpr<'static>,
+}
+
+impl Keyed for SubRow {
+    ghost number = { λ row. row.id };
+
+    ghost text = { λ row. row.key.text };
+
+    fn number(&self) -> u32 {
+        self.id
+    }
+
+    fn key(&self) -> &KeyExpr<'static> {
+        &self.key
+    }
 }

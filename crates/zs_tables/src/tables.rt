@@ -1,5 +1,6 @@
-ghost use Rattle.std.specs.Prelude.{◌≡◌, ◌<◌, ◌==◌, ◌++◌, [], ◌∷◌, All, not, filter, IsSome, OnOk, OnErr};
+ghost use Rattle.std.specs.Prelude.{◌≡◌, ℕ, ◌+◌, ◌<◌, ◌==◌, ◌++◌, [], ◌∷◌, true, All, MatchBool, nat_lt, length, map, not, filter, IsSome, OnOk, OnErr};
 ghost use Rattle.std.specs.List.{find, list_any};
+ghost use Rattle.std.specs.Map.Iter.{ShowsInOrder, deref_pair};
 ghost use Rattle.std.specs.Option.{option_map, option_copied, ForSome, is_some};
 ghost use Rattle.zs_tables.specs.Ascending.{Ascend};
 ghost use Rattle.zs_tables.specs.Numbers.{key_at, number_at, placed, without};
@@ -7,19 +8,20 @@ ghost use Rattle.zs_tables.specs.Contents.{numbers_of, with_numbers, text_meant,
 ghost use Rattle.zs_tables.specs.Recipients.{matches, recipients, next_recipient, GoesOn};
 
 use crate::key_ref::KeyRef;
-use crate::lists::{empty_lists, forget, note, put_last, reserve_lists};
+use crate::lists::{empty_lists, forget, note, reserve_lists};
 use crate::number_row::NumberRow;
 use crate::numbers::{find_in, take_out};
 use crate::own::{set_own, unset_own};
-use crate::places::{find_row, ids_behind, place, row_place};
+use crate::places::{ids_behind, place};
 use crate::recipients::{copy_ids, first_by_id, first_in_tree, keep_takers};
 use crate::subscriber::SubRow;
 use crate::texts::{Texts, first_number};
 use std::alloc::{AllocError, Global};
+use std::collections::btree_map::Iter;
 use std::marker::Model;
 use std::sync::ledger::Ledger;
+use zs_keyed::KeyedRows;
 use zs_keys::{KeyExpr, Steps};
-use zs_tree::KeyTree;
 use zs_wire::Mapping;
 
 /// The live subscribers in ascending id, and the declared numbers of both mappings with their keys. A tree of the
@@ -30,8 +32,7 @@ use zs_wire::Mapping;
 #[derive(Drop)]
 pub struct Tables {
     alloc: Global,
-    rows: Vec<SubRow>,
-    tree: KeyTree,
+    subs: KeyedRows<SubRow>,
     own: Vec<NumberRow>,
     texts: Texts,
     told: Vec<NumberRow>,
@@ -44,9 +45,9 @@ impl Model for Tables {
 
     ghost Value = { Contents };
 
-    ghost view = { λ t. record { rows = t.rows.items; own = held t.own.items; told = held t.told.items } };
+    ghost view = { λ t. record { rows = t.subs; own = held t.own.items; told = held t.told.items } };
 
-    ghost invariant = { λ t. AreKept t.rows.items (map shown t.own.items) (map shown t.told.items) t.tree t.texts };
+    ghost invariant = { λ t. AreKept t.subs (map shown t.own.items) (map shown t.told.items) t.texts };
 }
 
 impl Tables {
@@ -56,8 +57,7 @@ impl Tables {
     {
         Tables {
             alloc,
-            rows: Vec::new(alloc),
-            tree: KeyTree::new(alloc),
+            subs: KeyedRows::new(alloc),
             own: Vec::new(alloc),
             texts: Texts::new(alloc),
             told: Vec::new(alloc),
@@ -74,13 +74,15 @@ impl Tables {
         ensures ok { OnOk result (self.new ≡ record self.old { rows = self.old.rows ++ row ∷ [] }) }
         ensures err { OnErr result (self.new ≡ self.old) }
     {
-        self.rows.reserve(1)?;
+        let id = row.id;
         reserve_lists(&mut self.own, &row.key)?;
         reserve_lists(&mut self.told, &row.key)?;
-        self.tree.insert(&row.key, row.id)?;
-        note(&mut self.own, row.id, &row.key);
-        note(&mut self.told, row.id, &row.key);
-        put_last(&mut self.rows, row);
+        self.subs.add(row)?;
+        let Some(row) = self.subs.find(id) else {
+            unreachable!()
+        };
+        note(&mut self.own, id, &row.key);
+        note(&mut self.told, id, &row.key);
         Ok(())
     }
 
@@ -89,14 +91,9 @@ impl Tables {
         ensures answer { result ≡ list_any (λ row. row.id == id) self.old.rows }
         ensures rows { self.new ≡ record self.old { rows = filter (λ row. not (row.id == id)) self.old.rows } }
     {
-        let Ok(at) = row_place(&self.rows, id) else {
-            return false;
-        };
         forget(&mut self.own, id);
         forget(&mut self.told, id);
-        let row = self.rows.remove(at);
-        let _ = self.tree.remove(&row.key, id);
-        true
+        self.subs.remove(id)
     }
 
     /// Lets a number stand for a key, in place of one that it stood for.
@@ -115,7 +112,7 @@ impl Tables {
         ensures err { OnErr result (self.new ≡ self.old) }
     {
         let mut matches = Vec::new(self.alloc);
-        self.tree.matches_into(&key, &mut matches)?;
+        self.subs.matches_into(&key, &mut matches)?;
         let new = NumberRow {
             number,
             key,
@@ -142,8 +139,7 @@ impl Tables {
     pub fn clear(&mut self)
         ensures { self.new ≡ record self.old { rows = []; own = [] } }
     {
-        self.rows.clear();
-        self.tree.clear();
+        self.subs.clear();
         self.own.clear();
         self.texts.clear();
         empty_lists(&mut self.told);
@@ -166,26 +162,41 @@ impl Tables {
         first_number(&self.texts, text)
     }
 
-    /// The subscribers, in ascending id.
-    pub fn rows(&self) -> &[SubRow]
-        ensures rows { result.now ≡ self.now.rows }
+    /// Whether an id is above those of all subscribers.
+    pub fn is_above(&self, id: u32) -> bool
+        ensures { MatchBool result (All (λ row. row.id < id) self.now.rows) (list_any (λ row. not (nat_lt row.id id)) self.now.rows ≡ true) }
+    {
+        self.subs.is_above(id)
+    }
+
+    /// How many subscribers there are. Their ids ascend.
+    pub fn len(&self) -> usize
+        ensures len { result ≡ length self.now.rows }
         ensures ascending { Ascend (λ row. row.id) self.now.rows }
     {
-        &self.rows
+        self.subs.len()
+    }
+
+    /// The subscribers with their ids, ascending.
+    pub fn iter(&self) -> Iter<'_, u32, SubRow>
+        ensures rest { map (λ e. e.1) result ≡ self.now.rows }
+        ensures runs { ShowsInOrder (deref_pair {K = ℕ} {X = SubRow}) }
+    {
+        self.subs.iter()
     }
 
     /// The subscriber of that id, if there is one.
     pub fn row(&self, id: u32) -> Option<&SubRow>
         ensures { option_copied result ≡ find (λ row. row.id == id) self.now.rows }
     {
-        find_row(&self.rows, id)
+        self.subs.find(id)
     }
 
     /// Whether there is a subscriber of that id.
     pub fn has(&self, id: u32) -> bool
         ensures { result ≡ list_any (λ row. row.id == id) self.now.rows }
     {
-        find_row(&self.rows, id).is_some()
+        self.subs.has(id)
     }
 
     /// The ascending ids of the subscribers whose key has a key in common with the number's, if it stands for one. It
@@ -200,60 +211,70 @@ impl Tables {
         Some(&row.matches)
     }
 
-    /// Makes a list the ascending ids of the subscribers whose key has a key in common with that one.
+    /// Makes a list the ascending ids of the subscribers whose key has a key in common with that one. It counts a step.
     ///
     /// # Errors
     ///
     /// Want of memory alone; the list is as before then.
-    pub fn met_into(&self, key: &KeyExpr<'_>, into: &mut Vec<u32>) -> Result<(), AllocError>
+    pub fn met_into<L: Ledger>(
+        &self,
+        key: &KeyExpr<'_>,
+        into: &mut Vec<u32>,
+        steps: &mut Steps<L>,
+    ) -> Result<(), AllocError>
         ensures ok { OnOk result (into.new.items ≡ matches key.now.text self.now.rows) }
         ensures err { OnErr result (into.new.items ≡ into.old.items) }
+        ensures counted { steps.new ≡ steps.old + 1 }
     {
-        self.tree.matches_into(key, into)
+        self.subs.counted_matches_into(key, into, steps)
     }
 
     /// Makes a list the ascending ids of the subscribers that receive a publication on that key. `local` says that the
-    /// publication was made in this session.
+    /// publication was made in this session. It counts a step.
     ///
     /// # Errors
     ///
     /// Want of memory alone; the list is as before then.
-    pub fn recipients_into(
+    pub fn recipients_into<L: Ledger>(
         &self,
         key: &KeyExpr<'_>,
         local: bool,
         into: &mut Vec<u32>,
+        steps: &mut Steps<L>,
     ) -> Result<(), AllocError>
         ensures ok { OnOk result (into.new.items ≡ recipients local key.now.text self.now.rows) }
         ensures err { OnErr result (into.new.items ≡ into.old.items) }
+        ensures counted { steps.new ≡ steps.old + 1 }
     {
-        self.tree.matches_into(key, into)?;
-        keep_takers(local, &self.rows, into);
+        self.subs.counted_matches_into(key, into, steps)?;
+        keep_takers(local, &self.subs, into);
         Ok(())
     }
 
     /// Makes a list the ascending ids of the subscribers that receive a publication on the key that a number stands for,
-    /// as `recipients_into` does. It reads the list that the number keeps, and tests no keys.
+    /// as `recipients_into` does. It reads the list that the number keeps, and tests no keys: it counts no step.
     ///
     /// # Errors
     ///
     /// Want of memory alone; the list is as before then.
-    pub fn recipients_of_number_into(
+    pub fn recipients_of_number_into<L: Ledger>(
         &self,
         mapping: Mapping,
         number: u16,
         local: bool,
         into: &mut Vec<u32>,
+        _steps: &mut Steps<L>,
     ) -> Result<(), AllocError>
         requires { IsSome (key_at number (numbers_of mapping self.now)) }
         ensures ok { OnOk result (ForSome (key_at number (numbers_of mapping self.now)) (λ key. into.new.items ≡ recipients local key.text self.now.rows)) }
         ensures err { OnErr result (into.new.items ≡ into.old.items) }
+        ensures uncounted { _steps.new ≡ _steps.old }
     {
         let Some(row) = find_in(mapping, &self.own, &self.told, number) else {
             unreachable!()
         };
         copy_ids(&row.matches, into)?;
-        keep_takers(local, &self.rows, into);
+        keep_takers(local, &self.subs, into);
         Ok(())
     }
 
@@ -276,9 +297,9 @@ impl Tables {
                 let Some(row) = find_in(mapping, &self.own, &self.told, number) else {
                     unreachable!()
                 };
-                first_by_id(local, &self.rows, ids_behind(&row.matches, after))
+                first_by_id(local, &self.subs, ids_behind(&row.matches, after))
             }
-            KeyRef::Text(key) => first_in_tree(local, &self.rows, &self.tree, key, after, steps),
+            KeyRef::Text(key) => first_in_tree(local, &self.subs, key, after, steps),
         }
     }
 }

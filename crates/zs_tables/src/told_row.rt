@@ -1,4 +1,4 @@
-use crate::keyed_row::Keyed;
+use zs_keyed::Keyed;
 use zs_keys::KeyExpr;
 
 /// A subscriber that the other side declared.

@@ -1,34 +1,31 @@
-ghost use Rattle.std.specs.Prelude.{◌≡◌, ◌==◌, [], not, filter, OnOk, OnErr};
-ghost use Rattle.std.specs.List.{find, list_any, count_by};
+ghost use Rattle.std.specs.Prelude.{◌≡◌, ◌==◌, [], length, map, not, filter, OnOk, OnErr};
+ghost use Rattle.std.specs.List.{find, list_any};
 ghost use Rattle.std.specs.Option.{option_copied};
 ghost use Rattle.zs_keys.specs.Matching.{intersects};
 ghost use Rattle.zs_tables.specs.Ascending.{Ascend, placed_by};
-ghost use Rattle.zs_tables.specs.Told.{is_subscribed, answers, is_answered};
+ghost use Rattle.zs_keyed.specs.Keyed.{passes_by};
+ghost use Rattle.zs_tables.specs.Told.{answers, is_whole};
 
-use crate::keyed_rows::find_keyed;
 use crate::told_row::{ToldQueryable, ToldSub};
-use crate::told_rows::{drop_row, put_row};
 use std::alloc::{AllocError, Global};
 use std::marker::Model;
+use zs_keyed::KeyedRows;
 use zs_keys::KeyExpr;
 
-/// The subscribers and the queryables that the other side declared, each in ascending number. Of a number the last
-/// declaration counts. No call that answers want of memory has changed anything.
+/// The subscribers and the queryables that the other side declared, each in ascending number, with trees of their keys.
+/// Of a number the last declaration counts. No call that answers want of memory has changed anything.
 #[derive(Drop)]
 pub struct ToldTable {
-    subs: Vec<ToldSub>,
-    queryables: Vec<ToldQueryable>,
+    subs: KeyedRows<ToldSub>,
+    queryables: KeyedRows<ToldQueryable>,
 }
 
 impl Model for ToldTable {
-    ghost use Rattle.zs_tables.specs.Ascending.{Ascend};
     ghost use Rattle.zs_tables.specs.Told.{Told};
 
     ghost Value = { Told };
 
-    ghost view = { λ t. record { subs = t.subs.items; queryables = t.queryables.items } };
-
-    ghost invariant = { λ t. Ascend (λ row. row.number) t.subs.items × Ascend (λ row. row.number) t.queryables.items };
+    ghost view = { λ t. record { subs = t.subs; queryables = t.queryables } };
 }
 
 impl ToldTable {
@@ -37,8 +34,8 @@ impl ToldTable {
         ensures { result ≡ record { subs = []; queryables = [] } }
     {
         ToldTable {
-            subs: Vec::new(alloc),
-            queryables: Vec::new(alloc),
+            subs: KeyedRows::new(alloc),
+            queryables: KeyedRows::new(alloc),
         }
     }
 
@@ -51,7 +48,7 @@ impl ToldTable {
         ensures ok { OnOk result (self.new ≡ record self.old { subs = placed_by (λ row. row.number) row self.old.subs }) }
         ensures err { OnErr result (self.new ≡ self.old) }
     {
-        put_row(&mut self.subs, row)?;
+        self.subs.place(row)?;
         Ok(())
     }
 
@@ -64,7 +61,7 @@ impl ToldTable {
         ensures ok { OnOk result (self.new ≡ record self.old { queryables = placed_by (λ row. row.number) row self.old.queryables }) }
         ensures err { OnErr result (self.new ≡ self.old) }
     {
-        put_row(&mut self.queryables, row)?;
+        self.queryables.place(row)?;
         Ok(())
     }
 
@@ -73,7 +70,7 @@ impl ToldTable {
         ensures answer { result ≡ list_any (λ row. row.number == number) self.old.subs }
         ensures rows { self.new ≡ record self.old { subs = filter (λ row. not (row.number == number)) self.old.subs } }
     {
-        drop_row(&mut self.subs, number)
+        self.subs.remove(number)
     }
 
     /// Forgets a queryable, and says whether its number was known.
@@ -81,95 +78,111 @@ impl ToldTable {
         ensures answer { result ≡ list_any (λ row. row.number == number) self.old.queryables }
         ensures rows { self.new ≡ record self.old { queryables = filter (λ row. not (row.number == number)) self.old.queryables } }
     {
-        drop_row(&mut self.queryables, number)
+        self.queryables.remove(number)
     }
 
     /// The subscriber of that number, if it is known.
     pub fn find_sub(&self, number: u32) -> Option<&ToldSub>
         ensures { option_copied result ≡ find (λ row. row.number == number) self.now.subs }
     {
-        find_keyed(&self.subs, number)
+        self.subs.find(number)
     }
 
     /// The queryable of that number, if it is known.
     pub fn find_queryable(&self, number: u32) -> Option<&ToldQueryable>
         ensures { option_copied result ≡ find (λ row. row.number == number) self.now.queryables }
     {
-        find_keyed(&self.queryables, number)
+        self.queryables.find(number)
     }
 
-    /// The subscribers, in ascending number.
-    pub fn subs(&self) -> &[ToldSub]
-        ensures rows { result.now ≡ self.now.subs }
+    /// How many subscribers are known. Their numbers ascend.
+    pub fn sub_count(&self) -> usize
+        ensures len { result ≡ length self.now.subs }
         ensures ascending { Ascend (λ row. row.number) self.now.subs }
     {
-        &self.subs
+        self.subs.len()
     }
 
-    /// The queryables, in ascending number.
-    pub fn queryables(&self) -> &[ToldQueryable]
-        ensures rows { result.now ≡ self.now.queryables }
+    /// How many queryables are known. Their numbers ascend.
+    pub fn queryable_count(&self) -> usize
+        ensures len { result ≡ length self.now.queryables }
         ensures ascending { Ascend (λ row. row.number) self.now.queryables }
     {
-        &self.queryables
+        self.queryables.len()
     }
 
     /// Whether a subscriber of that number is known.
     pub fn has_sub(&self, number: u32) -> bool
         ensures { result ≡ list_any (λ row. row.number == number) self.now.subs }
     {
-        self.find_sub(number).is_some()
+        self.subs.has(number)
     }
 
     /// Whether a queryable of that number is known.
     pub fn has_queryable(&self, number: u32) -> bool
         ensures { result ≡ list_any (λ row. row.number == number) self.now.queryables }
     {
-        self.find_queryable(number).is_some()
+        self.queryables.has(number)
     }
 
-    /// Whether the key of a subscriber has a key in common with that one.
-    pub fn is_subscribed(&self, key: &KeyExpr<'_>) -> bool
-        ensures { result ≡ is_subscribed key.now.text self.now.subs }
+    /// Makes a list the ascending numbers of the subscribers whose key has a key in common with that one.
+    ///
+    /// # Errors
+    ///
+    /// Want of memory alone; the list is as before then.
+    pub fn subs_into(&self, key: &KeyExpr<'_>, into: &mut Vec<u32>) -> Result<(), AllocError>
+        ensures ok { OnOk result (into.new.items ≡ map (λ row. row.number) (filter (λ row. intersects key.now.text row.key.text) self.now.subs)) }
+        ensures err { OnErr result (into.new.items ≡ into.old.items) }
     {
-        self.subs.iter().any(|row| row.key.meets(key))
+        self.subs.matches_into(key, into)
     }
 
-    /// Whether a queryable answers for that key: one whose own has a key in common with it, or, where complete ones
-    /// alone are wanted, a complete one whose own includes it.
-    pub fn is_answered(&self, key: &KeyExpr<'_>, complete: bool) -> bool
-        ensures { result ≡ is_answered complete key.now.text self.now.queryables }
+    /// Makes a list the ascending numbers of the queryables that answer for that key: those whose own has a key in common
+    /// with it, or, where complete ones alone are wanted, the complete ones whose own includes it.
+    ///
+    /// # Errors
+    ///
+    /// Want of memory alone; the list is as before then.
+    pub fn answering_into(
+        &self,
+        key: &KeyExpr<'_>,
+        complete: bool,
+        into: &mut Vec<u32>,
+    ) -> Result<(), AllocError>
+        ensures ok { OnOk result (into.new.items ≡ map (λ row. row.number) (filter (answers complete key.now.text) self.now.queryables)) }
+        ensures err { OnErr result (into.new.items ≡ into.old.items) }
     {
-        self.queryables
-            .iter()
-            .any(|row| answers(row, key, complete))
-    }
-
-    /// How many subscribers have a key that has a key in common with that one.
-    pub fn count_subs(&self, key: &KeyExpr<'_>) -> usize
-        ensures { result ≡ count_by (λ row. intersects row.key.text key.now.text) self.now.subs }
-    {
-        self.subs.iter().filter(|row| row.key.meets(key)).count()
-    }
-
-    /// How many queryables answer for that key, as `is_answered` says.
-    pub fn count_queryables(&self, key: &KeyExpr<'_>, complete: bool) -> usize
-        ensures { result ≡ count_by (answers complete key.now.text) self.now.queryables }
-    {
-        self.queryables
-            .iter()
-            .filter(|row| answers(row, key, complete))
-            .count()
+        if !complete {
+            return self.queryables.matches_into(key, into);
+        }
+        self.queryables.matches_into(key, into)?;
+        keep_complete(key, &self.queryables, into);
+        Ok(())
     }
 }
 
-/// Whether a queryable answers for a key.
-fn answers(row: &ToldQueryable, key: &KeyExpr<'_>, complete: bool) -> bool
-    ensures { result ≡ answers complete key.now.text row.now }
+/// Leaves those numbers out of a list whose queryables aren't complete, or don't include that key.
+fn keep_complete(key: &KeyExpr<'_>, rows: &KeyedRows<ToldQueryable>, numbers: &mut Vec<u32>)
+    requires { Ascend (λ row. row.number) rows.now }
+    ensures { numbers.new.items ≡ filter (passes_by (λ row. row.number) (is_whole key.now.text) rows.now) numbers.old.items }
 {
-    if complete {
-        row.complete && row.key.includes(key)
-    } else {
-        row.key.meets(key)
-    }
+    numbers.retain(|number| is_complete(key, rows, *number));
+}
+
+/// Whether the queryable of that number is complete and includes that key.
+fn is_complete(key: &KeyExpr<'_>, rows: &KeyedRows<ToldQueryable>, number: u32) -> bool
+    requires { Ascend (λ row. row.number) rows.now }
+    ensures { result ≡ passes_by (λ row. row.number) (is_whole key.now.text) rows.now number }
+{
+    let Some(row) = rows.find(number) else {
+        return false;
+    };
+    is_whole(key, row)
+}
+
+/// Whether a queryable is complete and includes that key.
+fn is_whole(key: &KeyExpr<'_>, row: &ToldQueryable) -> bool
+    ensures { result ≡ is_whole key.now.text row.now }
+{
+    row.complete && row.key.includes(key)
 }

@@ -186,7 +186,7 @@ same_text s t h =
     go (c ∷ more) is none = absurd (cc)
 
 -- an entry with the code of a text and a number is that of the text and the number
-found_row : (text : List ℕ) (id : ℕ) (e : Entry) → entry_cmp (code_of text) id e ≡ Equal → is_row id text (row_of e) ≡ true
+pub found_row : (text : List ℕ) (id : ℕ) (e : Entry) → entry_cmp (code_of text) id e ≡ Equal → is_row id text (row_of e) ≡ true
 found_row text id e h =
     let code : e.code.items ≡ code_of text = same_list _ _ (equal_code (code_cmp e.code.items (code_of text)) (nat_cmp e.id id) h) in
     let o : nat_cmp e.id id ≡ Equal = equal_id (code_cmp e.code.items (code_of text)) (nat_cmp e.id id) h in
@@ -194,7 +194,7 @@ found_row text id e h =
     let same : string_bytes e.text ≡ text = same_text (string_bytes e.text) text (sym e.coded ∙ code) in
     both (e.id == id) (bytes_eq (string_bytes e.text) text) number ((bytes_eq-Decides (string_bytes e.text) text).1 same)
 
-number_of_row : (text : List ℕ) (id : ℕ) (e : Entry) → is_row id text (row_of e) ≡ true → e.id ≡ id
+pub number_of_row : (text : List ℕ) (id : ℕ) (e : Entry) → is_row id text (row_of e) ≡ true → e.id ≡ id
 number_of_row text id e h =
     let k = and_first (e.id == id) (bytes_eq (string_bytes e.text) text) h in grind (arith, nat_tests, k)
 
@@ -237,7 +237,7 @@ none_there text id es at there =
       | inr above ↦ not_equal_high _ (there.2 k d above lt)
     ]))
 
-any_none : (p : Row → Bool) (rows : List Row) → AllByRecursion (λ row. p row ≡ false) rows → list_any p rows ≡ false
+pub any_none : (p : Row → Bool) (rows : List Row) → AllByRecursion (λ row. p row ≡ false) rows → list_any p rows ≡ false
 any_none p [] h = refl
 any_none p (row ∷ rows) h = rw (h.0, any_none p rows h.1) refl
 
@@ -256,14 +256,14 @@ removes_none text id es at there =
     )
 
 -- the entries beside the one that is taken out have other numbers
-others : (es : List Entry) (at : ℕ) (d : Entry) → AreApart es → at < length es → HasNot (get_or es at d).id (remove es at)
+pub others : (es : List Entry) (at : ℕ) (d : Entry) → AreApart es → at < length es → HasNot (get_or es at d).id (remove es at)
 others [] at d apart lt = absurd (omega arith)
 others (e ∷ es) zero d apart lt = apart.0
 others (e ∷ es) (suc at) d apart lt =
     let later : (get_or es at d).id ≢ e.id = All-from_recursion (λ (later : Entry). later.id ≢ e.id) es apart.0 at d (omega arith) in
     (λ same. later (sym same), others es at d apart.1 (omega arith))
 
-keep_others : (text : List ℕ) (id : ℕ) (es : List Entry) → HasNot id es → AllByRecursion (λ row. not (is_row id text row) ≡ true) (map row_of es)
+pub keep_others : (text : List ℕ) (id : ℕ) (es : List Entry) → HasNot id es → AllByRecursion (λ row. not (is_row id text row) ≡ true) (map row_of es)
 keep_others text id [] h = tt
 keep_others text id (e ∷ es) h =
     let ih = keep_others text id es h.1 in
@@ -288,13 +288,17 @@ seen_remove text id es at d apart lt h =
     ap by_number (map_remove es at)
     ∙ sym (number_remove (λ row. not (is_row id text row)) (map row_of es) at (row_of d) (let l = map_length es in omega (arith, l, lt)) out rest)
 
--- an entry with the code and the number that no entry has is not found
-pub never_found : (code : List ℕ) (id : ℕ) (es : List Entry) (at : ℕ) (d : Entry) → HasNot id es → at < length es
-    → entry_cmp code id (get_or es at d) ≡ Equal → ⊥
-never_found code id es at d none lt h =
-    let e = get_or es at d in
-    let o : nat_cmp e.id id ≡ Equal = equal_id (code_cmp e.code.items code) (nat_cmp e.id id) h in
-    All-from_recursion (λ (e : Entry). e.id ≢ id) es none at d lt (grind (arith, nat_tests, o))
+-- no entry has the code and the number
+abbrev pub NoneAt : List ℕ → ℕ → List Entry → Type 0
+NoneAt code id es = AllByRecursion (λ e. entry_cmp code id e ≢ Equal) es
+
+-- where none has the number, none has it with a code
+pub none_at : (code : List ℕ) (id : ℕ) (es : List Entry) → HasNot id es → NoneAt code id es
+none_at code id [] none = tt
+none_at code id (e ∷ es) none = (
+  (λ h. none.0 (let o : nat_cmp e.id id ≡ Equal = equal_id (code_cmp e.code.items code) (nat_cmp e.id id) h in grind (arith, nat_tests, o))),
+  none_at code id es none.1,
+)
 
 -- the entry of a text and a number goes to their place
 pub placed_in_order : (new : Entry) (text : List ℕ) (id : ℕ) (es : List Entry) (at : ℕ) → row_of new ≡ record { id = id; text = text }

@@ -16,3 +16,4 @@ pub mod Blocks
 pub mod Placing
 pub mod Skipping
 pub mod Putting
+pub mod Replacing

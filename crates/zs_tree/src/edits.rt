@@ -2,6 +2,7 @@
 
 ghost use Rattle.std.specs.Prelude.{◌≡◌, ◌≢◌, ◌<◌, length, Ok, Err, OnOk, OnErr};
 ghost use Rattle.std.specs.List.{AllByRecursion, HoldsAt};
+ghost use Rattle.std.specs.declared.cmp.Ordering.TheVariants.{Equal};
 ghost use Rattle.zs_tree.specs.Blocks.{flat, AreFilled, begins_up_to, IsBlockOf, IsPutIn, IsTakenOut, IsIn, IsWithout};
 ghost use Rattle.zs_tree.specs.Code.{code_of};
 ghost use Rattle.zs_tree.specs.Entries.{AreInOrder, IsPlaceOf, entry_cmp};
@@ -69,7 +70,7 @@ pub(crate) fn put_in(
     requires order { AreInOrder (flat blocks.old.items) }
     requires filled { AreFilled blocks.old.items }
     requires code { entry.code.items ≡ code_of text.now }
-    requires unused { AllByRecursion (λ e. e.id ≢ entry.id) (flat blocks.old.items) }
+    requires unused { AllByRecursion (λ e. entry_cmp entry.code.items entry.id e ≢ Equal) (flat blocks.old.items) }
     ensures ok { OnOk result (IsPutIn entry (flat blocks.old.items) (flat blocks.new.items)) }
     ensures err { OnErr result (flat blocks.new.items ≡ flat blocks.old.items) }
     ensures filled { AreFilled blocks.new.items }

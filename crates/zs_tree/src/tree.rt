@@ -1,6 +1,6 @@
 //! The tree.
 
-ghost use Rattle.std.specs.Prelude.{◌≡◌, ◌≢◌, ◌≤◌, ◌==◌, [], All, not, filter, OnOk, OnErr};
+ghost use Rattle.std.specs.Prelude.{◌≡◌, ◌≢◌, ◌≤◌, ◌==◌, ◌+◌, [], true, All, not, filter, OnOk, OnErr};
 ghost use Rattle.std.specs.List.{list_any};
 ghost use Rattle.zs_tree.specs.Rows.{placed, is_row, matches, first_above};
 
@@ -70,6 +70,28 @@ impl KeyTree {
         take_out(&mut self.blocks, key.as_str(), id)
     }
 
+    /// Puts another key in the place of the key of a number.
+    ///
+    /// # Errors
+    ///
+    /// Want of memory alone; nothing has changed then.
+    pub fn replace(
+        &mut self,
+        old: &KeyExpr<'_>,
+        new: &KeyExpr<'_>,
+        id: u32,
+    ) -> Result<(), AllocError>
+        requires there { list_any (is_row id old.now.text) self.old ≡ true }
+        requires differ { old.now.text ≢ new.now.text }
+        ensures ok { OnOk result (self.new ≡ placed (record { id = id; text = new.now.text }) (filter (λ row. not (is_row id old.now.text row)) self.old)) }
+        ensures err { OnErr result (self.new ≡ self.old) }
+    {
+        let entry = Entry::new(self.alloc, id, new.as_str())?;
+        put_in(self.alloc, &mut self.blocks, new.as_str(), entry)?;
+        take_out(&mut self.blocks, old.as_str(), id);
+        Ok(())
+    }
+
     /// Takes out all.
     pub fn clear(&mut self)
         ensures { self.new ≡ [] }
@@ -91,15 +113,22 @@ impl KeyTree {
         least_id(&self.blocks, key.as_str(), after, steps)
     }
 
-    /// Makes a list the ascending numbers of all keys that have a key in common with the given one.
+    /// Makes a list the ascending numbers of all keys that have a key in common with the given one. It counts a step.
     ///
     /// # Errors
     ///
     /// Want of memory alone; the list is as before then.
-    pub fn matches_into(&self, key: &KeyExpr<'_>, into: &mut Vec<u32>) -> Result<(), AllocError>
+    pub fn matches_into<L: Ledger>(
+        &self,
+        key: &KeyExpr<'_>,
+        into: &mut Vec<u32>,
+        steps: &mut Steps<L>,
+    ) -> Result<(), AllocError>
         ensures ok { OnOk result (into.new.items ≡ matches key.now.text self.now) }
         ensures err { OnErr result (into.new.items ≡ into.old.items) }
+        ensures counted { steps.new ≡ steps.old + 1 }
     {
+        steps.tick();
         let held = into.len();
         if let Err(error) = push_hits(&self.blocks, key.as_str(), into) {
             into.truncate(held);

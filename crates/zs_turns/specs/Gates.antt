@@ -10,7 +10,7 @@ use Rattle.zs_events.specs.declared.turn.Effect.TheVariants.{Send, Hand, End, Ma
 use Rattle.zs_events.specs.declared.turn.Kind.{Kind}
 use Rattle.zs_events.specs.declared.turn.Kind.TheVariants.{Publisher, Querier}
 use Rattle.zs_events.specs.declared.turn.Turn.{Turn}
-use Rattle.zs_events.specs.Kinds.{Row, Named, Draws, CancellationNumber, ToEntities, NoEntity, Declares, EndsEntity, ToGets, Cancels, row_of, asking_token}
+use Rattle.zs_events.specs.Kinds.{Row, Named, Draws, CancellationNumber, ToEntities, NoEntity, Declares, EndsEntity, ToGets, Cancels, row_of, asking_cancellation_token}
 use Rattle.zs_posts.specs.declared.key.Key.{Key}
 use Rattle.zs_posts.specs.declared.key.Key.TheVariants.{CancelToken, Of}
 use Rattle.zs_posts.specs.declared.key.Name.{Name}
@@ -46,7 +46,7 @@ parent_key None named = None
 
 -- the gate of the cancellation token with which an event asks
 abbrev pub token_key : Row → Option Key
-token_key row = option_map (λ n. CancelToken n) (asking_token row.to_gets row.to_liveliness)
+token_key row = option_map (λ n. CancelToken n) (asking_cancellation_token row.to_gets row.to_liveliness)
 
 -- a gate's name, with the gates that are entered before it
 abbrev pub name_of : Row → ℕ → Key → Name

@@ -3,7 +3,7 @@ use Rattle.std.specs.Prelude.{ℕ, List, Option, Some}
 use Rattle.std.specs.Borrow.{Lends, LendsIf, MutBor, Fml}
 use Rattle.zs_bytes.specs.contracts.payload.ZBytes.{the_row as bytes_row}
 use Rattle.zs_query.specs.QueryData.{Query}
-use Rattle.zs_query.specs.contracts.query_data.QueryData.{the_row as data_row}
+use Rattle.zs_requests.specs.contracts.query_data.QueryData.{the_row as data_row}
 use Rattle.zs_turns.specs.Queries.{QuerySeen}
 use Rattle.zs_turns.specs.contracts.query.Query.{the_row}
 

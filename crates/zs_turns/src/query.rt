@@ -16,11 +16,21 @@ use zs_sample::{
 
 /// A query that a queryable was handed. It is answered under its number, and given back under it: one that is dropped
 /// leaves its asker waiting. Contracts see its fields, that number and the tag of its session.
-#[derive(Drop)]
 pub struct Query {
     fields: QueryData,
     value: u32,
     tag: u64,
+}
+
+impl Drop for Query {
+    fn drop(self) {
+        let Query {
+            fields,
+            value: _,
+            tag: _,
+        } = self;
+        drop(fields);
+    }
 }
 
 impl Model for Query {
@@ -65,11 +75,12 @@ impl Query {
     pub fn with_value(self, value: u32) -> Query
         ensures { result ≡ record self { value = value } }
     {
-        Query {
-            fields: self.fields,
-            value,
-            tag: self.tag,
-        }
+        let Query {
+            fields,
+            value: _,
+            tag,
+        } = self;
+        Query { fields, value, tag }
     }
 
     /// The number under which it is answered and given back.

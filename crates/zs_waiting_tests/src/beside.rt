@@ -76,7 +76,8 @@ pub(crate) fn undeclares<B: Books, R: Wait>(
     called && waited && has_left(words)
 }
 
-/// Closes the session while the handler is held, and waits: whether that call has ended by then. A second close is accepted.
+/// Closes the session while the handler is held, and waits: whether that call has ended by then, and the session is told to be
+/// closed from then on. A second close is accepted.
 pub(crate) fn closes<B: Books, R: Wait>(
     rt: &R,
     session: &Session<Holding, B>,
@@ -84,13 +85,15 @@ pub(crate) fn closes<B: Books, R: Wait>(
     caller: &mut Caller<B>,
 ) -> bool {
     let called = comes(&words.entered);
-    let closed = session.close(rt, true, caller).is_ok();
+    let open = !session.is_closed(rt);
+    let closed = session.close(rt, true, caller).is_ok() && session.is_closed(rt);
     let left = has_left(words);
-    let again = session.close(rt, true, caller).is_ok();
-    called && closed && left && again
+    let again = session.close(rt, true, caller).is_ok() && session.is_closed(rt);
+    called && open && closed && left && again
 }
 
-/// Cancels the token of the get while its handler is held: whether that call has ended by then. A second cancel is accepted.
+/// Cancels the token of the get while its handler is held: whether that call has ended by then, and the token is told to be
+/// cancelled from then on. A second cancel is accepted.
 pub(crate) fn cancels<B: Books, R: Wait>(
     rt: &R,
     token: &SessionToken<Holding, B>,
@@ -98,8 +101,9 @@ pub(crate) fn cancels<B: Books, R: Wait>(
     caller: &mut Caller<B>,
 ) -> bool {
     let called = comes(&words.entered);
-    let cancelled = token.cancel(rt, caller).is_ok();
+    let live = !token.is_cancelled(rt);
+    let cancelled = token.cancel(rt, caller).is_ok() && token.is_cancelled(rt);
     let left = has_left(words);
-    let again = token.cancel(rt, caller).is_ok();
-    called && cancelled && left && again
+    let again = token.cancel(rt, caller).is_ok() && token.is_cancelled(rt);
+    called && live && cancelled && left && again
 }

@@ -6,10 +6,11 @@ use Rattle.std.proofs.lemmas.List.Elements.{recursion_from_All, All-from_recursi
 use Rattle.zs_tables.specs.declared.listener.ListenerRow.{ListenerRow}
 use Rattle.zs_tables.specs.declared.recount.Recount.{Recount}
 use Rattle.zs_tables.specs.Ascending.{Ascend}
-use Rattle.zs_tables.specs.Matching.{Candidate, Listener, candidates, count_of, AreCounted, recounts, recounted}
+use Rattle.zs_tables.specs.declared.listener.Listener.{Listener}
+use Rattle.zs_tables.specs.Matching.{Candidate, candidates, count_of, AreCounted, recounts, recounted}
 use Rattle.zs_tables.specs.MatchingLaws.{Moves}
 use Rattle.zs_tables.proofs.Ascending.{all_map, all_unmap, all_filter}
-use Rattle.zs_tables.proofs.ByKey.{by_test}
+use Rattle.zs_keyed.proofs.Ascending.{by_test}
 use Rattle.zs_tables.proofs.Moving.{current, listeners_stay}
 use Rattle.zs_tables.specs.Told.{Told}
 use Rattle.zs_tables.specs.declared.subscriber.SubRow.{SubRow}

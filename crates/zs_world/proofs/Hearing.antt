@@ -6,10 +6,11 @@ use Rattle.std.proofs.lemmas.Bool.Decides.{nat_tests}
 use Rattle.zs_tables.specs.declared.listener.ListenerRow.{ListenerRow}
 use Rattle.zs_tables.specs.declared.recount.Recount.{Recount}
 use Rattle.zs_tables.specs.Ascending.{Ascend}
-use Rattle.zs_tables.specs.Matching.{Candidate, Listener, status, count_of, AreCounted, recounts, is_heard}
+use Rattle.zs_tables.specs.declared.listener.Listener.{Listener}
+use Rattle.zs_tables.specs.Matching.{Candidate, status, count_of, AreCounted, recounts, is_heard}
 use Rattle.zs_tables.specs.MatchingLaws.{Moves, Heard, heard, told_of, differ}
 use Rattle.zs_tables.proofs.Ascending.{all_weaker, all_both, all_filter}
-use Rattle.zs_tables.proofs.ByKey.{by_test}
+use Rattle.zs_keyed.proofs.Ascending.{by_test}
 use Rattle.zs_tables.proofs.Moving.{heard_turned, status_counted}
 use Rattle.zs_events.specs.declared.turn.Effect.{Effect}
 use Rattle.zs_events.specs.declared.turn.Effect.TheVariants.{Matching, End}

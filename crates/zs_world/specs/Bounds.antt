@@ -7,7 +7,8 @@ use Rattle.zs_tables.specs.declared.queryable.QueryableRow.{QueryableRow}
 use Rattle.zs_model.specs.declared.publisher.PubRow.{PubRow}
 use Rattle.zs_model.specs.declared.querier.QuerierRow.{QuerierRow}
 use Rattle.zs_tables.specs.Told.{Told}
-use Rattle.zs_tables.specs.Matching.{Listener, candidates, AreCounted}
+use Rattle.zs_tables.specs.declared.listener.Listener.{Listener}
+use Rattle.zs_tables.specs.Matching.{candidates, AreCounted}
 
 -- the members of these groups are below a number
 abbrev pub GroupsBelow : ℕ → List Group → Type 0

@@ -40,10 +40,7 @@ use Rattle.zs_query.specs.RequestTable.{Handing, with_handed, with_shared, with_
 use Rattle.zs_query.specs.Unfinished.{value_at, finished}
 use Rattle.zs_query.specs.Asked.{waits}
 use Rattle.zs_query.specs.declared.get_row.GetRow.{GetRow}
-use Rattle.zs_query.specs.declared.query_value.QueryValue.{QueryValue}
-use Rattle.zs_query.specs.declared.request_row.RequestRow.{RequestRow}
-use Rattle.zs_query.specs.declared.requests.Finished.{Finished}
-use Rattle.zs_query.specs.declared.requests.Finished.TheVariants.{Unknown, MoreLeft, Last}
+use Rattle.zs_query.specs.Types.{QueryValue, RequestRow, Finished, Unknown, MoreLeft, Last}
 use Rattle.zs_wire.specs.declared.body.Body.{Body}
 use Rattle.zs_wire.specs.declared.request.Request.{Request}
 use Rattle.zs_sample.specs.Reply.{Replied}

@@ -4,6 +4,7 @@ pub mod DeclaredKeys
 pub mod HolderCounts
 pub mod MatchingTables
 pub mod Bounds
+pub mod EntityRows
 pub mod Changes
 pub mod LivelinessChanges
 pub mod MatchingChanges

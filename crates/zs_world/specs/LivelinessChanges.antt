@@ -4,7 +4,7 @@ use Rattle.zs_keys.specs.Key.{undeclared}
 use Rattle.zs_tables.specs.Ascending.{placed_by}
 use Rattle.zs_tables.specs.Liveliness.{put_new}
 use Rattle.zs_tables.specs.LivelinessGets.{with_liveliness_get, without_liveliness_get, waiting_at, without_token}
-use Rattle.zs_tables.specs.declared.liveliness_get.LivelinessGet.{LivelinessGet}
+use Rattle.zs_tables.specs.Types.{LivelinessGet}
 use Rattle.zs_world.specs.declared.change.Change.{Change}
 use Rattle.zs_world.specs.declared.change.Change.TheVariants.{Nothing, OfLiveliness}
 use Rattle.zs_world.specs.declared.change.GetChange.{GetChange}

@@ -1,7 +1,7 @@
 -- Matching: the tables of it.
 use Rattle.std.specs.Prelude.{ℕ, nat_lt, List, [], map}
 use Rattle.zs_tables.specs.Told.{Told}
-use Rattle.zs_tables.specs.Matching.{Listener}
+use Rattle.zs_tables.specs.declared.listener.Listener.{Listener}
 use Rattle.zs_tables.specs.declared.listener.ListenerRow.{ListenerRow}
 use Rattle.zs_tables.specs.declared.recount.Recount.{Recount}
 use Rattle.zs_events.specs.declared.turn.Effect.{Effect}

@@ -19,7 +19,7 @@ use Rattle.zs_wire.specs.declared.response.Response.{Response}
 use Rattle.zs_wire.specs.declared.wire_expr.WireExpr.{WireExpr}
 use Rattle.zs_model.specs.Settings.{last_entity, last_query, last_key}
 use Rattle.zs_events.specs.Turn.{answered}
-use Rattle.zs_events.specs.Kinds.{Speaker, Application, Anytime, Network, NamedKey, OwnKey, PublisherKey, WireKey, ToGets, asking_token, token_named, Draws, NoNumber, EntityNumber, ValueNumber, CancellationNumber, KeyNumber, StatusOf, Named, Question, Publishes, OwnContent, ByPublisher, Row, AnswersBy, AnswersError, said_by, publisher_named, row_of, QueryNumber, Answers, told_on, TellsToken}
+use Rattle.zs_events.specs.Kinds.{Speaker, Application, Anytime, Network, NamedKey, OwnKey, PublisherKey, WireKey, ToGets, asking_cancellation_token, cancellation_token_named, Draws, NoNumber, EntityNumber, ValueNumber, CancellationNumber, KeyNumber, StatusOf, Named, Question, Publishes, OwnContent, ByPublisher, Row, AnswersBy, AnswersError, said_by, publisher_named, row_of, QueryNumber, Answers, told_on, TellsToken}
 use Rattle.zs_events.specs.declared.publication.Content.{Content}
 use Rattle.zs_events.specs.declared.publication.ReplyQuality.{ReplyQuality}
 use Rattle.zs_events.specs.declared.update.Update.{Update}
@@ -56,10 +56,7 @@ use Rattle.zs_world.specs.declared.change.LivelinessChange.TheVariants.{ForgetTo
 use Rattle.zs_wire.specs.declared.sample_kind.SampleKind.TheVariants.{Delete as delete_kind}
 use Rattle.zs_keys.specs.Text.{is_canonical}
 use Rattle.zs_events.specs.declared.key_arg.KeyArg.{KeyArg}
-use Rattle.zs_query.specs.declared.query_value.QueryValue.{QueryValue}
-use Rattle.zs_query.specs.declared.request_row.RequestRow.{RequestRow}
-use Rattle.zs_query.specs.declared.requests.Finished.{Finished}
-use Rattle.zs_query.specs.declared.requests.Finished.TheVariants.{Unknown, MoreLeft, Last}
+use Rattle.zs_query.specs.Types.{QueryValue, RequestRow, Finished, Unknown, MoreLeft, Last}
 use Rattle.zs_query.specs.Unfinished.{value_at, values_from}
 use Rattle.zs_model.specs.Questions.{row_asked, row_waiting}
 use Rattle.zs_model.specs.ValueEffects.{reply_for_value, answer_effects, answer_error_effects, finish_effects}
@@ -136,8 +133,8 @@ sight w e = record {
   lives = finds w (row_of e).names;
   claimed = has_claim w (row_of e).claims (text_for w e);
   owed = is_owed w.handing.values (row_of e).to_values;
-  drawn = is_drawn w.cancelling.next (token_named (row_of e).to_gets (row_of e).to_liveliness);
-  cancelled = is_any (is_among w.cancelling.taken) (asking_token (row_of e).to_gets (row_of e).to_liveliness);
+  drawn = is_drawn w.cancelling.next (cancellation_token_named (row_of e).to_gets (row_of e).to_liveliness);
+  cancelled = is_any (is_among w.cancelling.taken) (asking_cancellation_token (row_of e).to_gets (row_of e).to_liveliness);
   disjoint = is_disjoint w.handing.values (row_of e).to_values (text_for w e);
   lacks =
       lacks_values w.handing.next (met_by w.entities.queryables (to_gets_at w e) (row_of e).to_values (text_for w e))

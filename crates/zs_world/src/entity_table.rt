@@ -3,27 +3,29 @@
 ghost use Rattle.std.specs.Prelude.{◌≡◌, ◌<◌, ◌==◌, ◌++◌, [], ◌∷◌, All, not, filter, OnOk, OnErr};
 ghost use Rattle.std.specs.List.{find, list_any};
 ghost use Rattle.std.specs.Option.{option_copied};
-ghost use Rattle.zs_tables.specs.Ascending.{Ascend, IsPlaceOf};
 
 use crate::entity::Entity;
 use std::alloc::{AllocError, Global};
 use std::marker::Model;
+use zs_rows::Rows;
 
-/// The live entities of a kind in ascending number. One is found by its number in a search that halves them.
+/// The live entities of a kind in ascending number. One is found, put in or taken out in steps that go with the logarithm
+/// of how many there are.
 #[derive(Drop)]
 pub struct EntityTable<R: Entity> {
-    rows: Vec<R>,
+    rows: Rows<R>,
 }
 
 impl<R: Entity> Model for EntityTable<R> {
     ghost use Rattle.std.specs.Prelude.{List};
-    ghost use Rattle.zs_tables.specs.Ascending.{Ascend};
+    ghost use Rattle.zs_rows.specs.Rows.{rows_of};
+    ghost use Rattle.zs_world.specs.EntityRows.{AreEntities};
 
     ghost Value = { List R };
 
-    ghost view = { λ t. t.rows.items };
+    ghost view = { λ t. rows_of t.rows };
 
-    ghost invariant = { λ t. Ascend (λ row. (R.shared row).id) t.rows.items };
+    ghost invariant = { λ t. AreEntities (λ row. (R.shared row).id) t.rows };
 }
 
 impl<R: Entity> EntityTable<R> {
@@ -31,7 +33,7 @@ impl<R: Entity> EntityTable<R> {
         ensures { result ≡ [] }
     {
         EntityTable {
-            rows: Vec::new(alloc),
+            rows: Rows::new(alloc),
         }
     }
 
@@ -41,7 +43,8 @@ impl<R: Entity> EntityTable<R> {
         ensures ok { OnOk result (self.new ≡ self.old ++ row ∷ []) }
         ensures err { OnErr result (self.new ≡ self.old) }
     {
-        self.rows.push(row)?;
+        let id = row.id();
+        self.rows.insert(id, row)?;
         Ok(())
     }
 
@@ -49,8 +52,7 @@ impl<R: Entity> EntityTable<R> {
     pub fn remove(&mut self, id: u32)
         ensures { self.new ≡ filter (λ row. not ((R.shared row).id == id)) self.old }
     {
-        let row = take_out(&mut self.rows, id);
-        drop(row);
+        drop(self.rows.remove(id));
     }
 
     pub fn clear(&mut self)
@@ -63,55 +65,13 @@ impl<R: Entity> EntityTable<R> {
     pub fn has(&self, id: u32) -> bool
         ensures { result ≡ list_any (λ row. (R.shared row).id == id) self.now }
     {
-        has_row(&self.rows, id)
+        self.rows.has(id)
     }
 
     /// The entity of that number, if there is one.
     pub fn get(&self, id: u32) -> Option<&R>
         ensures { option_copied result ≡ find (λ row. (R.shared row).id == id) self.now }
     {
-        find_row(&self.rows, id)
+        self.rows.find(id)
     }
-}
-
-/// Whether an entity is there.
-fn has_row<R: Entity>(rows: &[R], id: u32) -> bool
-    requires { Ascend (λ row. (R.shared row).id) rows.now }
-    ensures { result ≡ list_any (λ row. (R.shared row).id == id) rows.now }
-{
-    match place_of(rows, id) {
-        Ok(_) => true,
-        Err(_) => false,
-    }
-}
-
-/// The row of an entity.
-fn find_row<R: Entity>(rows: &[R], id: u32) -> Option<&R>
-    requires { Ascend (λ row. (R.shared row).id) rows.now }
-    ensures { option_copied result ≡ find (λ row. (R.shared row).id == id) rows.now }
-{
-    match place_of(rows, id) {
-        Ok(at) => Some(&rows[at]),
-        Err(_) => None,
-    }
-}
-
-/// Takes an entity out, and gives it, if it is there.
-fn take_out<R: Entity>(rows: &mut Vec<R>, id: u32) -> Option<R>
-    requires { Ascend (λ row. (R.shared row).id) rows.old.items }
-    ensures rows { rows.new.items ≡ filter (λ row. not ((R.shared row).id == id)) rows.old.items }
-    ensures ascending { Ascend (λ row. (R.shared row).id) rows.new.items }
-{
-    match place_of(rows, id) {
-        Ok(at) => Some(rows.remove(at)),
-        Err(_) => None,
-    }
-}
-
-/// Where an entity stands, or where it would go.
-fn place_of<R: Entity>(rows: &[R], id: u32) -> Result<usize, usize>
-    requires { Ascend (λ row. (R.shared row).id) rows.now }
-    ensures { IsPlaceOf (λ row. (R.shared row).id) id rows.now result }
-{
-    rows.binary_search_by_key(&id, |row| row.id())
 }

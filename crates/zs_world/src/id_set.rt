@@ -2,26 +2,24 @@
 
 ghost use Rattle.std.specs.Prelude.{◌≡◌, ◌==◌, [], OnOk, OnErr, not, filter};
 ghost use Rattle.std.specs.List.{list_any};
-ghost use Rattle.zs_tables.specs.Ascending.{Ascend, IsPlaceOf, placed_by};
+ghost use Rattle.zs_tables.specs.Ascending.{placed_by};
 
 use std::alloc::{AllocError, Global};
 use std::marker::Model;
+use zs_rows::Numbers;
 
 /// Numbers in ascending order, each once.
 #[derive(Drop)]
 pub struct IdSet {
-    ids: Vec<u32>,
+    ids: Numbers,
 }
 
 impl Model for IdSet {
     ghost use Rattle.std.specs.Prelude.{ℕ, List};
-    ghost use Rattle.zs_tables.specs.Ascending.{Ascend};
 
     ghost Value = { List ℕ };
 
-    ghost view = { λ s. s.ids.items };
-
-    ghost invariant = { λ s. Ascend (λ id. id) s.ids.items };
+    ghost view = { λ s. s.ids };
 }
 
 impl IdSet {
@@ -29,7 +27,7 @@ impl IdSet {
         ensures { result ≡ [] }
     {
         IdSet {
-            ids: Vec::new(alloc),
+            ids: Numbers::new(alloc),
         }
     }
 
@@ -38,17 +36,17 @@ impl IdSet {
         ensures ok { OnOk result (self.new ≡ placed_by (λ n. n) id self.old) }
         ensures err { OnErr result (self.new ≡ self.old) }
     {
-        match id_place(&self.ids, id) {
-            Ok(_) => Ok(()),
-            Err(at) => Ok(self.ids.insert(at, id)?),
-        }
+        let _was_in_order = self.ids.len();
+        self.ids.insert(id)?;
+        let _in_order = self.ids.len();
+        Ok(())
     }
 
     /// Takes a number out, if it is there.
     pub fn remove(&mut self, id: u32)
         ensures { self.new ≡ filter (λ n. not (n == id)) self.old }
     {
-        take_out(&mut self.ids, id);
+        self.ids.remove(id);
     }
 
     pub fn clear(&mut self)
@@ -60,28 +58,6 @@ impl IdSet {
     pub fn contains(&self, id: u32) -> bool
         ensures { result ≡ list_any (λ other. other == id) self.now }
     {
-        match id_place(&self.ids, id) {
-            Ok(_) => true,
-            Err(_) => false,
-        }
+        self.ids.has(id)
     }
-}
-
-/// Takes a number out, if it is there.
-fn take_out(ids: &mut Vec<u32>, id: u32)
-    requires { Ascend (λ id. id) ids.old.items }
-    ensures ids { ids.new.items ≡ filter (λ n. not (n == id)) ids.old.items }
-    ensures ascending { Ascend (λ id. id) ids.new.items }
-{
-    if let Ok(at) = id_place(ids, id) {
-        let _ = ids.remove(at);
-    }
-}
-
-/// Where a number stands, or where it would go.
-fn id_place(ids: &[u32], id: u32) -> Result<usize, usize>
-    requires { Ascend (λ id. id) ids.now }
-    ensures { IsPlaceOf (λ id. id) id ids.now result }
-{
-    ids.binary_search(&id)
 }

@@ -5,7 +5,7 @@ ghost use Rattle.zs_events.specs.declared.event.Event.TheVariants.{Tick, Net, Cl
 ghost use Rattle.zs_posts.specs.declared.key.Key.{Key};
 ghost use Rattle.zs_turns.specs.Gates.{takes_handler};
 ghost use Rattle.zs_held.specs.Numbers.{numbered_at};
-ghost use Rattle.zs_cell.specs.Steps.{Accepts, Asks, AsksFor, Stops};
+ghost use Rattle.zs_cell.specs.Steps.{Accepts, AcceptsAsking, AcceptsFor, Stops};
 
 use crate::error::{NotSubmitted, SessionError};
 use crate::session::Session;
@@ -44,7 +44,6 @@ impl<H: Handler<Item> + Drop, B: Books> Session<H, B> {
         requires { is_some handler ≡ true → takes_handler event ≡ true }
         ensures ok { IfOk result (λ number. Accepts H.evicts caller.old caller.new event (is_some handler) number) }
         ensures numbered { IfOk result (λ number. is_some number ≡ numbered_at event) }
-        ensures asked { OnOk result (Asks caller.new None false) }
         ensures err { IfErr result (λ back. Stops H.evicts caller.old caller.new event (is_some handler) back.why) }
         ensures handler { IfErr result (λ back. option_map arc_value back.handler ≡ option_map arc_value handler) }
     {
@@ -68,8 +67,7 @@ impl<H: Handler<Item> + Drop, B: Books> Session<H, B> {
         caller: &mut Caller<B>,
     ) -> Result<Option<Closing<H>>, SessionError>
         requires { numbered_at event ≡ false }
-        ensures ok { OnOk result (Accepts H.evicts caller.old caller.new event false None) }
-        ensures asked { IfOk result (λ closing. Asks caller.new key (is_some closing)) }
+        ensures ok { IfOk result (λ closing. AcceptsFor H.evicts caller.old caller.new event false None key (is_some closing)) }
         ensures err { IfErr result (λ why. Stops H.evicts caller.old caller.new event false why) }
     {
         match self.step(rt, event, None, key, caller) {
@@ -99,7 +97,6 @@ impl<H: Handler<Item> + Drop, B: Books> Session<H, B> {
     ) -> Result<(), SessionError>
         requires { numbered_at event ≡ false }
         ensures ok { OnOk result (Accepts H.evicts caller.old caller.new event false None) }
-        ensures asked { OnOk result (Asks caller.new None false) }
         ensures err { IfErr result (λ why. Stops H.evicts caller.old caller.new event false why) }
     {
         match self.submit(rt, event, None, caller) {
@@ -185,8 +182,7 @@ impl<H: Handler<Item> + Drop, B: Books> Session<H, B> {
         caller: &mut Caller<B>,
     ) -> Result<(), SessionError>
         requires { numbered_at event ≡ false }
-        ensures ok { OnOk result (Accepts H.evicts caller.old caller.new event false None) }
-        ensures waits { OnOk result (AsksFor caller.new key) }
+        ensures ok { OnOk result (AcceptsAsking H.evicts caller.old caller.new event key) }
         ensures err { IfErr result (λ why. Stops H.evicts caller.old caller.new event false why) }
     {
         match self.tell_and_drain(rt, event, Some(key), caller) {
@@ -247,9 +243,8 @@ impl<H: Handler<Item> + Drop, B: Books> Session<H, B> {
         wait_callbacks: bool,
         caller: &mut Caller<B>,
     ) -> Result<(), SessionError>
-        ensures ok { OnOk result (Accepts H.evicts caller.old caller.new Close false None) }
-        ensures waits { wait_callbacks ≡ true → OnOk result (AsksFor caller.new Key.Session) }
-        ensures at_once { wait_callbacks ≡ false → OnOk result (Asks caller.new None false) }
+        ensures waits { wait_callbacks ≡ true → OnOk result (AcceptsAsking H.evicts caller.old caller.new Close Key.Session) }
+        ensures at_once { wait_callbacks ≡ false → OnOk result (Accepts H.evicts caller.old caller.new Close false None) }
         ensures err { IfErr result (λ why. Stops H.evicts caller.old caller.new Close false why) }
     {
         if wait_callbacks {

@@ -5,7 +5,7 @@ ghost use Rattle.zs_turns.specs.Gates.{takes_handler};
 ghost use Rattle.zs_hands.specs.Answers.{AreOfRoom};
 ghost use Rattle.zs_held.specs.Numbers.{numbered_at};
 ghost use Rattle.zs_cell.specs.Further.{AddsSome};
-ghost use Rattle.zs_cell.specs.Steps.{Takes, Accepts, Asks, Stops, IsNumbered, IsRefusal};
+ghost use Rattle.zs_cell.specs.Steps.{Takes, AcceptsFor, Stops, IsNumbered, IsRefusal, asked_for};
 ghost use Rattle.zs_cell.specs.Works.{back_at};
 ghost use Rattle.zs_events.specs.Turn.{was_refused};
 ghost use Rattle.zs_events.specs.declared.turn.Answer.TheVariants.{Ok as accepted};
@@ -49,13 +49,12 @@ impl<H: Handler<Item> + Drop, B: Books> Session<H, B> {
         caller: &mut Caller<B>,
     ) -> Result<Work<H, H::Done>, NotNow<H>>
         requires { is_some handler ≡ true → takes_handler event.now ≡ true }
-        ensures ok { IfOk result (λ work. Takes caller.old event.now (is_some handler) work.answer caller.new) }
+        ensures ok { IfOk result (λ work. Takes caller.old event.now (is_some handler) work.answer (asked_for work.answer key work.waits) caller.new) }
         ensures numbered { IfOk result (λ work. IsNumbered event.now work.answer) }
         ensures back { IfOk result (λ work. work.back ≡ back_at work.answer (option_map arc_value handler)) }
         ensures lents { IfOk result (λ work. AreOfRoom self.now.lock.key work.lents) }
         ensures none { key ≡ None → IfOk result (λ work. work.waits ≡ false) }
         ensures closing { IfOk result (λ work. was_refused work.answer ≡ true → work.waits ≡ false) }
-        ensures asked { IfOk result (λ work. was_refused work.answer ≡ false → Asks caller.new key work.waits) }
         ensures handler { IfErr result (λ refused. refused.handler ≡ handler) }
         ensures err { OnErr result (caller.new ≡ caller.old) }
     {
@@ -81,13 +80,12 @@ impl<H: Handler<Item> + Drop, B: Books> Session<H, B> {
         caller: &mut Caller<B>,
     ) -> Result<Work<H, H::Done>, Option<Arc<H>>>
         requires { is_some handler ≡ true → takes_handler event.now ≡ true }
-        ensures ok { IfOk result (λ work. Takes caller.old event.now (is_some handler) work.answer caller.new) }
+        ensures ok { IfOk result (λ work. Takes caller.old event.now (is_some handler) work.answer (asked_for work.answer key work.waits) caller.new) }
         ensures numbered { IfOk result (λ work. IsNumbered event.now work.answer) }
         ensures back { IfOk result (λ work. work.back ≡ back_at work.answer (option_map arc_value handler)) }
         ensures lents { IfOk result (λ work. AreOfRoom self.now.lock.key work.lents) }
         ensures none { key ≡ None → IfOk result (λ work. work.waits ≡ false) }
         ensures closing { IfOk result (λ work. was_refused work.answer ≡ true → work.waits ≡ false) }
-        ensures asked { IfOk result (λ work. was_refused work.answer ≡ false → Asks caller.new key work.waits) }
         ensures handler { IfErr result (λ back. back ≡ handler) }
         ensures err { OnErr result (caller.new ≡ caller.old) }
     {
@@ -198,10 +196,9 @@ impl<H: Handler<Item> + Drop, B: Books> Session<H, B> {
         caller: &mut Caller<B>,
     ) -> Result<Stepped<H>, NotSubmitted<H>>
         requires { is_some handler ≡ true → takes_handler event.now ≡ true }
-        ensures ok { IfOk result (λ stepped. Accepts H.evicts caller.old caller.new event.now (is_some handler) stepped.number) }
+        ensures ok { IfOk result (λ stepped. AcceptsFor H.evicts caller.old caller.new event.now (is_some handler) stepped.number key (is_some stepped.closing)) }
         ensures numbered { IfOk result (λ stepped. is_some stepped.number ≡ numbered_at event.now) }
         ensures none { key ≡ None → IfOk result (λ stepped. stepped.closing ≡ None) }
-        ensures asked { IfOk result (λ stepped. Asks caller.new key (is_some stepped.closing)) }
         ensures err { IfErr result (λ back. Stops H.evicts caller.old caller.new event.now (is_some handler) back.why) }
         ensures handler { IfErr result (λ back. option_map arc_value back.handler ≡ option_map arc_value handler) }
     {
@@ -226,10 +223,9 @@ impl<H: Handler<Item> + Drop, B: Books> Session<H, B> {
         caller: &mut Caller<B>,
     ) -> Result<Stepped<H>, NotSubmitted<H>>
         requires { is_some handler ≡ true → takes_handler event ≡ true }
-        ensures ok { IfOk result (λ stepped. Accepts H.evicts caller.old caller.new event (is_some handler) stepped.number) }
+        ensures ok { IfOk result (λ stepped. AcceptsFor H.evicts caller.old caller.new event (is_some handler) stepped.number key (is_some stepped.closing)) }
         ensures numbered { IfOk result (λ stepped. is_some stepped.number ≡ numbered_at event) }
         ensures none { key ≡ None → IfOk result (λ stepped. stepped.closing ≡ None) }
-        ensures asked { IfOk result (λ stepped. Asks caller.new key (is_some stepped.closing)) }
         ensures err { IfErr result (λ back. Stops H.evicts caller.old caller.new event (is_some handler) back.why) }
         ensures handler { IfErr result (λ back. option_map arc_value back.handler ≡ option_map arc_value handler) }
     {

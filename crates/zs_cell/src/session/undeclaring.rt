@@ -1,7 +1,7 @@
 //! Undeclarations after which a caller waits for callbacks that are under way.
-ghost use Rattle.std.specs.Prelude.{◌≡◌, None, false, is_some, IfOk, IfErr, OnOk};
+ghost use Rattle.std.specs.Prelude.{◌≡◌, None, false, is_some, IfOk, IfErr};
 ghost use Rattle.zs_held.specs.Numbers.{numbered_at};
-ghost use Rattle.zs_cell.specs.Steps.{Accepts, Asks, Stops};
+ghost use Rattle.zs_cell.specs.Steps.{AcceptsFor, Stops};
 ghost use Rattle.zs_events.specs.Kinds.{kind_of};
 ghost use Rattle.zs_cell.specs.Undeclared.{undeclared_key};
 
@@ -56,8 +56,7 @@ impl<H: Handler<Item> + Drop, B: Books> Session<H, B> {
         caller: &mut Caller<B>,
     ) -> Result<Option<Closing<H>>, SessionError>
         requires { numbered_at event ≡ false }
-        ensures ok { OnOk result (Accepts H.evicts caller.old caller.new event false None) }
-        ensures asked { IfOk result (λ closing. Asks caller.new (undeclared_key event) (is_some closing)) }
+        ensures ok { IfOk result (λ closing. AcceptsFor H.evicts caller.old caller.new event false None (undeclared_key event) (is_some closing)) }
         ensures err { IfErr result (λ why. Stops H.evicts caller.old caller.new event false why) }
     {
         let key = undeclared_key(&event);

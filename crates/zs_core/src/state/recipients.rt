@@ -1,7 +1,8 @@
 //! Who receives a publication, read from the tables.
 
 ghost use Rattle.std.specs.Prelude.{◌≡◌, IsSome};
-ghost use Rattle.std.specs.Option.{option_map, option_copied, ForSome};
+ghost use Rattle.std.specs.Option.{option_map, option_copied, ForSome, IfSome};
+ghost use Rattle.zs_tables.specs.Ascending.{Ascend};
 ghost use Rattle.zs_tables.specs.Numbers.{key_at};
 ghost use Rattle.zs_tables.specs.Contents.{text_meant, IsByNumber};
 ghost use Rattle.zs_tables.specs.Recipients.{matches, next_recipient};
@@ -19,7 +20,8 @@ impl SessionState {
     /// it stands for one. `Mapping::Receiver` names this session's numbers, `Mapping::Sender` the network's. It reads
     /// the list that the number keeps.
     pub fn matches_of(&self, mapping: Mapping, number: u16) -> Option<&[u32]>
-        ensures { option_copied result ≡ option_map (λ key. matches key.text self.now.entities.subs) (key_at number (numbers_for mapping self.now)) }
+        ensures list { option_copied result ≡ option_map (λ key. matches key.text self.now.entities.subs) (key_at number (numbers_for mapping self.now)) }
+        ensures ascending { IfSome (option_copied result) (λ ids. Ascend (λ id. id) ids) }
     {
         self.world.matches_of(mapping, number)
     }

@@ -8,7 +8,7 @@ ghost use Rattle.zs_model.specs.GetEffects.{hand_query};
 ghost use Rattle.zs_world.specs.Turns.{open_decision, finished_decision};
 ghost use Rattle.zs_model.specs.Values.{wants_complete, met_by_request, network_request, lacks_values};
 ghost use Rattle.zs_model.specs.ValueEffects.{requested_effects, finish_effects};
-ghost use Rattle.zs_query.specs.declared.requests.Finished.{Finished};
+ghost use Rattle.zs_query.specs.Types.{Finished};
 
 use std::alloc::AllocError;
 use zs_announcing::resolve_wire;

@@ -17,7 +17,7 @@ pub(super) fn recounts_of(
     ensures all { IfOk result (λ all. all.items ≡ recounts (seen_if goes.entry) (seen_if comes.entry) listeners.now) }
     ensures ascending { Ascend (λ l. l.row.id) listeners.now }
 {
-    let _ascending = listeners.rows();
+    let _ascending = listeners.len();
     listeners.recounts(goes, comes)
 }
 

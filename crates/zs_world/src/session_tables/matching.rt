@@ -59,7 +59,7 @@ impl SessionTables {
         ensures ok { OnOk result (self.new ≡ with_change (Change.OfMatching (MatchingChange.TellSub row)) self.old) }
         ensures err { OnErr result (self.new ≡ self.old) }
     {
-        let _ascending = self.matching.told().subs();
+        let _ascending = self.matching.told().sub_count();
         let goes = told_sub_of(self.matching.told(), row.number);
         let comes = Some(Candidate::told_sub(&row));
         let recounts = recounts_of(self.matching.listeners(), goes, comes)?;
@@ -72,7 +72,7 @@ impl SessionTables {
         ensures ok { OnOk result (self.new ≡ with_change (Change.OfMatching (MatchingChange.ForgetSub number)) self.old) }
         ensures err { OnErr result (self.new ≡ self.old) }
     {
-        let _ascending = self.matching.told().subs();
+        let _ascending = self.matching.told().sub_count();
         let goes = told_sub_of(self.matching.told(), number);
         let recounts = recounts_of(self.matching.listeners(), goes, None)?;
         self.matching.forget_sub(number);
@@ -84,7 +84,7 @@ impl SessionTables {
         ensures ok { OnOk result (self.new ≡ with_change (Change.OfMatching (MatchingChange.TellQueryable row)) self.old) }
         ensures err { OnErr result (self.new ≡ self.old) }
     {
-        let _ascending = self.matching.told().queryables();
+        let _ascending = self.matching.told().queryable_count();
         let goes = told_queryable_of(self.matching.told(), row.number);
         let comes = Some(Candidate::told_queryable(&row));
         let recounts = recounts_of(self.matching.listeners(), goes, comes)?;
@@ -97,7 +97,7 @@ impl SessionTables {
         ensures ok { OnOk result (self.new ≡ with_change (Change.OfMatching (MatchingChange.ForgetQueryable number)) self.old) }
         ensures err { OnErr result (self.new ≡ self.old) }
     {
-        let _ascending = self.matching.told().queryables();
+        let _ascending = self.matching.told().queryable_count();
         let goes = told_queryable_of(self.matching.told(), number);
         let recounts = recounts_of(self.matching.listeners(), goes, None)?;
         self.matching.forget_queryable(number);

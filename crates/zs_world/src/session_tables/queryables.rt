@@ -36,7 +36,7 @@ impl SessionTables {
         ensures ok { OnOk result (self.new ≡ with_change (Change.OfEntities (EntityChange.EndQueryable id)) self.old) }
         ensures err { OnErr result (self.new ≡ self.old) }
     {
-        let _ascending = self.queryables.rows();
+        let _ascending = self.queryables.len();
         let goes = own_queryable_of(&self.queryables, id);
         let recounts = recounts_of(self.matching.listeners(), goes, None)?;
         self.queryables.remove(id);

@@ -64,7 +64,7 @@ impl SessionTables {
         ensures ok { OnOk result (self.new ≡ with_change (Change.OfEntities (EntityChange.EndSub id)) self.old) }
         ensures err { OnErr result (self.new ≡ self.old) }
     {
-        let _ascending = self.tables.rows();
+        let _ascending = self.tables.len();
         let goes = own_sub_of(&self.tables, id);
         let recounts = recounts_of(self.matching.listeners(), goes, None)?;
         let row = self.tables.row(id);

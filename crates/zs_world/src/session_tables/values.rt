@@ -5,7 +5,7 @@ ghost use Rattle.zs_query.specs.RequestTable.{with_handed};
 ghost use Rattle.zs_tables.specs.Queryables.{met};
 ghost use Rattle.zs_world.specs.Changes.{ValuesFit, with_change, with_ended};
 ghost use Rattle.zs_model.specs.Values.{lacks_values};
-ghost use Rattle.zs_query.specs.declared.requests.Finished.{Finished};
+ghost use Rattle.zs_query.specs.Types.{Finished};
 
 use super::SessionTables;
 use crate::change::{Change, ValueChange};

@@ -1,7 +1,7 @@
 use Rattle.std.proofs.Common.{◌≡◌, ℕ, Bool, true, false, List, refl, sym, ap, ◌∙◌}
 use Rattle.std.specs.Prelude.{◌==◌, not, map}
 use Rattle.std.specs.List.{list_any}
-use Rattle.zs_tables.specs.Matching.{Listener}
+use Rattle.zs_tables.specs.declared.listener.Listener.{Listener}
 use Rattle.zs_world.specs.World.{World}
 use Rattle.zs_model.specs.Listeners.{is_listener}
 use Rattle.zs_world.proofs.Counted.{any_row}

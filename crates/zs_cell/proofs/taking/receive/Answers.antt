@@ -2,6 +2,9 @@ use Rattle.std.proofs.Common.{Some, ap, ◌∙◌}
 use Rattle.zs_held.specs.Receipts.{ReceiptSeen}
 use Rattle.zs_cell.proofs.taking.receive.Goals as goal
 
+pub work_of-work-requires : goal.work_of-work-requires
+work_of-work-requires g c = c.requires
+
 pub returns-clause-answer : goal.returns-clause-answer
 returns-clause-answer g c = c.work_of-work.ensures.answer
 

@@ -1,4 +1,4 @@
-use Rattle.std.proofs.Common.{[], List, length, option_map, ap, sym, subst, ◌∙◌}
+use Rattle.std.proofs.Common.{[], List, option_map, ap, sym, subst, ◌∙◌}
 use Rattle.std.specs.Arc.{arc_value}
 use Rattle.zs_events.specs.declared.turn.Answer.{Answer}
 use Rattle.zs_events.specs.Turn.{was_refused}
@@ -7,16 +7,21 @@ use Rattle.zs_hands.specs.Answers.{AreOfRoom}
 use Rattle.zs_session_cell.specs.Journals.{history}
 use Rattle.zs_cell.specs.Steps.{IsNumbered}
 use Rattle.zs_cell.specs.Works.{back_at}
-use Rattle.zs_books.specs.Callers.{CallerSeen}
 use Rattle.zs_held.specs.Receipts.{ReceiptSeen}
-use Rattle.zs_cell.proofs.Stepping.{asks, takes, numbered}
+use Rattle.zs_cell.proofs.Stepping.{takes, numbered}
 use Rattle.zs_cell.proofs.taking.take_held.Goals as goal
 
 pub take-requires : goal.take-requires
 take-requires g c = c.requires
 
+pub receive-requires : goal.receive-requires
+receive-requires g c = ap (λ (r : ReceiptSeen). r.asked) c.in-Ok.ensures.receipt
+
 pub returns-in-Ok-clause-ok : goal.returns-in-Ok-clause-ok
-returns-in-Ok-clause-ok g c = takes (length c.args.held.now.session.journal) _ c.in-Ok.ensures.receipt c.in-Ok.ensures.caller c.receive.ensures.caller c.receive.ensures.answer
+returns-in-Ok-clause-ok g c =
+    let session = c.args.held.now.session in
+    takes session.settings session.journal c.args.key c.receive.result.waits c.in-Ok.given.1 c.in-Ok.ensures.ok.turn_is c.in-Ok.ensures.receipt c.in-Ok.ensures.caller c.receive.ensures.caller
+    c.receive.ensures.answer
 
 pub returns-in-Ok-clause-numbered : goal.returns-in-Ok-clause-numbered
 returns-in-Ok-clause-numbered g c =
@@ -35,14 +40,6 @@ returns-in-Ok-clause-none g c = c.receive.ensures.none
 
 pub returns-in-Ok-clause-closing : goal.returns-in-Ok-clause-closing
 returns-in-Ok-clause-closing g c = λ was. c.receive.ensures.refused (ap was_refused (sym c.receive.ensures.answer) ∙ was)
-
-pub returns-in-Ok-clause-asked : goal.returns-in-Ok-clause-asked
-returns-in-Ok-clause-asked g c =
-    λ so.
-    asks _ c.in-Ok.given.1 c.args.key c.receive.result.waits (was_refused c.in-Ok.given.0.turn.answer)
-    (ap (λ (k : CallerSeen ReceiptSeen). k.last) c.receive.ensures.caller)
-    (ap (λ (r : ReceiptSeen). r.asked) c.in-Ok.ensures.receipt)
-    (ap was_refused (sym c.receive.ensures.answer) ∙ so)
 
 pub returns-in-Ok-clause-room : goal.returns-in-Ok-clause-room
 returns-in-Ok-clause-room g c = c.receive.ensures.room ∙ c.in-Ok.ensures.room

@@ -4,6 +4,9 @@ use Rattle.zs_events.specs.Turn.{was_refused}
 use Rattle.zs_cell.specs.Works.{WorkSeen, asked_at}
 use Rattle.zs_cell.proofs.taking.work_of.Goals as goal
 
+pub drain_if-closing-requires : goal.drain_if-closing-requires
+drain_if-closing-requires g c = c.requires
+
 pub returns-clause-answer : goal.returns-clause-answer
 returns-clause-answer g c = ap (λ (w : WorkSeen _). w.answer) c.of.ensures
 

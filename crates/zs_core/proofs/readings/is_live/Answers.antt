@@ -10,10 +10,10 @@ use Rattle.zs_query.specs.GetTable.{Asking}
 use Rattle.zs_standing.proofs.Steps.{is_here, live_told}
 use Rattle.std.specs.Prelude.{◌==◌}
 use Rattle.std.specs.List.{list_any}
-use Rattle.zs_tables.specs.declared.liveliness_sub.LivelinessSub.{LivelinessSub}
+use Rattle.zs_tables.specs.Types.{LivelinessSub}
 use Rattle.zs_tables.specs.LivelinessGets.{is_asking}
 use Rattle.std.specs.Prelude.{map}
-use Rattle.zs_tables.specs.Matching.{Listener as a_listener}
+use Rattle.zs_tables.specs.declared.listener.Listener.{Listener as a_listener}
 use Rattle.zs_model.specs.Listeners.{is_listener}
 use Rattle.zs_world.proofs.Counted.{any_row}
 use Rattle.zs_core.proofs.readings.is_live.Goals as goal

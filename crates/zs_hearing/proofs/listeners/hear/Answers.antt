@@ -1,6 +1,7 @@
 use Rattle.std.proofs.Common.{[], ◌++◌, sym, ap, ◌∙◌}
 use Rattle.std.specs.Prelude.{map}
-use Rattle.zs_tables.specs.Matching.{Listener, candidates}
+use Rattle.zs_tables.specs.declared.listener.Listener.{Listener}
+use Rattle.zs_tables.specs.Matching.{candidates}
 use Rattle.zs_world.specs.declared.change.Change.{Change}
 use Rattle.zs_world.specs.World.{present_at}
 use Rattle.zs_world.specs.Changes.{with_change}
@@ -13,7 +14,7 @@ returns-in-Shut c =
     let s = c.world.inside in
     let rows = map (λ (l : Listener). l.row) s.matching.listeners in
     let ended = between_none rows (candidates s.tables.rows s.queryables s.matching.told) (candidates [] [] s.matching.told) in
-    rw (c.in-Shut.is, ← c.world.view_is) (rw (c.rows.ensures.rows, c.listeners.ensures, sym ended) at c.push_ends.ensures)
+    rw (c.in-Shut.is, ← c.world.view_is) (rw (c.listeners.ensures, sym ended) at c.push_ends.ensures)
 
 pub returns-in-Nothing : goal.returns-in-Nothing
 returns-in-Nothing c =

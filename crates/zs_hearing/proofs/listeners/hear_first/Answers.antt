@@ -2,7 +2,8 @@ use Rattle.std.proofs.Common.{◌≡◌, ◌≢◌, ◌<◌, List, sym, ap, subs
 use Rattle.std.specs.Prelude.{map}
 use Rattle.std.specs.List.{AllByRecursion}
 use Rattle.zs_tables.specs.declared.listener.ListenerRow.{ListenerRow}
-use Rattle.zs_tables.specs.Matching.{Listener, Candidate, count_of}
+use Rattle.zs_tables.specs.declared.listener.Listener.{Listener}
+use Rattle.zs_tables.specs.Matching.{Candidate, count_of}
 use Rattle.zs_world.specs.World.{World, present_at}
 use Rattle.zs_world.proofs.Counted.{rows_under}
 use Rattle.zs_world.proofs.Hearing.{first_unmatched, first_matched}

@@ -5,6 +5,6 @@ use Rattle.zs_hearing.proofs.listeners.hear_told_sub.Goals as goal
 pub returns : goal.returns
 returns c =
     let s = c.world.inside in
-    let moves = told_sub_comes s.tables.rows s.queryables s.matching.told c.args.row.now (rw c.told.ensures at c.subs-ascending.ensures.ascending) in
+    let moves = told_sub_comes s.tables.rows s.queryables s.matching.told c.args.row.now (rw c.told.ensures at c.sub_count-ascending.ensures.ascending) in
     let heard = heard_between _ _ _ _ s.matching.listeners moves c.world.invariant.counted in
     rw (← c.world.view_is) (rw (c.listeners.ensures, c.told_sub_of-goes.ensures, c.told-2.ensures, c.told_sub.ensures, heard) at c.push_heard.ensures)

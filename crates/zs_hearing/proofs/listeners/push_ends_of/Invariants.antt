@@ -1,8 +1,11 @@
-use Rattle.std.proofs.Common.{◌≡◌, ◌++◌, take}
-use Rattle.std.specs.Prelude.{◌==◌, filter}
-use Rattle.zs_tables.specs.declared.listener.ListenerRow.{ListenerRow}
-use Rattle.zs_model.specs.Listeners.{listener_ends}
+use Rattle.std.proofs.Common.{◌≡◌, ◌++◌, length}
+use Rattle.std.specs.Prelude.{filter}
+use Rattle.zs_tables.specs.Recipients.{is_behind}
+use Rattle.zs_hearing.proofs.Ends.{ids_of, ends_of}
 use Rattle.zs_hearing.proofs.listeners.push_ends_of.Given as goal
 
-abbrev pub invariant-loop-row : goal.invariant-loop-row
-invariant-loop-row l = l.effects ≡ l.fn.effects ++ listener_ends (filter (λ (row : ListenerRow). row.parent == l.parent) (take l.row-index l.rows))
+abbrev pub invariant-loop-id : goal.invariant-loop-id
+invariant-loop-id l = l.effects ++ ends_of (filter (is_behind l.last) (ids_of l.parent l.listeners)) ≡ l.fn.effects ++ ends_of (ids_of l.parent l.listeners)
+
+abbrev pub decreases-loop-id : goal.decreases-loop-id
+decreases-loop-id l = length (filter (is_behind l.last) (ids_of l.parent l.listeners))

@@ -1,4 +1,4 @@
-use Rattle.zs_query.specs.declared.query_value.QueryValue.{QueryValue}
+use Rattle.zs_requests.specs.declared.query_value.QueryValue.{QueryValue}
 use Rattle.zs_query.proofs.Standing.{placed_last}
 use Rattle.zs_query.proofs.laws.hands_last.Goals as goal
 

@@ -1,5 +1,5 @@
 use Rattle.std.proofs.Common.{◌∙◌, ap, List}
-use Rattle.zs_tables.specs.declared.told_token.ToldToken.{ToldToken}
+use Rattle.zs_tables.specs.Types.{ToldToken}
 use Rattle.zs_model.specs.Past.{past_of}
 use Rattle.zs_model.proofs.Tokens.{text_under, texts_told, tokens_ascend}
 use Rattle.zs_standing.proofs.Stands.{standing}

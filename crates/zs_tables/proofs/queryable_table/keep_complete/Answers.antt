@@ -1,7 +1,7 @@
 use Rattle.std.proofs.Common.{rules}
 use Rattle.std.proofs.lemmas.Fn.{filter_same}
 use Rattle.zs_tables.specs.declared.queryable.QueryableRow.{QueryableRow}
-use Rattle.zs_tables.specs.Keyed.{passes_by}
+use Rattle.zs_keyed.specs.Keyed.{passes_by}
 use Rattle.zs_tables.specs.Queryables.{answers_whole}
 use Rattle.zs_tables.proofs.queryable_table.keep_complete.Goals as goal
 

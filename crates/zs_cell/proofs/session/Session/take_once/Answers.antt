@@ -3,7 +3,7 @@ use Rattle.zs_events.specs.declared.event.Event.{Event}
 use Rattle.zs_turns.specs.Gates.{takes_handler}
 use Rattle.zs_hands.specs.Answers.{AreOfRoom}
 use Rattle.zs_cell.specs.Places.{SessionPlace}
-use Rattle.zs_cell.specs.Steps.{Takes, IsNumbered}
+use Rattle.zs_cell.specs.Steps.{Takes, IsNumbered, asked_for}
 use Rattle.zs_cell.specs.Works.{WorkSeen}
 use Rattle.zs_cell.proofs.session.Session.take_once.Goals as goal
 
@@ -21,7 +21,7 @@ put-requires g c = c.take_held-taking.ensures.room ∙ (c.take-held.ensures.fact
 
 pub returns-clause-ok : goal.returns-clause-ok
 returns-clause-ok g c =
-    subst (λ (e : Event). IfOk c.take_held-taking.result (λ (work : WorkSeen _). Takes c.args.caller.now e (is_some c.args.handler) work.answer c.take_held-taking.new.caller)) c.in-Ok.ensures c.take_held-taking.ensures.ok
+    subst (λ (e : Event). IfOk c.take_held-taking.result (λ (work : WorkSeen _). Takes c.args.caller.now e (is_some c.args.handler) work.answer (asked_for work.answer c.args.key work.waits) c.take_held-taking.new.caller)) c.in-Ok.ensures c.take_held-taking.ensures.ok
 
 pub returns-clause-numbered : goal.returns-clause-numbered
 returns-clause-numbered g c =
@@ -40,9 +40,6 @@ returns-clause-none g c = c.take_held-taking.ensures.none
 
 pub returns-clause-closing : goal.returns-clause-closing
 returns-clause-closing g c = c.take_held-taking.ensures.closing
-
-pub returns-clause-asked : goal.returns-clause-asked
-returns-clause-asked g c = c.take_held-taking.ensures.asked
 
 pub returns-clause-handler : goal.returns-clause-handler
 returns-clause-handler g c = c.take_held-taking.ensures.handler

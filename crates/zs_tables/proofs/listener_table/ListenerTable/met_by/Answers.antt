@@ -4,7 +4,6 @@ use Rattle.zs_keys.specs.Matching.{intersects}
 use Rattle.zs_tables.specs.declared.listener.ListenerRow.{ListenerRow}
 use Rattle.zs_tables.specs.Matching.{Listener}
 use Rattle.zs_tables.specs.Listeners.{meets_if}
-use Rattle.zs_tables.proofs.Pairs.{ids_paired}
 use Rattle.zs_tables.proofs.listener_table.ListenerTable.met_by.Goals as goal
 
 nobody_met : (ls : List Listener) → map (λ (l : Listener). l.row.id) (filter (λ (l : Listener). meets_if None l.row) ls) ≡ []
@@ -16,6 +15,4 @@ returns-in_default c =
     rw c.in_default.is (c.new-ids.ensures.items ∙ sym (nobody_met c.args.self.now))
 
 pub returns : goal.returns
-returns c =
-    rw (c.in-Some.is, ← c.in-Some.candidate-is, ← c.self.view_is)
-    (c.in_ok-matches_into.ensures.ok ∙ sym (ids_paired (λ (row : ListenerRow). intersects c.in-Some.candidate.key.now.text row.key.text) c.self.inside.rows c.self.inside.counts.items c.self.invariant))
+returns c = rw (c.in-Some.is, ← c.in-Some.candidate-is, ← c.self.view_is) c.in_ok-matches_into.ensures.ok

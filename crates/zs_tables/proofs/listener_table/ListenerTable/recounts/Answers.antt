@@ -6,5 +6,5 @@ use Rattle.zs_tables.proofs.listener_table.ListenerTable.recounts.Goals as goal
 
 pub returns : goal.returns
 returns c =
-    let met = recounts_met (seen_if c.args.goes) (seen_if c.args.comes) c.args.self.now c.rows.ensures.ascending in
+    let met = recounts_met (seen_if c.args.goes) (seen_if c.args.comes) c.args.self.now (rw (← c.self.view_is) c.len.ensures.ascending) in
     rw (c.deref.ensures.value, c.in_ok-ids.ensures, met) at c.recounts_at.ensures

@@ -6,6 +6,6 @@ use Rattle.zs_tables.proofs.present.Present.count.Goals as goal
 pub returns : goal.returns
 returns c =
     let own : c.in_ok-own.own ≡ own_count c.args.self.now.tables.now.rows c.args.self.now.queryables.now c.args.listener.now = c.in_ok-own.ensures in
-    let told : c.count_told.result ≡ told_count c.args.self.now.told.now c.args.listener.now = c.count_told.ensures in
+    let told : c.in_ok-told.told ≡ told_count c.args.self.now.told.now c.args.listener.now = c.in_ok-told.ensures in
     let sum = c.in-Some.ensures in
     sum.1 ∙ (λ i. own i + told i) ∙ counts_together c.args.self.now.tables.now.rows c.args.self.now.queryables.now c.args.self.now.told.now c.args.listener.now

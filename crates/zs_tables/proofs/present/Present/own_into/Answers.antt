@@ -12,7 +12,7 @@ pub returns-in-Subscribers : goal.returns-in-Subscribers
 returns-in-Subscribers c =
     let text = c.args.listener.now.key.text in
     let many = length_met (λ (row : SubRow). row.id) (λ row. intersects text row.key.text) c.args.self.now.tables.now.rows in
-    rw (c.in-Subscribers.is, ← many) (ok_length c.met_into.result c.met_into.new.into.items (matches text c.args.self.now.tables.now.rows) c.met_into.ensures.ok)
+    rw (c.in-Subscribers.is, ← many) (ok_length c.own_subs_into.result c.own_subs_into.new.ids.items (matches text c.args.self.now.tables.now.rows) c.own_subs_into.ensures)
 
 pub returns-in-Queryables : goal.returns-in-Queryables
 returns-in-Queryables c =

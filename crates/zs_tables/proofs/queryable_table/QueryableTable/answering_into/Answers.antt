@@ -10,10 +10,10 @@ use Rattle.zs_tables.proofs.queryable_table.QueryableTable.answering_into.Goals 
 pub returns-clause-ok : goal.returns-clause-ok
 returns-clause-ok c =
     let text = c.args.key.now.text in
-    let ids = rw c.rows.ensures.rows at c.keep_complete.ensures in
+    let ids = c.keep_complete.ensures in
     let whole : c.args.complete ≡ true = cc in
     rw (← c.self.view_is)
-    (kept (λ (row : QueryableRow). row.id) (λ row. row.key.text) (answers_whole text) text c.self.inside.rows _ _ c.rows.ensures.ascending c.in_ok-matches_into.ensures.ok ids
+    (kept (λ (row : QueryableRow). row.id) (λ row. row.key.text) (answers_whole text) text c.self.inside.rows _ _ c.matches_into-2.ensures.ascending c.in_ok-matches_into.ensures.ok ids
     ∙ map_agree (λ (row : QueryableRow). row.id) (λ row. answers_whole text row && intersects text row.key.text) (answers_for c.args.complete text) (whole_is_for c.args.complete text whole) c.self.inside.rows)
 
 pub returns-then-not-complete-clause-ok : goal.returns-then-not-complete-clause-ok

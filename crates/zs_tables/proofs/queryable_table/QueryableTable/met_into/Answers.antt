@@ -5,7 +5,7 @@ use Rattle.zs_tables.proofs.queryable_table.QueryableTable.met_into.Goals as goa
 
 pub returns-clause-ok : goal.returns-clause-ok
 returns-clause-ok c =
-    let ids = rw c.rows.ensures.rows at c.keep_met.ensures in
+    let ids = c.keep_met.ensures in
     rw (← c.self.view_is)
     (kept (λ (row : QueryableRow). row.id) (λ row. row.key.text) (is_for c.args.local c.args.complete) c.args.key.now.text c.self.inside.rows _ _
-    c.rows.ensures.ascending c.in_ok-matches_into.ensures.ok ids)
+    c.matches_into.ensures.ascending c.in_ok-matches_into.ensures.ok ids)

@@ -14,10 +14,10 @@ find_in-requires-clause-told c = rw c.deref-2.ensures.value (ascending_rows _ _ 
 
 pub returns-in_default : goal.returns-in_default
 returns-in_default c =
-    rw (← c.self.view_is) (ap (option_map (λ (key : Key). matches key.text c.self.inside.rows.items)) (ap (option_map (λ (row : NumberRow). row.key)) (rw (c.deref.ensures.value, c.deref-2.ensures.value) at c.in_default.ensures)
-    ∙ key_found c.args.mapping c.args.number c.self.inside.rows.items c.self.inside.own.items c.self.inside.told.items))
+    rw (← c.self.view_is) (ap (option_map (λ (key : Key). matches key.text c.self.inside.subs)) (ap (option_map (λ (row : NumberRow). row.key)) (rw (c.deref.ensures.value, c.deref-2.ensures.value) at c.in_default.ensures)
+    ∙ key_found c.args.mapping c.args.number c.self.inside.subs c.self.inside.own.items c.self.inside.told.items))
 
 pub returns : goal.returns
 returns c =
     rw (← c.self.view_is, c.deref-3.ensures.value)
-    (matches_found c.args.mapping c.args.number c.self.inside.rows.items c.self.inside.own.items c.self.inside.told.items _ c.self.invariant.order (rw (c.deref.ensures.value, c.deref-2.ensures.value) at c.in-Some.ensures))
+    (matches_found c.args.mapping c.args.number c.self.inside.subs c.self.inside.own.items c.self.inside.told.items _ c.self.invariant.order (rw (c.deref.ensures.value, c.deref-2.ensures.value) at c.in-Some.ensures))

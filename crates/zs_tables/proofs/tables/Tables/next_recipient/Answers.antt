@@ -3,7 +3,7 @@ use Rattle.zs_tables.specs.Ascending.{Ascend}
 use Rattle.zs_tables.specs.Contents.{Contents}
 use Rattle.zs_tables.proofs.Tabled.{ascending_rows, unknown, list_ascends, next_by_number, goes_on}
 use Rattle.zs_tables.proofs.Walking.{matches_ascend}
-use Rattle.zs_tables.proofs.Keyed.{tree_matches_is, next_by_tree}
+use Rattle.zs_tables.proofs.Keyed.{next_by_tree}
 use Rattle.zs_tables.proofs.tables.Tables.next_recipient.Goals as goal
 
 pub find_in-requires-clause-own : goal.find_in-requires-clause-own
@@ -15,32 +15,27 @@ find_in-requires-clause-told g c = rw c.deref-in-Number.ensures.value (ascending
 pub unreachable-requires : goal.unreachable-requires
 unreachable-requires g c =
     let found = rw (c.deref.ensures.value, c.deref-in-Number.ensures.value) at c.in_default.ensures in
-    unknown c.in-Number.mapping c.in-Number.number c.self.inside.rows.items c.self.inside.own.items c.self.inside.told.items found (rw (c.in-Number.is, ← c.self.view_is) at c.requires)
+    unknown c.in-Number.mapping c.in-Number.number c.self.inside.subs c.self.inside.own.items c.self.inside.told.items found (rw (c.in-Number.is, ← c.self.view_is) at c.requires)
 
 pub ids_behind-requires : goal.ids_behind-requires
 ids_behind-requires g c =
     let found = rw (c.deref.ensures.value, c.deref-in-Number.ensures.value) at c.in-Some.ensures in
-    rw c.deref-in-Number-3.ensures.value (list_ascends c.in-Number.mapping c.in-Number.number c.self.inside.rows.items c.self.inside.own.items c.self.inside.told.items _ c.self.invariant.order found)
+    rw c.deref-in-Number-2.ensures.value (list_ascends c.in-Number.mapping c.in-Number.number c.self.inside.subs c.self.inside.own.items c.self.inside.told.items _ c.self.invariant.order found)
 
 pub returns-in-Some-clause-next : goal.returns-in-Some-clause-next
 returns-in-Some-clause-next g c =
     let found = rw (c.deref.ensures.value, c.deref-in-Number.ensures.value) at c.in-Some.ensures in
-    let first = rw (c.ids_behind.ensures, c.deref-in-Number-2.ensures.value, c.deref-in-Number-3.ensures.value) at c.first_by_id.ensures in
+    let first = rw (c.ids_behind.ensures, c.deref-in-Number-2.ensures.value) at c.first_by_id.ensures in
     rw (c.in-Number.is, ← c.self.view_is) (λ text meant.
-    first ∙ next_by_number c.in-Number.mapping c.in-Number.number c.args.local c.args.after c.self.inside.rows.items c.self.inside.own.items c.self.inside.told.items _ c.self.invariant.order found text meant)
+    first ∙ next_by_number c.in-Number.mapping c.in-Number.number c.args.local c.args.after c.self.inside.subs c.self.inside.own.items c.self.inside.told.items _ c.self.invariant.order found text meant)
 
 pub first_in_tree-requires-clause-ids : goal.first_in_tree-requires-clause-ids
-first_in_tree-requires-clause-ids g c =
-    let text = c.in-Text.key.now.text in
-    let rows = c.self.inside.rows.items in
-    rw (tree_matches_is text rows c.self.inside.tree c.self.invariant.tree_is) (matches_ascend text rows c.self.invariant.order.ascending)
+first_in_tree-requires-clause-ids g c = matches_ascend c.in-Text.key.now.text c.self.inside.subs c.self.invariant.order.ascending
 
 pub returns-in-Text-clause-next : goal.returns-in-Text-clause-next
 returns-in-Text-clause-next g c =
-    let first = rw c.deref-in-Text.ensures.value at c.first_in_tree.ensures in
     rw (c.in-Text.is, ← c.self.view_is) (λ text meant.
-    first ∙ next_by_tree c.args.local c.in-Text.key.now.text text c.args.after c.self.inside.rows.items c.self.inside.tree c.self.invariant.order.ascending
-    c.self.invariant.tree_is meant)
+    c.first_in_tree.ensures ∙ next_by_tree c.args.local c.in-Text.key.now.text text c.args.after c.self.inside.subs c.self.invariant.order.ascending meant)
 
 pub returns-in-Some-clause-walk : goal.returns-in-Some-clause-walk
 returns-in-Some-clause-walk g c =

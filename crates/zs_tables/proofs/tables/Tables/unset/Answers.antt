@@ -10,12 +10,12 @@ unset_own-requires-clause-order c = ascending_rows _ _ c.self.invariant.order.ow
 
 pub invariant_of-self : goal.invariant_of-self
 invariant_of-self c =
-    let order : AreInOrder c.self.inside.rows.items (map shown c.unset_own.new.own.items) (map shown c.self.inside.told.items) = record {
+    let order : AreInOrder c.self.inside.subs (map shown c.unset_own.new.own.items) (map shown c.self.inside.told.items) = record {
       ascending = c.self.invariant.order.ascending;
       own_current = rw c.unset_own.ensures.numbers (current_filter c.args.number _ _ c.self.invariant.order.own_current);
       told_current = c.self.invariant.order.told_current;
     } in
-    record { order = order; tree_is = c.self.invariant.tree_is; indexed = c.unset_own.ensures.texts }
+    record { order = order; indexed = c.unset_own.ensures.texts }
 
 pub returns-in-Receiver-clause-answer : goal.returns-in-Receiver-clause-answer
 returns-in-Receiver-clause-answer c = rw (c.in-Receiver.is, ← c.self.view_is) (c.unset_own.ensures.answer ∙ has_key c.args.number c.self.inside.own.items)
@@ -30,12 +30,12 @@ take_out-requires c = ascending_rows _ _ c.self.invariant.order.told_current
 
 pub invariant_of-self-in-Sender : goal.invariant_of-self-in-Sender
 invariant_of-self-in-Sender c =
-    let order : AreInOrder c.self.inside.rows.items (map shown c.self.inside.own.items) (map shown c.take_out.new.numbers.items) = record {
+    let order : AreInOrder c.self.inside.subs (map shown c.self.inside.own.items) (map shown c.take_out.new.numbers.items) = record {
       ascending = c.self.invariant.order.ascending;
       own_current = c.self.invariant.order.own_current;
       told_current = rw c.take_out.ensures.numbers (current_filter c.args.number _ _ c.self.invariant.order.told_current);
     } in
-    record { order = order; tree_is = c.self.invariant.tree_is; indexed = c.self.invariant.indexed }
+    record { order = order; indexed = c.self.invariant.indexed }
 
 pub returns-in-Sender-clause-answer : goal.returns-in-Sender-clause-answer
 returns-in-Sender-clause-answer c = rw (c.in-Sender.is, ← c.self.view_is) (c.take_out.ensures.answer ∙ has_key c.args.number c.self.inside.told.items)

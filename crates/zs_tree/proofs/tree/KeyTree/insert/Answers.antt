@@ -1,10 +1,12 @@
 use Rattle.zs_tree.specs.Blocks.{flat}
-use Rattle.zs_tree.proofs.EditLemmas.{has_not}
+use Rattle.zs_tree.proofs.EditLemmas.{has_not, none_at}
 use Rattle.zs_tree.proofs.Putting.{put_order, put_apart, put_seen, put_same, none_of}
 use Rattle.zs_tree.proofs.tree.KeyTree.insert.Goals as goal
 
 pub put_in-requires-clause-unused : goal.put_in-requires-clause-unused
-put_in-requires-clause-unused c = none_of c.in_ok-entry.entry c.args.id _ (flat c.self.inside.blocks.items) c.in_ok-entry.ensures (has_not c.args.id (flat c.self.inside.blocks.items) (rw (← c.self.view_is) at c.requires))
+put_in-requires-clause-unused c =
+    none_at c.in_ok-entry.entry.code.items c.in_ok-entry.entry.id (flat c.self.inside.blocks.items)
+    (none_of c.in_ok-entry.entry c.args.id _ (flat c.self.inside.blocks.items) c.in_ok-entry.ensures (has_not c.args.id (flat c.self.inside.blocks.items) (rw (← c.self.view_is) at c.requires)))
 
 pub invariant_of-self : goal.invariant_of-self
 invariant_of-self c =

@@ -5,7 +5,7 @@ use Rattle.zs_tree.proofs.MatchLemmas.{turned, matches_of_sorted}
 use Rattle.zs_tree.proofs.tree.KeyTree.matches_into.Goals as goal
 
 pub returns-clause-ok : goal.returns-clause-ok
-returns-clause-ok c =
+returns-clause-ok g c =
     let es = flat c.self.inside.blocks.items in
     let text = c.args.key.now.text in
     let pushed = rw (c.deref.ensures.value, c.as_str.ensures.text) at c.in_default.ensures.ok in

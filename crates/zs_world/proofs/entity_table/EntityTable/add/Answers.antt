@@ -1,8 +1,15 @@
-use Rattle.std.proofs.lemmas.List.Elements.{recursion_from_All}
-use Rattle.zs_tables.proofs.Ascending.{ascend_push}
+use Rattle.std.proofs.Common.{◌≡◌, ap, ◌++◌, [], ◌∷◌, ◌∙◌}
+use Rattle.zs_world.proofs.EntityRows.{unused_above, entities_more, entity_last}
 use Rattle.zs_world.proofs.entity_table.EntityTable.add.Goals as goal
+
+pub insert-requires : goal.insert-requires
+insert-requires g c = rw c.id-id.ensures (unused_above (λ row. (g.R.Entity.shared row).id) c.args.row c.self.inside.rows c.self.invariant (rw (← c.self.view_is) at c.requires))
 
 pub invariant_of-self-2 : goal.invariant_of-self-2
 invariant_of-self-2 g c =
-    let below = rw (← c.self.view_is) at c.requires in
-    rw c.in_ok-push.ensures.items (ascend_push (λ row. (g.R.Entity.shared row).id) c.self.inside.rows.items c.args.row c.self.invariant (recursion_from_All _ c.self.inside.rows.items below))
+    entities_more (λ row. (g.R.Entity.shared row).id) c.args.row c.self.inside.rows c.insert.new.self c.self.invariant (rw c.id-id.ensures at c.in_ok-insert.ensures.rows) c.in_ok-insert.ensures.ascending
+
+pub returns-clause-ok : goal.returns-clause-ok
+returns-clause-ok g c =
+    entity_last (λ row. (g.R.Entity.shared row).id) c.args.row c.self.inside.rows c.insert.new.self c.self.invariant (rw (← c.self.view_is) at c.requires) (rw c.id-id.ensures at c.in_ok-insert.ensures.rows)
+    ∙ ap (λ rows. rows ++ c.args.row ∷ []) c.self.view_is

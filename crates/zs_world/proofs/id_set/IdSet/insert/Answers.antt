@@ -1,31 +1,27 @@
-use Rattle.std.proofs.Common.{◌≡◌, ◌<◌, ℕ, zero, suc, List, [], ◌∷◌, length, get_or, ◌∙◌, arith}
+use Rattle.std.proofs.Common.{◌≡◌, ℕ, Bool, true, false, List, [], ◌∷◌, refl, sym, ap, ◌∙◌, arith}
+use Rattle.std.specs.Prelude.{◌==◌, ◌||◌, nat_lt}
 use Rattle.std.proofs.lemmas.Bool.Decides.{nat_tests}
-use Rattle.std.proofs.lemmas.List.Elements.{All-from_recursion}
-use Rattle.zs_tables.specs.Ascending.{Ascend, placed_by}
+use Rattle.zs_rows.specs.Numbers.{is_in}
+use Rattle.zs_rows.proofs.Listing.{same_numbers}
+use Rattle.zs_tables.specs.Ascending.{placed_by}
 use Rattle.zs_tables.proofs.Ascending.{ascend_placed}
-use Rattle.zs_tables.proofs.Searching.{insert_here}
+use Rattle.zs_keyed.proofs.Ascending.{by_test}
 use Rattle.zs_world.proofs.id_set.IdSet.insert.Goals as goal
 
--- a number that is there stays where it is
-placed_there : (n : ℕ) (ids : List ℕ) (at : ℕ) → Ascend (λ id. id) ids → at < length ids → get_or ids at n ≡ n → ids ≡ placed_by (λ n. n) n ids
-placed_there n [] at up lt here = absurd (omega arith)
-placed_there n (id ∷ ids) zero up lt here = grind (arith, nat_tests, here)
-placed_there n (id ∷ ids) (suc at) up lt here =
-    let below : id < get_or ids at n = All-from_recursion (λ later. id < later) ids up.0 at n (omega arith) in
-    grind (arith, nat_tests, below, here, placed_there n ids at up.1 (omega arith) here)
+-- a number is there once it is placed
+in_placed : (n q : ℕ) (ids : List ℕ) → is_in q (placed_by (λ n. n) n ids) ≡ ((q == n) || is_in q ids)
+in_placed n q [] = by_test (q == n) (λ k. grind (arith, nat_tests, k)) (λ k. grind (arith, nat_tests, k))
+in_placed n q (id ∷ ids) =
+    let ih = in_placed n q ids in
+    by_test (id == n)
+    (λ k. by_test (q == n) (λ m. grind (arith, nat_tests, k, m)) (λ m. grind (arith, nat_tests, k, m)))
+    (λ k. by_test (nat_lt n id)
+    (λ lt. by_test (q == n) (λ m. grind (arith, nat_tests, k, lt, m)) (λ m. grind (arith, nat_tests, k, lt, m)))
+    (λ lt. by_test (id == q) (λ m. grind (arith, nat_tests, k, lt, m, ih)) (λ m. grind (arith, nat_tests, k, lt, m, ih))))
 
-pub invariant_of-self-in-Err : goal.invariant_of-self-in-Err
-invariant_of-self-in-Err c =
-    let place = rw c.deref.ensures.value at c.in-Err.ensures in
-    rw (c.in_ok-insert-in-Err.ensures.items ∙ insert_here (λ n. n) c.args.id c.self.inside.ids.items _ place)
-    (ascend_placed (λ n. n) c.args.id c.self.inside.ids.items c.self.invariant)
-
-pub returns-in-Ok-clause-ok : goal.returns-in-Ok-clause-ok
-returns-in-Ok-clause-ok c =
-    let place = rw c.deref.ensures.value at c.in-Ok.ensures in
-    rw (← c.self.view_is) (placed_there c.args.id c.self.inside.ids.items _ c.self.invariant place.0 (place.1 c.args.id))
-
-pub returns-in_ok-insert-in-Err-clause-ok : goal.returns-in_ok-insert-in-Err-clause-ok
-returns-in_ok-insert-in-Err-clause-ok c =
-    let place = rw c.deref.ensures.value at c.in-Err.ensures in
-    rw (← c.self.view_is) (c.in_ok-insert-in-Err.ensures.items ∙ insert_here (λ n. n) c.args.id c.self.inside.ids.items _ place)
+pub returns-clause-ok : goal.returns-clause-ok
+returns-clause-ok c =
+    rw (← c.self.view_is)
+    (same_numbers c.insert.new.self (placed_by (λ n. n) c.args.id c.self.inside.ids) c.len-in_order.ensures.ascending
+    (ascend_placed (λ n. n) c.args.id c.self.inside.ids c.len-was_in_order.ensures.ascending)
+    (λ q. c.in_ok-insert.ensures.ok q ∙ sym (in_placed c.args.id q c.self.inside.ids)))

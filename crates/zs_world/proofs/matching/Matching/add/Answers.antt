@@ -1,5 +1,5 @@
 use Rattle.std.proofs.Common.{◌≡◌, List, [], ◌∷◌, ◌++◌, ap, ◌∙◌}
-use Rattle.zs_tables.specs.Matching.{Listener}
+use Rattle.zs_tables.specs.declared.listener.Listener.{Listener}
 use Rattle.zs_world.specs.MatchingTables.{Kept, shown}
 use Rattle.zs_world.proofs.Counted.{rows_more, ok_then}
 use Rattle.zs_world.proofs.matching.Matching.add.Goals as goal

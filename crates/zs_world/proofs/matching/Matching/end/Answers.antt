@@ -1,6 +1,6 @@
 use Rattle.std.proofs.Common.{List, ap, ◌∙◌}
 use Rattle.std.specs.Prelude.{◌==◌, not, filter}
-use Rattle.zs_tables.specs.Matching.{Listener}
+use Rattle.zs_tables.specs.declared.listener.Listener.{Listener}
 use Rattle.zs_tables.specs.declared.listener.ListenerRow.{ListenerRow}
 use Rattle.zs_world.specs.MatchingTables.{Kept, shown}
 use Rattle.zs_world.proofs.Counted.{rows_left}

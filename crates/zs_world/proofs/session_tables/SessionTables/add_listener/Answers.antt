@@ -1,7 +1,8 @@
 use Rattle.std.proofs.Common.{◌≡◌, ◌≤◌, ◌+◌, List, sym, ap, ◌∙◌, arith}
 use Rattle.zs_tables.specs.declared.subscriber.SubRow.{SubRow}
 use Rattle.zs_tables.specs.declared.queryable.QueryableRow.{QueryableRow}
-use Rattle.zs_tables.specs.Matching.{Candidate, Listener, candidates, count_of}
+use Rattle.zs_tables.specs.declared.listener.Listener.{Listener}
+use Rattle.zs_tables.specs.Matching.{Candidate, candidates, count_of}
 use Rattle.zs_model.specs.declared.publisher.PubRow.{PubRow}
 use Rattle.zs_model.specs.declared.querier.QuerierRow.{QuerierRow}
 use Rattle.zs_world.specs.World.{World, present_at}

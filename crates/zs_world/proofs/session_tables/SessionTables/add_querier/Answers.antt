@@ -7,7 +7,7 @@ use Rattle.zs_tables.specs.declared.queryable.QueryableRow.{QueryableRow}
 use Rattle.zs_world.specs.World.{World}
 use Rattle.zs_model.specs.Groups.{querier_shared}
 use Rattle.zs_world.proofs.Bounds.{no_member, groups_weaker, more_below, rows_push, rows_weaker}
-use Rattle.zs_tables.specs.Matching.{Listener}
+use Rattle.zs_tables.specs.declared.listener.Listener.{Listener}
 use Rattle.zs_world.proofs.session_tables.SessionTables.add_querier.Goals as goal
 
 pub add_to_group-requires-clause-new : goal.add_to_group-requires-clause-new

@@ -5,7 +5,7 @@ use Rattle.zs_tables.specs.declared.queryable.QueryableRow.{QueryableRow}
 use Rattle.zs_model.specs.declared.querier.QuerierRow.{QuerierRow}
 use Rattle.zs_world.specs.World.{World}
 use Rattle.zs_world.proofs.Bounds.{groups_weaker, rows_push, rows_weaker}
-use Rattle.zs_tables.specs.Matching.{Listener}
+use Rattle.zs_tables.specs.declared.listener.Listener.{Listener}
 use Rattle.zs_tables.proofs.Moving.{queryable_comes}
 use Rattle.zs_world.proofs.Counted.{below_set, counted_moved}
 use Rattle.zs_world.proofs.session_tables.SessionTables.add_queryable.Goals as goal

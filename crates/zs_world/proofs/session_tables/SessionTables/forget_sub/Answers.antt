@@ -6,7 +6,7 @@ use Rattle.zs_world.proofs.session_tables.SessionTables.forget_sub.Goals as goal
 pub invariant_of-self : goal.invariant_of-self
 invariant_of-self c =
     let s = c.self.inside in
-    let moves = told_sub_goes s.tables.rows s.queryables s.matching.told c.args.number (rw c.told.ensures at c.subs-ascending.ensures.ascending) in
+    let moves = told_sub_goes s.tables.rows s.queryables s.matching.told c.args.number (rw c.told.ensures at c.sub_count-ascending.ensures.ascending) in
     let all = rw (c.told_sub_of-goes.ensures, c.told-2.ensures, c.listeners.ensures) at c.in_ok-recounts.ensures.all in
     let seen = rw c.listeners.ensures at c.recounts_of.ensures.ascending in
     record {

@@ -6,7 +6,7 @@ use Rattle.zs_world.proofs.session_tables.SessionTables.tell_queryable.Goals as 
 pub invariant_of-self-2 : goal.invariant_of-self-2
 invariant_of-self-2 c =
     let s = c.self.inside in
-    let moves = told_queryable_comes s.tables.rows s.queryables s.matching.told c.args.row (rw c.told.ensures at c.queryables-ascending.ensures.ascending) in
+    let moves = told_queryable_comes s.tables.rows s.queryables s.matching.told c.args.row (rw c.told.ensures at c.queryable_count-ascending.ensures.ascending) in
     let all = rw (c.told_queryable_of-goes.ensures, c.told-2.ensures, c.told_queryable.ensures, c.listeners.ensures) at c.in_ok-recounts.ensures.all in
     let seen = rw c.listeners.ensures at c.recounts_of.ensures.ascending in
     record {

@@ -1,0 +1,26 @@
+use zs_keyed::Keyed;
+use zs_keys::KeyExpr;
+
+/// A live subscriber to liveliness.
+#[derive(Drop)]
+pub struct LivelinessSub {
+    /// Its entity number.
+    pub id: u32,
+    /// Whether it hears of tokens that were there before it.
+    pub history: bool,
+    pub key: KeyExpr<'static>,
+}
+
+impl Keyed for LivelinessSub {
+    ghost number = { λ row. row.id };
+
+    ghost text = { λ row. row.key.text };
+
+    fn number(&self) -> u32 {
+        self.id
+    }
+
+    fn key(&self) -> &KeyExpr<'static> {
+        &self.key
+    }
+}

@@ -1,5 +1,0 @@
-use Rattle.zs_query.proofs.Drawing.{below_finished}
-use Rattle.zs_query.proofs.request_table.RequestTable.finish.Goals as goal
-
-pub invariant_of-self : goal.invariant_of-self
-invariant_of-self c = rw c.finish.ensures.values (below_finished c.self.inside.next c.args.value c.self.inside.requests.values c.self.invariant)

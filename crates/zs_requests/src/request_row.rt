@@ -1,0 +1,72 @@
+ghost use Rattle.std.specs.Prelude.{◌≡◌, IfOk};
+
+use std::alloc::{AllocError, Global};
+use zs_bytes::ZBytes;
+use zs_keys::KeyExpr;
+use zs_wire::{QoSType, SourceInfo, Text, Value};
+
+/// What a request asks.
+#[derive(Debug, Drop)]
+pub struct RequestRow {
+    /// Whether a get of this session asks, and not the network.
+    pub local: bool,
+    /// The number of the get, or that of the network's request.
+    pub rid: u32,
+    pub key: KeyExpr<'static>,
+    /// What stands behind the `?` of the selector.
+    pub parameters: Text,
+    pub qos: QoSType,
+    pub source: Option<SourceInfo>,
+    /// What the asker tells the queryables beside the parameters.
+    pub value: Option<Value>,
+    pub attachment: Option<ZBytes>,
+}
+
+impl RequestRow {
+    /// The same request. It shares the memory of the value's payload and the attachment.
+    pub fn try_clone(&self, alloc: Global) -> Result<RequestRow, AllocError>
+        ensures { IfOk result (λ copy. copy ≡ self.now) }
+    {
+        Ok(RequestRow {
+            local: self.local,
+            rid: self.rid,
+            key: clone_key(&self.key, alloc)?,
+            parameters: self.parameters.try_clone(alloc)?,
+            qos: self.qos,
+            source: self.source,
+            value: clone_value(&self.value, alloc)?,
+            attachment: clone_attachment(&self.attachment, alloc)?,
+        })
+    }
+}
+
+/// The same key in memory of its own.
+pub fn clone_key(key: &KeyExpr<'static>, alloc: Global) -> Result<KeyExpr<'static>, AllocError>
+    ensures { IfOk result (λ copy. copy ≡ key.now) }
+{
+    match key.borrowing_clone().into_owned(alloc) {
+        Ok(copy) => Ok(copy),
+        Err(_) => Err(AllocError),
+    }
+}
+
+fn clone_value(value: &Option<Value>, alloc: Global) -> Result<Option<Value>, AllocError>
+    ensures { IfOk result (λ copy. copy ≡ value.now) }
+{
+    match value {
+        Some(value) => Ok(Some(value.try_clone(alloc)?)),
+        None => Ok(None),
+    }
+}
+
+pub(crate) fn clone_attachment(
+    attachment: &Option<ZBytes>,
+    alloc: Global,
+) -> Result<Option<ZBytes>, AllocError>
+    ensures { IfOk result (λ copy. copy ≡ attachment.now) }
+{
+    match attachment {
+        Some(bytes) => Ok(Some(bytes.try_clone(alloc)?)),
+        None => Ok(None),
+    }
+}

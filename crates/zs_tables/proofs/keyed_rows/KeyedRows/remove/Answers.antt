@@ -1,9 +1,0 @@
-use Rattle.std.proofs.Common.{◌≡◌, sym, ap, ◌∙◌}
-use Rattle.std.specs.Prelude.{◌==◌, is_some}
-use Rattle.zs_tables.proofs.ByKey.{found_any}
-use Rattle.zs_tables.proofs.keyed_rows.KeyedRows.remove.Goals as goal
-
-pub returns-clause-answer : goal.returns-clause-answer
-returns-clause-answer g c =
-    let is : c.is_some.result ≡ is_some c.take.result = cc in
-    is ∙ ap is_some c.take.ensures.answer ∙ found_any (λ row. g.R.Keyed.number row == c.args.number) c.args.self.now
