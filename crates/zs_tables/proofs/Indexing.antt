@@ -1,8 +1,8 @@
 -- The index of numbers by text stays that of the rows.
-use Rattle.std.proofs.Common.{◌≡◌, ℕ, zero, suc, ◌<◌, ◌≢◌, Bool, true, false, List, [], ◌∷◌, length, get_or, set, Option, Some, None, IsSome, Vec, String, Result, Ok, Err, OnOk, OnErr, refl, sym, ap, subst, ◌∙◌, arith}
+use Rattle.std.proofs.Common.{◌≡◌, ℕ, ◌<◌, ◌≢◌, Bool, true, false, List, [], ◌∷◌, length, get_or, set, Option, Some, None, Vec, String, Result, Ok, Err, OnOk, OnErr, refl, sym, ap, subst, ◌∙◌, arith}
 use Rattle.std.specs.Prelude.{◌==◌, nat_lt, not, map, filter, bytes_eq, string_bytes, if◌then◌else◌}
 use Rattle.std.specs.Option.{option_map_or}
-use Rattle.std.specs.List.{AllByRecursion}
+use Rattle.std.specs.List.{AllByRecursion, find, list_any}
 use Rattle.std.specs.Map.{update}
 use Rattle.std.specs.HashMap.{HashMap, get_by_text, UpdatesBy}
 use Rattle.std.specs.String.{string_eq}
@@ -11,14 +11,13 @@ use Rattle.std.proofs.lemmas.Slice.Eq.{bytes_eq-Decides}
 use Rattle.std.proofs.lemmas.Bool.Decides.{nat_tests}
 use Rattle.std.proofs.lemmas.List.{set-get_or}
 use Rattle.zs_tables.specs.Ascending.{Ascend, placed_by}
-use Rattle.zs_tables.specs.Numbers.{NumberedKey, key_at, number_at, placed, without}
+use Rattle.zs_tables.specs.Numbers.{NumberedKey, number_at}
 use Rattle.zs_tables.specs.Texts.{first, numbers_with, listed, ListsNumbers, SameLists, Joins, Leaves, Moves}
-use Rattle.zs_tables.specs.Ascending.{IsPlaceOf}
 use Rattle.zs_tables.specs.Lists.{held}
 use Rattle.zs_tables.specs.declared.number_row.NumberRow.{NumberRow}
-use Rattle.zs_tables.proofs.Searching.{set_here, filter_none, missing}
+use Rattle.zs_keyed.proofs.Ascending.{none_has}
+use Rattle.zs_tables.proofs.Searching.{set_here, filter_none}
 use Rattle.zs_tables.proofs.Ascending.{all_weaker, all_map, all_filter, ascend_map, ascend_filter}
-use Rattle.std.proofs.lemmas.List.Elements.{All-from_recursion}
 
 -- a number that is in an ascending list is placed already
 pub placed_there : (n : ℕ) (xs : List ℕ) (at : ℕ) → Ascend (λ x. x) xs → at < length xs → get_or xs at n ≡ n → xs ≡ placed_by (λ x. x) n xs
@@ -78,6 +77,11 @@ on_ok (Err e) f p = tt
 pub on_err : {E P Q : Type 0} (r : Result (Unit {0}) E) → (P → Q) → OnErr r P → OnErr r Q
 on_err (Ok u) f p = tt
 on_err (Err e) f p = f p
+
+-- what holds anyhow
+pub always_err : {E P : Type 0} (r : Result (Unit {0}) E) → P → OnErr r P
+always_err (Ok u) p = tt
+always_err (Err e) p = p
 
 -- the numbers of the rows that have a text
 abbrev pub of_text : List ℕ → List NumberRow → List ℕ
@@ -149,22 +153,30 @@ of_text_apart text n (row ∷ rows) all = go (bytes_eq row.key.text text) refl (
     go false has rest = grind (arith, nat_tests, has, rest)
 
 -- in ascending rows one alone has a number
-one_row : (n : ℕ) (rows : List NumberRow) (at : ℕ) (d : NumberRow) → Ascend (λ row. row.number) rows → at < length rows → (get_or rows at d).number ≡ n → AllByRecursion (λ row. row.number ≡ n → row ≡ get_or rows at d) rows
-one_row n [] at d up lt here = tt
-one_row n (row ∷ rows) zero d up lt here = (λ same. refl, all_weaker (λ (later : NumberRow). row.number < later.number) (λ later. later.number ≡ n → later ≡ row) (λ later more same. absurd (omega (arith, more, same, here))) rows up.0)
-one_row n (row ∷ rows) (suc at) d up lt here =
-    let below : row.number < (get_or rows at d).number = All-from_recursion (λ (later : NumberRow). row.number < later.number) rows up.0 at d (omega arith) in
-    (λ same. absurd (omega (arith, below, same, here)), one_row n rows at d up.1 (omega arith) here)
+one_row : (n : ℕ) (old : NumberRow) (rows : List NumberRow) → Ascend (λ row. row.number) rows → Some old ≡ find (λ row. row.number == n) rows → AllByRecursion (λ row. row.number ≡ n → row ≡ old) rows
+one_row n old [] up found = tt
+one_row n old (row ∷ rows) up found = go (row.number == n) refl (one_row n old rows up.1)
+  where
+    go : (b : Bool) → (row.number == n) ≡ b → (Some old ≡ find (λ row. row.number == n) rows → AllByRecursion (λ row. row.number ≡ n → row ≡ old) rows) → AllByRecursion (λ row. row.number ≡ n → row ≡ old) (row ∷ rows)
+    go true here more =
+        let there : Some old ≡ Some row = rw here at found in
+        let is : row ≡ old = cc in
+        (λ same. is, all_weaker (λ (later : NumberRow). row.number < later.number) (λ later. later.number ≡ n → later ≡ old) (λ later over same. absurd (grind (arith, nat_tests, here, over, same))) rows up.0)
+    go false apart more = (λ same. absurd (grind (arith, nat_tests, apart, same)), more (rw apart at found))
 
 -- so it has no other text
-one_text : (text : List ℕ) (n : ℕ) (rows : List NumberRow) (at : ℕ) (d : NumberRow) → Ascend (λ row. row.number) rows → at < length rows → (get_or rows at d).number ≡ n → bytes_eq (get_or rows at d).key.text text ≡ false → filter (λ m. not (m == n)) (of_text text rows) ≡ of_text text rows
-one_text text n rows at d up lt here apart =
-    of_text_apart text n rows (all_weaker (λ (row : NumberRow). row.number ≡ n → row ≡ get_or rows at d) (λ row. row.number ≡ n → bytes_eq row.key.text text ≡ false) (λ row is same. ap (λ (r : NumberRow). bytes_eq r.key.text text) (is same) ∙ apart) rows (one_row n rows at d up lt here))
+one_text : (text : List ℕ) (n : ℕ) (old : NumberRow) (rows : List NumberRow) → Ascend (λ row. row.number) rows → Some old ≡ find (λ row. row.number == n) rows → bytes_eq old.key.text text ≡ false → filter (λ m. not (m == n)) (of_text text rows) ≡ of_text text rows
+one_text text n old rows up found apart =
+    of_text_apart text n rows (all_weaker (λ (row : NumberRow). row.number ≡ n → row ≡ old) (λ row. row.number ≡ n → bytes_eq row.key.text text ≡ false) (λ row is same. ap (λ (r : NumberRow). bytes_eq r.key.text text) (is same) ∙ apart) rows (one_row n old rows up found))
 
 module _ {A S : Type 0} where
   -- the list of a text ascends
   pub list_ascends : (rows : List NumberRow) (texts : HashMap (String A) (Vec ℕ A) S) (text : List ℕ) → Ascend (λ row. row.number) rows → ListsNumbers (held rows) texts → Ascend (λ n. n) (listed text texts)
   list_ascends rows texts text up is = subst (λ ns. Ascend (λ n. n) ns) (sym (is.each text ∙ seen_of_text text rows)) (of_text_ascends text rows up)
+
+  -- and so does each
+  pub all_ascend : (rows : List NumberRow) (texts : HashMap (String A) (Vec ℕ A) S) → Ascend (λ row. row.number) rows → ListsNumbers (held rows) texts → (text : List ℕ) → Ascend (λ n. n) (listed text texts)
+  all_ascend rows texts up is text = list_ascends rows texts text up is
 
   -- an index of the same numbers
   pub still_indexed : (old new : List NumberedKey) (texts : HashMap (String A) (Vec ℕ A) S) → new ≡ old → ListsNumbers old texts → ListsNumbers new texts
@@ -183,26 +195,26 @@ module _ {A S : Type 0} where
   lists_same rows old new is same = record { each = λ text. same.each text ∙ is.each text }
 
   -- a new number
-  pub lists_joined : (new : NumberRow) (rows : List NumberRow) (at : ℕ) (old texts : HashMap (String A) (Vec ℕ A) S) → Ascend (λ row. row.number) rows → IsPlaceOf (λ row. row.number) new.number rows (Err at) → ListsNumbers (held rows) old → Joins new.key.text new.number old texts → ListsNumbers (held (placed_by (λ row. row.number) new rows)) texts
-  lists_joined new rows at old texts up place is joins = record { each = λ text. go text (bytes_eq new.key.text text) refl }
+  pub lists_joined : (new : NumberRow) (rows : List NumberRow) (old texts : HashMap (String A) (Vec ℕ A) S) → Ascend (λ row. row.number) rows → list_any (λ row. row.number == new.number) rows ≡ false → ListsNumbers (held rows) old → Joins new.key.text new.number old texts → ListsNumbers (held (placed_by (λ row. row.number) new rows)) texts
+  lists_joined new rows old texts up unused is joins = record { each = λ text. go text (bytes_eq new.key.text text) refl }
     where
       go : (text : List ℕ) (b : Bool) → bytes_eq new.key.text text ≡ b → listed text texts ≡ numbers_with text (held (placed_by (λ row. row.number) new rows))
       go text b has =
-          let apart = of_text_apart text new.number rows (all_weaker (λ (row : NumberRow). row.number ≢ new.number) (λ row. row.number ≡ new.number → bytes_eq row.key.text text ≡ false) (λ row no same. absurd (no same)) rows (missing (λ row. row.number) new.number rows at place)) in
+          let apart = of_text_apart text new.number rows (all_weaker (λ (row : NumberRow). row.number ≢ new.number) (λ row. row.number ≡ new.number → bytes_eq row.key.text text ≡ false) (λ row no same. absurd (no same)) rows (none_has (λ row. row.number) new.number rows unused)) in
           grind (arith, nat_tests, has, joins.each text, is.each text, seen_of_text text rows, seen_of_text text (placed_by (λ row. row.number) new rows), of_text_placed text new rows up, apart)
 
   -- another key of a number
-  pub lists_moved : (new d : NumberRow) (rows : List NumberRow) (at : ℕ) (old texts : HashMap (String A) (Vec ℕ A) S) → Ascend (λ row. row.number) rows → at < length rows → (get_or rows at d).number ≡ new.number → ListsNumbers (held rows) old → Moves (get_or rows at d).key.text new.key.text new.number old texts → ListsNumbers (held (placed_by (λ row. row.number) new rows)) texts
-  lists_moved new d rows at old texts up lt here is moves = record { each = λ text. go text (bytes_eq (get_or rows at d).key.text text) refl }
+  pub lists_moved : (new was : NumberRow) (rows : List NumberRow) (old texts : HashMap (String A) (Vec ℕ A) S) → Ascend (λ row. row.number) rows → Some was ≡ find (λ row. row.number == new.number) rows → ListsNumbers (held rows) old → Moves was.key.text new.key.text new.number old texts → ListsNumbers (held (placed_by (λ row. row.number) new rows)) texts
+  lists_moved new was rows old texts up found is moves = record { each = λ text. go text (bytes_eq was.key.text text) refl }
     where
-      go : (text : List ℕ) (b : Bool) → bytes_eq (get_or rows at d).key.text text ≡ b → listed text texts ≡ numbers_with text (held (placed_by (λ row. row.number) new rows))
+      go : (text : List ℕ) (b : Bool) → bytes_eq was.key.text text ≡ b → listed text texts ≡ numbers_with text (held (placed_by (λ row. row.number) new rows))
       go text true has = grind (arith, nat_tests, has, moves.each text, is.each text, seen_of_text text rows, seen_of_text text (placed_by (λ row. row.number) new rows), of_text_placed text new rows up)
-      go text false has = grind (arith, nat_tests, has, moves.each text, is.each text, seen_of_text text rows, seen_of_text text (placed_by (λ row. row.number) new rows), of_text_placed text new rows up, one_text text new.number rows at d up lt here has)
+      go text false has = grind (arith, nat_tests, has, moves.each text, is.each text, seen_of_text text rows, seen_of_text text (placed_by (λ row. row.number) new rows), of_text_placed text new rows up, one_text text new.number was rows up found has)
 
   -- without a number
-  pub lists_left : (n : ℕ) (d : NumberRow) (rows : List NumberRow) (at : ℕ) (old texts : HashMap (String A) (Vec ℕ A) S) → Ascend (λ row. row.number) rows → at < length rows → (get_or rows at d).number ≡ n → ListsNumbers (held rows) old → Leaves (get_or rows at d).key.text n old texts → ListsNumbers (held (filter (λ row. not (row.number == n)) rows)) texts
-  lists_left n d rows at old texts up lt here is leaves = record { each = λ text. go text (bytes_eq (get_or rows at d).key.text text) refl }
+  pub lists_left : (n : ℕ) (was : NumberRow) (rows : List NumberRow) (old texts : HashMap (String A) (Vec ℕ A) S) → Ascend (λ row. row.number) rows → Some was ≡ find (λ row. row.number == n) rows → ListsNumbers (held rows) old → Leaves was.key.text n old texts → ListsNumbers (held (filter (λ row. not (row.number == n)) rows)) texts
+  lists_left n was rows old texts up found is leaves = record { each = λ text. go text (bytes_eq was.key.text text) refl }
     where
-      go : (text : List ℕ) (b : Bool) → bytes_eq (get_or rows at d).key.text text ≡ b → listed text texts ≡ numbers_with text (held (filter (λ row. not (row.number == n)) rows))
+      go : (text : List ℕ) (b : Bool) → bytes_eq was.key.text text ≡ b → listed text texts ≡ numbers_with text (held (filter (λ row. not (row.number == n)) rows))
       go text true has = grind (arith, nat_tests, has, leaves.each text, is.each text, seen_of_text text rows, seen_of_text text (filter (λ row. not (row.number == n)) rows), of_text_without text n rows)
-      go text false has = grind (arith, nat_tests, has, leaves.each text, is.each text, seen_of_text text rows, seen_of_text text (filter (λ row. not (row.number == n)) rows), of_text_without text n rows, one_text text n rows at d up lt here has)
+      go text false has = grind (arith, nat_tests, has, leaves.each text, is.each text, seen_of_text text rows, seen_of_text text (filter (λ row. not (row.number == n)) rows), of_text_without text n rows, one_text text n was rows up found has)

@@ -3,7 +3,9 @@ pub mod Searching
 pub mod ByKey
 pub mod Keeping
 pub mod Walking
-pub mod Changing
+pub mod Stepping
+pub mod Listing
+pub mod Numbering
 pub mod Indexing
 pub mod Keyed
 pub mod Tabled

@@ -16,7 +16,7 @@ use Rattle.zs_tables.specs.Numbers.{NumberedKey, key_at, placed}
 use Rattle.zs_tables.specs.Contents.{Contents, numbers_of, text_meant}
 use Rattle.zs_tables.specs.Recipients.{matches, takes, recipients, is_behind, first_behind, next_recipient, GoesOn}
 use Rattle.zs_tables.specs.Lists.{Listed, shown, IsAscending, held_of, held, noted, forgotten, emptied, chosen, takes_by_id, AreCurrent, AreInOrder}
-use Rattle.zs_tables.proofs.Ascending.{all_weaker, all_unmap, ascend_unmap, ascend_filter, ascend_push}
+use Rattle.zs_tables.proofs.Ascending.{all_weaker, all_unmap, ascend_filter, ascend_push}
 use Rattle.zs_tables.proofs.ByKey.{kept}
 use Rattle.zs_tables.proofs.Keeping.{held_same, current_push, current_without, current_emptied, current_nil, current_placed, held_placed, key_of_row}
 use Rattle.zs_tables.proofs.Walking.{first_of_behind, first_of_numbers, matches_ascend, each_is_next}
@@ -24,10 +24,6 @@ use Rattle.zs_tables.proofs.Walking.{first_of_behind, first_of_numbers, matches_
 -- tables with the same parts are the same
 pub same_contents : (rows rows' : List SubRow) (own own' told told' : List NumberedKey) → rows ≡ rows' → own ≡ own' → told ≡ told' → let left : Contents = record { rows = rows; own = own; told = told } in let right : Contents = record { rows = rows'; own = own'; told = told' } in left ≡ right
 same_contents rows rows' own own' told told' p q r = λ i. record { rows = p i; own = q i; told = r i }
-
--- the rows of numbers ascend as they are shown
-pub ascending_rows : (rows : List SubRow) (numbers : List NumberRow) → AreCurrent rows (map shown numbers) → Ascend (λ row. row.number) numbers
-ascending_rows rows numbers is = ascend_unmap (λ (n : Listed). n.number) shown numbers is.ascending
 
 -- what contracts see stays where only the lists change
 pub held_stays : (f : Listed → Listed) → ((n : Listed) → held_of (f n) ≡ held_of n) → (numbers : List NumberRow) (new : List Listed) → new ≡ map f (map shown numbers) → map held_of new ≡ held numbers

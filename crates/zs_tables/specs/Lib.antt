@@ -4,6 +4,7 @@ pub mod Texts
 pub mod Contents
 pub mod Recipients
 pub mod Lists
+pub mod NumberRows
 pub mod Queryables
 pub mod Told
 pub mod Laws

@@ -8,11 +8,11 @@ ghost use Rattle.zs_tables.specs.Contents.{numbers_of, with_numbers, text_meant,
 ghost use Rattle.zs_tables.specs.Recipients.{matches, recipients, next_recipient, GoesOn};
 
 use crate::key_ref::KeyRef;
-use crate::lists::{empty_lists, forget, note, reserve_lists};
 use crate::number_row::NumberRow;
-use crate::numbers::{find_in, take_out};
+use crate::number_rows::NumberRows;
+use crate::numbers::find_in;
 use crate::own::{set_own, unset_own};
-use crate::places::{ids_behind, place};
+use crate::places::ids_behind;
 use crate::recipients::{copy_ids, first_by_id, first_in_tree, keep_takers};
 use crate::subscriber::SubRow;
 use crate::texts::{Texts, first_number};
@@ -33,9 +33,9 @@ use zs_wire::Mapping;
 pub struct Tables {
     alloc: Global,
     subs: KeyedRows<SubRow>,
-    own: Vec<NumberRow>,
+    own: NumberRows,
     texts: Texts,
-    told: Vec<NumberRow>,
+    told: NumberRows,
 }
 
 impl Model for Tables {
@@ -45,9 +45,9 @@ impl Model for Tables {
 
     ghost Value = { Contents };
 
-    ghost view = { λ t. record { rows = t.subs; own = held t.own.items; told = held t.told.items } };
+    ghost view = { λ t. record { rows = t.subs; own = held t.own; told = held t.told } };
 
-    ghost invariant = { λ t. AreKept t.subs (map shown t.own.items) (map shown t.told.items) t.texts };
+    ghost invariant = { λ t. AreKept t.subs (map shown t.own) (map shown t.told) t.texts };
 }
 
 impl Tables {
@@ -58,9 +58,9 @@ impl Tables {
         Tables {
             alloc,
             subs: KeyedRows::new(alloc),
-            own: Vec::new(alloc),
+            own: NumberRows::new(alloc),
             texts: Texts::new(alloc),
-            told: Vec::new(alloc),
+            told: NumberRows::new(alloc),
         }
     }
 
@@ -75,14 +75,14 @@ impl Tables {
         ensures err { OnErr result (self.new ≡ self.old) }
     {
         let id = row.id;
-        reserve_lists(&mut self.own, &row.key)?;
-        reserve_lists(&mut self.told, &row.key)?;
+        self.own.reserve(&row.key)?;
+        self.told.reserve(&row.key)?;
         self.subs.add(row)?;
         let Some(row) = self.subs.find(id) else {
             unreachable!()
         };
-        note(&mut self.own, id, &row.key);
-        note(&mut self.told, id, &row.key);
+        self.own.note(id, &row.key);
+        self.told.note(id, &row.key);
         Ok(())
     }
 
@@ -91,8 +91,8 @@ impl Tables {
         ensures answer { result ≡ list_any (λ row. row.id == id) self.old.rows }
         ensures rows { self.new ≡ record self.old { rows = filter (λ row. not (row.id == id)) self.old.rows } }
     {
-        forget(&mut self.own, id);
-        forget(&mut self.told, id);
+        self.own.forget(id);
+        self.told.forget(id);
         self.subs.remove(id)
     }
 
@@ -120,7 +120,7 @@ impl Tables {
         };
         match mapping {
             Mapping::Receiver => set_own(self.alloc, &mut self.own, &mut self.texts, new),
-            Mapping::Sender => place(&mut self.told, new),
+            Mapping::Sender => self.told.place(new),
         }
     }
 
@@ -131,7 +131,7 @@ impl Tables {
     {
         match mapping {
             Mapping::Receiver => unset_own(&mut self.own, &mut self.texts, number),
-            Mapping::Sender => take_out(&mut self.told, number),
+            Mapping::Sender => self.told.remove(number),
         }
     }
 
@@ -142,7 +142,7 @@ impl Tables {
         self.subs.clear();
         self.own.clear();
         self.texts.clear();
-        empty_lists(&mut self.told);
+        self.told.empty_lists();
     }
 
     /// The key that a number stands for, if it stands for one.

@@ -1,7 +1,22 @@
-use Rattle.std.proofs.Common.{arith}
+use Rattle.std.proofs.Common.{true, true≢false, refl}
 use Rattle.zs_tables.specs.Lists.{shown, emptied}
-use Rattle.zs_tables.proofs.Changing.{changed_more}
+use Rattle.zs_tables.proofs.Stepping.{walked_none, walked_more, walked_less, walked_all}
 use Rattle.zs_tables.proofs.lists.empty_lists.Goals as goal
 
-pub loop-row-preserved : goal.loop-row-preserved
-loop-row-preserved c = changed_more shown emptied _ _ _ c.row-item.result _ c.loop-row.invariant (omega arith) c.empty.ensures
+pub rows-init : goal.rows-init
+rows-init c = record { are = c.requires; walked = walked_none shown emptied c.args.rows.now }
+
+pub rows-preserved : goal.rows-preserved
+rows-preserved c = record {
+  are = c.empty_at.ensures.rows;
+  walked = walked_more shown emptied emptied (λ row. true) c.rows.after c.in-Some.number c.args.rows.now c.rows.rows c.empty_at.new.rows (λ x is. refl) (λ x no_row. absurd (true≢false no_row)) c.rows.invariant.walked c.in-Some.ensures c.empty_at.ensures.list;
+}
+
+pub rows-smaller : goal.rows-smaller
+rows-smaller c = walked_less shown emptied (λ row. true) c.rows.after c.in-Some.number c.args.rows.now c.rows.rows c.rows.invariant.walked c.in-Some.ensures
+
+pub returns : goal.returns
+returns c = record {
+  rows = c.rows.invariant.are;
+  lists = walked_all shown emptied (λ row. true) c.rows.after c.args.rows.now c.rows.rows c.requires.ascending c.rows.invariant.are.ascending (λ x no_row. absurd (true≢false no_row)) c.rows.invariant.walked c.in_default.ensures;
+}

@@ -1,6 +1,13 @@
 use Rattle.zs_tables.specs.Lists.{shown, emptied}
-use Rattle.zs_tables.proofs.Changing.{ChangedBelow}
+use Rattle.zs_tables.specs.NumberRows.{AreNumberRows}
+use Rattle.zs_tables.proofs.Stepping.{Walked, behind_count}
 use Rattle.zs_tables.proofs.lists.empty_lists.Given as goal
 
-abbrev pub invariant-loop-row : goal.invariant-loop-row
-invariant-loop-row l = ChangedBelow shown (emptied) l.row-index l.fn.numbers.items l.row-items
+abbrev pub invariant-rows : goal.invariant-rows
+invariant-rows l = record {
+  are : AreNumberRows l.rows;
+  walked : Walked shown emptied l.after l.fn.rows l.rows;
+}
+
+abbrev pub decreases-rows : goal.decreases-rows
+decreases-rows l = behind_count l.after l.fn.rows

@@ -1,18 +1,35 @@
-use Rattle.std.proofs.Common.{ap, ◌∙◌, arith, length-set}
-use Rattle.std.specs.Prelude.{map}
-use Rattle.std.proofs.lemmas.List.{take_at}
-use Rattle.std.proofs.lemmas.List.Elements.{AllWithin-more_set}
-use Rattle.zs_tables.specs.Lists.{shown, HasRoomFor}
-use Rattle.zs_tables.proofs.Changing.{same_more}
+use Rattle.std.proofs.Common.{refl}
+use Rattle.zs_tables.specs.Lists.{shown}
+use Rattle.zs_tables.specs.NumberRows.{is_met, kept}
+use Rattle.zs_tables.proofs.Stepping.{walked_none, walked_more, walked_less, walked_same}
+use Rattle.zs_tables.proofs.Listing.{reserved_none, reserved_more, reserved_all}
 use Rattle.zs_tables.proofs.lists.reserve_lists.Goals as goal
 
-pub returns-in_err-reserve-clause-same : goal.returns-in_err-reserve-clause-same
-returns-in_err-reserve-clause-same c =
-    ap (map shown) (take_at _ _ _ (omega (arith, length-set c.loop-row.row-items c.loop-row.row-index c.reserve.new.row)))
-    ∙ same_more shown _ _ _ c.row-item.result _ c.loop-row.invariant.same (omega arith) c.in_err-reserve.ensures.same
+pub rows-init : goal.rows-init
+rows-init c = record {
+  are = c.requires;
+  walked = walked_none shown kept c.args.rows.now;
+  reserved = reserved_none c.args.key.now.text c.args.rows.now;
+}
 
-pub loop-row-preserved : goal.loop-row-preserved
-loop-row-preserved c = record {
-  same = same_more shown _ _ _ c.row-item.result _ c.loop-row.invariant.same (omega arith) c.in_ok-reserve.ensures.same;
-  room = AllWithin-more_set _ _ _ (omega arith) (HasRoomFor c.args.key.now.text) c.loop-row.invariant.room c.in_ok-reserve.ensures.room;
+pub rows-preserved : goal.rows-preserved
+rows-preserved c = record {
+  are = c.in_ok-reserve_at.ensures.rows;
+  walked = walked_more shown kept kept (is_met c.args.key.now.text) c.rows.after c.in-Some.number c.args.rows.now c.rows.rows c.reserve_at.new.rows (λ x is. refl) (λ x is. refl) c.rows.invariant.walked c.in-Some.ensures c.in_ok-reserve_at.ensures.same;
+  reserved = reserved_more c.args.key.now.text c.rows.after c.in-Some.number c.rows.rows c.reserve_at.new.rows c.rows.invariant.reserved c.in-Some.ensures c.in_ok-reserve_at.ensures.same c.in_ok-reserve_at.ensures.room;
+}
+
+pub rows-smaller : goal.rows-smaller
+rows-smaller c = walked_less shown kept (is_met c.args.key.now.text) c.rows.after c.in-Some.number c.args.rows.now c.rows.rows c.rows.invariant.walked c.in-Some.ensures
+
+pub returns-in_err-reserve_at-clause-same : goal.returns-in_err-reserve_at-clause-same
+returns-in_err-reserve_at-clause-same c =
+    walked_same shown _ c.args.rows.now c.reserve_at.new.rows c.requires.ascending c.in_err-reserve_at.ensures.rows.ascending
+    (walked_more shown kept kept (is_met c.args.key.now.text) c.rows.after c.in-Some.number c.args.rows.now c.rows.rows c.reserve_at.new.rows (λ x is. refl) (λ x is. refl) c.rows.invariant.walked c.in-Some.ensures c.in_err-reserve_at.ensures.same)
+
+pub returns : goal.returns
+returns c = record {
+  rows = c.rows.invariant.are;
+  same = walked_same shown c.rows.after c.args.rows.now c.rows.rows c.requires.ascending c.rows.invariant.are.ascending c.rows.invariant.walked;
+  room = reserved_all c.args.key.now.text c.rows.after c.rows.rows c.rows.invariant.are c.rows.invariant.reserved c.in_default.ensures;
 }

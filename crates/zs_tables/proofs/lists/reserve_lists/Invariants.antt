@@ -1,11 +1,15 @@
-use Rattle.std.proofs.Common.{◌≡◌}
-use Rattle.std.specs.Prelude.{map}
-use Rattle.std.specs.List.{AllWithin}
-use Rattle.zs_tables.specs.Lists.{shown, HasRoomFor}
+use Rattle.zs_tables.specs.Lists.{shown}
+use Rattle.zs_tables.specs.NumberRows.{AreNumberRows, kept}
+use Rattle.zs_tables.proofs.Stepping.{Walked, behind_count}
+use Rattle.zs_tables.proofs.Listing.{Reserved}
 use Rattle.zs_tables.proofs.lists.reserve_lists.Given as goal
 
-abbrev pub invariant-loop-row : goal.invariant-loop-row
-invariant-loop-row l = record {
-  same : map shown l.row-items ≡ map shown l.fn.numbers.items;
-  room : AllWithin (HasRoomFor l.key.text) l.row-items 0 l.row-index;
+abbrev pub invariant-rows : goal.invariant-rows
+invariant-rows l = record {
+  are : AreNumberRows l.rows;
+  walked : Walked shown kept l.after l.fn.rows l.rows;
+  reserved : Reserved l.key.text l.after l.rows;
 }
+
+abbrev pub decreases-rows : goal.decreases-rows
+decreases-rows l = behind_count l.after l.fn.rows

@@ -1,33 +1,24 @@
 use Rattle.std.proofs.Common.{◌∙◌, subst}
 use Rattle.zs_tables.specs.Ascending.{Ascend}
 use Rattle.zs_tables.specs.Contents.{Contents}
-use Rattle.zs_tables.proofs.Tabled.{ascending_rows, unknown, list_ascends, next_by_number, goes_on}
+use Rattle.zs_tables.proofs.Tabled.{unknown, list_ascends, next_by_number, goes_on}
 use Rattle.zs_tables.proofs.Walking.{matches_ascend}
 use Rattle.zs_tables.proofs.Keyed.{next_by_tree}
 use Rattle.zs_tables.proofs.tables.Tables.next_recipient.Goals as goal
 
-pub find_in-requires-clause-own : goal.find_in-requires-clause-own
-find_in-requires-clause-own g c = rw c.deref.ensures.value (ascending_rows _ _ c.self.invariant.order.own_current)
-
-pub find_in-requires-clause-told : goal.find_in-requires-clause-told
-find_in-requires-clause-told g c = rw c.deref-in-Number.ensures.value (ascending_rows _ _ c.self.invariant.order.told_current)
-
 pub unreachable-requires : goal.unreachable-requires
 unreachable-requires g c =
-    let found = rw (c.deref.ensures.value, c.deref-in-Number.ensures.value) at c.in_default.ensures in
-    unknown c.in-Number.mapping c.in-Number.number c.self.inside.subs c.self.inside.own.items c.self.inside.told.items found (rw (c.in-Number.is, ← c.self.view_is) at c.requires)
+    unknown c.in-Number.mapping c.in-Number.number c.self.inside.subs c.self.inside.own c.self.inside.told c.in_default.ensures (rw (c.in-Number.is, ← c.self.view_is) at c.requires)
 
 pub ids_behind-requires : goal.ids_behind-requires
 ids_behind-requires g c =
-    let found = rw (c.deref.ensures.value, c.deref-in-Number.ensures.value) at c.in-Some.ensures in
-    rw c.deref-in-Number-2.ensures.value (list_ascends c.in-Number.mapping c.in-Number.number c.self.inside.subs c.self.inside.own.items c.self.inside.told.items _ c.self.invariant.order found)
+    rw c.deref.ensures.value (list_ascends c.in-Number.mapping c.in-Number.number c.self.inside.subs c.self.inside.own c.self.inside.told _ c.self.invariant.order c.in-Some.ensures)
 
 pub returns-in-Some-clause-next : goal.returns-in-Some-clause-next
 returns-in-Some-clause-next g c =
-    let found = rw (c.deref.ensures.value, c.deref-in-Number.ensures.value) at c.in-Some.ensures in
-    let first = rw (c.ids_behind.ensures, c.deref-in-Number-2.ensures.value) at c.first_by_id.ensures in
+    let first = rw (c.ids_behind.ensures, c.deref.ensures.value) at c.first_by_id.ensures in
     rw (c.in-Number.is, ← c.self.view_is) (λ text meant.
-    first ∙ next_by_number c.in-Number.mapping c.in-Number.number c.args.local c.args.after c.self.inside.subs c.self.inside.own.items c.self.inside.told.items _ c.self.invariant.order found text meant)
+    first ∙ next_by_number c.in-Number.mapping c.in-Number.number c.args.local c.args.after c.self.inside.subs c.self.inside.own c.self.inside.told _ c.self.invariant.order c.in-Some.ensures text meant)
 
 pub first_in_tree-requires-clause-ids : goal.first_in_tree-requires-clause-ids
 first_in_tree-requires-clause-ids g c = matches_ascend c.in-Text.key.now.text c.self.inside.subs c.self.invariant.order.ascending

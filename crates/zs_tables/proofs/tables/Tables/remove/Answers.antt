@@ -13,7 +13,7 @@ forget-requires-2 c = lists_ascend _ _ c.self.invariant.order.ascending c.self.i
 pub invariant_of-self : goal.invariant_of-self
 invariant_of-self c = record {
   order = in_order_without c.args.id _ _ _ _ _ _ c.self.invariant.order c.remove.ensures.rows c.forget.ensures c.forget-2.ensures;
-  indexed = still_indexed _ _ c.self.inside.texts (held_stays (forgotten c.args.id) (λ n. refl) c.self.inside.own.items _ c.forget.ensures) c.self.invariant.indexed;
+  indexed = still_indexed _ _ c.self.inside.texts (held_stays (forgotten c.args.id) (λ n. refl) c.self.inside.own _ c.forget.ensures) c.self.invariant.indexed;
 }
 
 pub returns-clause-answer : goal.returns-clause-answer
@@ -22,5 +22,5 @@ returns-clause-answer c = rw (← c.self.view_is) c.remove.ensures.answer
 pub returns-clause-rows : goal.returns-clause-rows
 returns-clause-rows c =
     rw (← c.self.view_is) (same_contents _ _ _ _ _ _ c.remove.ensures.rows
-    (held_stays (forgotten c.args.id) (λ n. refl) c.self.inside.own.items _ c.forget.ensures)
-    (held_stays (forgotten c.args.id) (λ n. refl) c.self.inside.told.items _ c.forget-2.ensures))
+    (held_stays (forgotten c.args.id) (λ n. refl) c.self.inside.own _ c.forget.ensures)
+    (held_stays (forgotten c.args.id) (λ n. refl) c.self.inside.told _ c.forget-2.ensures))

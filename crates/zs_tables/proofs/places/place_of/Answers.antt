@@ -1,9 +1,0 @@
-use Rattle.std.proofs.Common.{rules}
-use Rattle.std.proofs.lemmas.List.Sorted.{answers_always}
-use Rattle.zs_tables.proofs.Searching.{searched}
-use Rattle.zs_tables.proofs.places.place_of.Goals as goal
-
-pub returns : goal.returns
-returns c =
-    let facts = c.binary_search_by_key.ensures in
-    searched (λ row. row.number) c.args.number c.args.numbers.now c.requires _ facts.bound (facts.position (λ row. row.number) (answers_always _ _ _ (λ f a r g called. search rules)))
