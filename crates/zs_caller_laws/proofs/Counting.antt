@@ -20,7 +20,7 @@ use Rattle.zs_held.specs.Receipts.{ReceiptSeen}
 use Rattle.zs_model.specs.Effects.{effects}
 use Rattle.zs_cell.specs.Further.{Adds, AddsFinishes}
 use Rattle.zs_cell.specs.Steps.{Takes, Steps}
-use Rattle.zs_sending.specs.Sending.{StepsSendOne}
+use Rattle.zs_caller_laws.specs.Sending.{StepsSendOne}
 
 same_messages : (fx : List Effect) → flat_map sent_by fx ≡ messages_of fx
 same_messages [] = refl

@@ -3,7 +3,7 @@ use Rattle.std.proofs.Common.{refl}
 use Rattle.std.specs.Str.{chars}
 use Rattle.zs_printing.specs.Pieces.{written}
 use Rattle.zs_event_lines.specs.Shown.{shown}
-use Rattle.zs_call_lines.specs.Lines.{CallsHaveLines, EntitiesHaveLines, CallsAreLines}
+use Rattle.zs_caller_laws.specs.Lines.{CallsHaveLines, EntitiesHaveLines, CallsAreLines}
 
 calls : (H : Type 0) → CallsHaveLines H
 unfolding shown written chars lib.Utf8.encode

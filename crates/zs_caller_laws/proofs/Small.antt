@@ -25,7 +25,7 @@ use Rattle.zs_model.specs.Past.{entry_of, with_entry, past_of}
 use Rattle.zs_model.specs.Effects.{effects_behind}
 use Rattle.zs_session_cell.specs.Core.{turn_at}
 use Rattle.zs_cell.specs.Keys.{declaration_of}
-use Rattle.zs_key_numbers.specs.Numbers.{KeyNumbersAreSmall, KeysComeBackDeclared}
+use Rattle.zs_caller_laws.specs.Numbers.{KeyNumbersAreSmall, KeysComeBackDeclared}
 
 -- where an event declares a key, its number stands below the last
 abbrev IsSmall : Event → Option ℕ → Type 0

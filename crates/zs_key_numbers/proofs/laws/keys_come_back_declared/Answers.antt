@@ -1,5 +1,0 @@
-use Rattle.zs_key_numbers.proofs.Small.{keys_come_back_declared}
-use Rattle.zs_key_numbers.proofs.laws.keys_come_back_declared.Goals as goal
-
-pub returns : goal.returns
-returns c = keys_come_back_declared c.key_numbers_are_small.ensures

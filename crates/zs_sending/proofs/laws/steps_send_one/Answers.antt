@@ -1,5 +1,0 @@
-use Rattle.zs_sending.proofs.Counting.{steps_send_one}
-use Rattle.zs_sending.proofs.laws.steps_send_one.Goals as goal
-
-pub returns : goal.returns
-returns c = steps_send_one c.one_message_at_most.ensures
