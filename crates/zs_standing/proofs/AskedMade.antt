@@ -173,4 +173,7 @@ pub request_made : (w : World) (request : Request) (text : Option (List ℕ)) �
     → (lacks_values w.handing.next (met_by w.entities.queryables NoGet (Requested request) text) || false) ≡ false
     → IsMade w (record { number = None; text = text; event = Net (request_message request) }) (request_change w request text)
 request_made w request None o lacks = all_said o tt tt tt tt refl
-request_made w request (Some text) o lacks = all_said o (neither (lacks_values w.handing.next (met_by_request w.entities.queryables request text)) false lacks).0 tt tt tt refl
+request_made w request (Some text) o lacks =
+    let unspent : lacks_values w.handing.next (met_by_request w.entities.queryables request text) ≡ false =
+        (neither (lacks_values w.handing.next (met_by_request w.entities.queryables request text)) false lacks).0 in
+    all_said {w = w} {x = record { number = None; text = Some text; event = Net (request_message request) }} {c = request_change w request (Some text)} o unspent tt tt tt refl

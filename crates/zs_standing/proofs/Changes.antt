@@ -43,19 +43,19 @@ made w (Pub key settings) o c = pub_made w key settings (key_of w key) o (passed
 made w (Queryable origin complete key) o c = queryable_made w origin complete key (key_of w key) o (passed _ _ c)
 made w (Querier key settings) o c = querier_made w key settings (key_of w key) o (passed _ _ c)
 made w (QuerierGet id inquiry to) o c = querier_get_made w id inquiry to o (passed _ _ c)
-made w (Token key) o c = all_said o (refl, (passed (row_of (Token key)) (sight w (Token key)) c).left) tt refl tt refl
+made w (Token key) o c = all_said {w = w} {x = entry_for w (Token key)} {c = change_for w (Token key)} o (refl, (passed (row_of (Token key)) (sight w (Token key)) c).left) tt refl tt refl
 made w (Listen parent id) o c = listen_made w parent id (listening w.entities.pubs w.entities.queriers w.counters.entity (parent_kind_of parent) id) refl o (passed _ _ c)
 made w (Net (DeclareSubscriber id wire)) o c = told_sub_made w id wire (wire_of w wire) o
 made w (Net (DeclareQueryable id complete wire)) o c = told_queryable_made w id complete wire (wire_of w wire) o
-made w (Background background_sub id) o c = all_said o tt tt tt tt refl
+made w (Background background_sub id) o c = all_said {w = w} {x = entry_for w (Background background_sub id)} {c = change_for w (Background background_sub id)} o tt tt tt tt refl
 made w (Get key settings inquiry to) o c = get_made w key settings inquiry to (key_of w key) o (passed _ _ c)
 made w (reply_event value key update quality) o c = reply_made w value key update quality (key_of w key) o
-made w (Share value) o c = all_said o (passed (row_of (Share value)) (sight w (Share value)) c).left tt tt tt refl
+made w (Share value) o c = all_said {w = w} {x = entry_for w (Share value)} {c = change_for w (Share value)} o (passed (row_of (Share value)) (sight w (Share value)) c).left tt tt tt refl
 made w (Finish value) o c =
     let f = finished (value_at value w.handing.values) w.handing.values in
     all_said o tt tt tt tt (λ i. record (said_of w (entry_for w (Finish value))) { asking = sym (ended_is f w.asking) i; next_query = sym (ended_next f w.asking) i })
 made w (Net (request_message request)) o c = request_made w request (wire_of w request.wire) o (passed (row_of (Net (request_message request))) (sight w (Net (request_message request))) c).left
 made w (Net (response_message response)) o c = response_made w response (text_of w (response_key response.answered response.wire)) response.answered refl o
-made w (Undeclare sub_kind id) o c = all_said o tt tt tt tt refl
-made w CancelToken o c = all_said o (passed (row_of CancelToken) (sight w CancelToken) c).left tt tt tt refl
-made w e o c = all_said o tt tt tt tt refl
+made w (Undeclare sub_kind id) o c = all_said {w = w} {x = entry_for w (Undeclare sub_kind id)} {c = change_for w (Undeclare sub_kind id)} o tt tt tt tt refl
+made w CancelToken o c = all_said {w = w} {x = entry_for w CancelToken} {c = change_for w CancelToken} o (passed (row_of CancelToken) (sight w CancelToken) c).left tt tt tt refl
+made w e o c = all_said {w = w} {x = entry_for w e} {c = change_for w e} o tt tt tt tt refl
