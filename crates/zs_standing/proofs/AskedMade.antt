@@ -175,5 +175,5 @@ pub request_made : (w : World) (request : Request) (text : Option (List ℕ)) �
 request_made w request None o lacks = all_said o tt tt tt tt refl
 request_made w request (Some text) o lacks =
     let unspent : lacks_values w.handing.next (met_by_request w.entities.queryables request text) ≡ false =
-        (neither (lacks_values w.handing.next (met_by_request w.entities.queryables request text)) false lacks).0 in
+    (neither (lacks_values w.handing.next (met_by_request w.entities.queryables request text)) false lacks).0 in
     all_said {w = w} {x = record { number = None; text = Some text; event = Net (request_message request) }} {c = request_change w request (Some text)} o unspent tt tt tt refl
