@@ -10,8 +10,9 @@ use Rattle.zs_events.specs.declared.entity_kind.ParentKind.TheVariants.{Pub, Que
 use Rattle.zs_events.specs.declared.event.Event.TheVariants.{Listen, Status}
 use Rattle.zs_events.specs.declared.turn.Refusal.TheVariants.{NotFound, IdsExhausted}
 use Rattle.zs_events.specs.Kinds.{parent_kind_of}
-use Rattle.zs_world.specs.declared.change.Change.TheVariants.{Nothing, OfMatching}
-use Rattle.zs_world.specs.declared.change.MatchingChange.TheVariants.{AddListener}
+use Rattle.zs_world.specs.declared.change.Change.TheVariants.{Nothing, OfEntities}
+use Rattle.zs_world.specs.declared.change.EntityChange.TheVariants.{Add as AddEntity}
+use Rattle.zs_world.specs.declared.change.EntityRow.TheVariants.{Listener as new_listener}
 use Rattle.zs_model.specs.declared.publisher.PubRow.{PubRow}
 use Rattle.zs_model.specs.declared.querier.QuerierRow.{QuerierRow}
 use Rattle.zs_model.specs.Settings.{last_entity}
@@ -67,7 +68,7 @@ status_missing w parent id number none =
 
 pub listen_there : (w : World) (parent : ParentKind) (id : ℕ) (row : ListenerRow) → listening w.entities.pubs w.entities.queriers w.counters.entity (parent_kind_of parent) id ≡ row ∷ []
     → is_spent last_entity w.counters.entity ≡ false
-    → open_decision w (Listen parent id) ≡ decision_of None (Some w.counters.entity) [] (OfMatching (AddListener row))
+    → open_decision w (Listen parent id) ≡ decision_of None (Some w.counters.entity) [] (OfEntities (AddEntity (new_listener row)))
 listen_there w parent id row there left =
     let lives : finds w (Some (record { kind = parent_kind_of parent; id = id })) ≡ true = lives_is w parent id w.counters.entity ∙ ap is_one there in
     rw (lives, left, there) refl

@@ -1,30 +1,47 @@
 //! Entities are left to themselves.
 
-ghost use Rattle.std.specs.Prelude.{◌≡◌, IfOk};
-ghost use Rattle.zs_world.specs.Turns.{open_decision};
+ghost use Rattle.std.specs.Prelude.{◌≡◌, ◌==◌, ◌&&◌, not, Some, IfOk};
+ghost use Rattle.std.specs.List.{list_any};
+ghost use Rattle.zs_events.specs.Kinds.{background_kind_of};
+ghost use Rattle.zs_world.specs.Turns.{finds, open_decision};
 
+use crate::matching::names_listener;
 use crate::queryables::names_queryable;
 use crate::subscribers::names_sub;
 use std::alloc::AllocError;
 use zs_events::{BackgroundKind, Effects, Event, Refusal};
 use zs_world::{Change, Decision, EntityChange, SessionTables};
 
-pub fn decide_background_sub(world: &SessionTables, id: u32) -> Result<Decision, AllocError>
-    ensures { IfOk result (λ made. made ≡ open_decision world.now (Event.Background BackgroundKind.Sub id)) }
+pub fn decide_background(
+    world: &SessionTables,
+    kind: BackgroundKind,
+    id: u32,
+) -> Result<Decision, AllocError>
+    ensures { IfOk result (λ made. made ≡ open_decision world.now (Event.Background kind id)) }
 {
-    if !names_sub(world, id) {
+    if !can_leave(world, kind, id) {
         return Ok(Decision::refused(world.alloc, Refusal::NotFound));
     }
-    let change = Change::OfEntities(EntityChange::LeaveSub { id });
+    let change = Change::OfEntities(EntityChange::Leave { kind, id });
     Ok(Decision::of(Effects::new(world.alloc), change))
 }
 
-pub fn decide_background_queryable(world: &SessionTables, id: u32) -> Result<Decision, AllocError>
-    ensures { IfOk result (λ made. made ≡ open_decision world.now (Event.Background BackgroundKind.Queryable id)) }
+/// Whether what has that kind and number can be named, and so left to itself.
+fn can_leave(world: &SessionTables, kind: BackgroundKind, id: u32) -> bool
+    ensures { result ≡ finds world.now (Some (record { kind = background_kind_of kind; id = id })) }
 {
-    if !names_queryable(world, id) {
-        return Ok(Decision::refused(world.alloc, Refusal::NotFound));
+    match kind {
+        BackgroundKind::Sub => names_sub(world, id),
+        BackgroundKind::Queryable => names_queryable(world, id),
+        BackgroundKind::Listener => names_listener(world, id),
+        BackgroundKind::Lsub => names_lsub(world, id),
     }
-    let change = Change::OfEntities(EntityChange::LeaveQueryable { id });
-    Ok(Decision::of(Effects::new(world.alloc), change))
+}
+
+/// Whether a subscriber to liveliness of that number can be named.
+pub fn names_lsub(world: &SessionTables, id: u32) -> bool
+    ensures { result
+        ≡ (list_any (λ row. row.id == id) world.now.liveliness.subs && not (list_any (λ other. other == id) world.now.liveliness.left)) }
+{
+    world.liveliness.subs().has(id) && !world.liveliness.left().contains(id)
 }

@@ -12,12 +12,12 @@ use crate::keys::resolve_wire;
 use crate::publishers::live_publisher;
 use crate::queriers::live_querier;
 use std::alloc::AllocError;
-use zs_events::{BackgroundKind, Effects, EntityKind, Event, ParentKind, Refusal};
+use zs_events::{Effects, EntityKind, Event, ParentKind, Refusal};
 use zs_making::matching::{as_number, on_pub, on_querier};
 use zs_model::into_owned;
 use zs_tables::{ListenerRow, ToldQueryable, ToldSub};
 use zs_wire::{Message, WireExpr};
-use zs_world::{Change, Decision, MatchingChange, SessionTables};
+use zs_world::{Change, Decision, EntityChange, EntityRow, MatchingChange, SessionTables};
 
 pub fn decide_listen(
     world: &SessionTables,
@@ -33,7 +33,7 @@ pub fn decide_listen(
     if u32::MAX - world.next_entity < 1 {
         return Ok(Decision::refused(world.alloc, Refusal::IdsExhausted));
     }
-    let change = Change::OfMatching(MatchingChange::AddListener { row });
+    let change = Change::OfEntities(EntityChange::Add(EntityRow::Listener(row)));
     Ok(Decision::accepted(Some(number), Effects::new(world.alloc), change))
 }
 
@@ -57,17 +57,10 @@ pub fn decide_undeclare_listener(world: &SessionTables, id: u32) -> Result<Decis
     if !names_listener(world, id) {
         return Ok(Decision::refused(world.alloc, Refusal::NotFound));
     }
-    let change = Change::OfMatching(MatchingChange::EndListener { id });
-    Ok(Decision::of(Effects::new(world.alloc), change))
-}
-
-pub fn decide_background_listener(world: &SessionTables, id: u32) -> Result<Decision, AllocError>
-    ensures { IfOk result (λ made. made ≡ open_decision world.now (Event.Background BackgroundKind.Listener id)) }
-{
-    if !names_listener(world, id) {
-        return Ok(Decision::refused(world.alloc, Refusal::NotFound));
-    }
-    let change = Change::OfMatching(MatchingChange::LeaveListener { id });
+    let change = Change::OfEntities(EntityChange::End {
+        kind: EntityKind::Listener,
+        id,
+    });
     Ok(Decision::of(Effects::new(world.alloc), change))
 }
 
@@ -152,7 +145,7 @@ fn listening(
 }
 
 /// Whether a listener of that number can be named.
-fn names_listener(world: &SessionTables, id: u32) -> bool
+pub fn names_listener(world: &SessionTables, id: u32) -> bool
     ensures { result ≡ (is_listener id world.now.matching.listeners && not (list_any (λ other. other == id) world.now.matching.left)) }
 {
     world.matching.listeners().has(id) && !world.matching.left().contains(id)

@@ -14,7 +14,7 @@ use zs_making::content::published_by;
 use zs_making::publishers::{key_of, prefix_of};
 use zs_model::{PubRow, into_owned};
 use zs_tables::GroupKind;
-use zs_world::{Change, Decision, EntityChange, SessionTables};
+use zs_world::{Change, Decision, EntityChange, EntityRow, SessionTables};
 
 pub fn decide_pub(
     world: &SessionTables,
@@ -50,7 +50,7 @@ pub fn decide_pub(
         prefix,
         settings,
     };
-    let change = Change::OfEntities(EntityChange::AddPub { row });
+    let change = Change::OfEntities(EntityChange::Add(EntityRow::Pub(row)));
     Ok(Decision::accepted(Some(id), effects, change))
 }
 
@@ -67,7 +67,13 @@ pub fn decide_undeclare_pub(world: &SessionTables, id: u32) -> Result<Decision, 
         &world.settings.aggregated_publishers,
         row,
     )?;
-    Ok(Decision::of(effects, Change::OfEntities(EntityChange::EndPub { id })))
+    Ok(Decision::of(
+        effects,
+        Change::OfEntities(EntityChange::End {
+            kind: EntityKind::Pub,
+            id,
+        }),
+    ))
 }
 
 /// The publisher of that number, if it is live.

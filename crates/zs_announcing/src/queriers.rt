@@ -15,7 +15,7 @@ use zs_making::publishers::prefix_of;
 use zs_making::queriers::querier_declaration;
 use zs_model::{KeyList, QuerierRow, into_owned};
 use zs_tables::GroupKind;
-use zs_world::{Change, Decision, EntityChange, SessionTables};
+use zs_world::{Change, Decision, EntityChange, EntityRow, SessionTables};
 
 pub fn decide_querier(
     world: &SessionTables,
@@ -51,7 +51,7 @@ pub fn decide_querier(
         key,
         &row.key,
     )?;
-    let change = Change::OfEntities(EntityChange::AddQuerier { row });
+    let change = Change::OfEntities(EntityChange::Add(EntityRow::Querier(row)));
     Ok(Decision::accepted(Some(id), effects, change))
 }
 
@@ -65,7 +65,10 @@ pub fn decide_undeclare_querier(world: &SessionTables, id: u32) -> Result<Decisi
     let row = world.queriers.get(id);
     let mut effects = leaving(world, GroupKind::Queriers, &alone, row)?;
     push_cut_gets(world.asking.gets(), Ender::Querier(id), &mut effects)?;
-    let change = Change::OfEntities(EntityChange::EndQuerier { id });
+    let change = Change::OfEntities(EntityChange::End {
+        kind: EntityKind::Querier,
+        id,
+    });
     Ok(Decision::of(effects, change))
 }
 

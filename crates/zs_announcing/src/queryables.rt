@@ -14,7 +14,7 @@ use zs_model::{has_network, into_owned};
 use zs_sample::Locality;
 use zs_tables::QueryableRow;
 use zs_wire::Message;
-use zs_world::{Change, Decision, EntityChange, SessionTables};
+use zs_world::{Change, Decision, EntityChange, EntityRow, SessionTables};
 
 pub fn decide_queryable(
     world: &SessionTables,
@@ -39,7 +39,7 @@ pub fn decide_queryable(
         key: into_owned(world.alloc, resolved)?,
     };
     let effects = declaring_queryable(world, &row, key)?;
-    let change = Change::OfEntities(EntityChange::AddQueryable { row });
+    let change = Change::OfEntities(EntityChange::Add(EntityRow::Queryable(row)));
     Ok(Decision::accepted(Some(id), effects, change))
 }
 
@@ -54,7 +54,10 @@ pub fn decide_undeclare_queryable(world: &SessionTables, id: u32) -> Result<Deci
         kind: Kind::Queryable,
         id,
     })?;
-    let change = Change::OfEntities(EntityChange::EndQueryable { id });
+    let change = Change::OfEntities(EntityChange::End {
+        kind: EntityKind::Queryable,
+        id,
+    });
     Ok(Decision::of(effects, change))
 }
 

@@ -20,7 +20,7 @@ use zs_model::into_owned;
 use zs_sample::Locality;
 use zs_tables::{GroupKind, SubRow};
 use zs_wire::Message;
-use zs_world::{Change, Decision, EntityChange, SessionTables};
+use zs_world::{Change, Decision, EntityChange, EntityRow, SessionTables};
 
 pub fn decide_sub(
     world: &SessionTables,
@@ -52,7 +52,7 @@ pub fn decide_sub(
         key,
         &row.key,
     )?;
-    let change = Change::OfEntities(EntityChange::AddSub { row });
+    let change = Change::OfEntities(EntityChange::Add(EntityRow::Sub(row)));
     Ok(Decision::accepted(Some(id), effects, change))
 }
 
@@ -69,7 +69,13 @@ pub fn decide_undeclare_sub(world: &SessionTables, id: u32) -> Result<Decision, 
         kind: Kind::Subscriber,
         id,
     })?;
-    Ok(Decision::of(effects, Change::OfEntities(EntityChange::EndSub { id })))
+    Ok(Decision::of(
+        effects,
+        Change::OfEntities(EntityChange::End {
+            kind: EntityKind::Sub,
+            id,
+        }),
+    ))
 }
 
 /// Whether a subscriber of that number can be named.

@@ -30,11 +30,9 @@ use Rattle.zs_tables.specs.declared.listener.ListenerRow.{ListenerRow}
 use Rattle.zs_tables.specs.declared.queryable.QueryableRow.{QueryableRow}
 use Rattle.zs_tables.specs.declared.subscriber.SubRow.{SubRow}
 use Rattle.zs_events.specs.declared.event.Event.{Event}
-use Rattle.zs_events.specs.declared.event.Event.TheVariants.{Undeclare, Close}
-use Rattle.zs_events.specs.declared.entity_kind.EntityKind.TheVariants.{Sub as sub_kind, Queryable as queryable_sort, Lsub as lsub_sort}
 use Rattle.zs_events.specs.declared.turn.Effect.{Effect}
 use Rattle.zs_events.specs.declared.turn.Effect.TheVariants.{Matching, Send, End}
-use Rattle.zs_events.specs.declared.turn.Kind.TheVariants.{Subscriber, Queryable as queryable_kind, LivelinessSubscriber, Listener}
+use Rattle.zs_events.specs.declared.turn.Kind.TheVariants.{Listener}
 use Rattle.zs_events.specs.Kinds.{NamedKey, Publishes, ToGets, NoGet, Asks, AsksBy, Answers, EndsSide, Reaches, EndsQuerier, Cancels, EndsAll, ToValues, NoValue, Requested, AnswersBy, AnswersError, SharesValue, GivesBack, ToLiveliness, NoToken, Subscribes, AsksTokens, TellsToken, EndsToken, EndsAnswers, row_of}
 use Rattle.zs_model.specs.declared.publisher.PubRow.{PubRow}
 use Rattle.zs_model.specs.Entry.{Entry}
@@ -43,16 +41,15 @@ use Rattle.zs_model.specs.Listeners.{is_listener, listener_ends}
 use Rattle.zs_model.specs.Live.{live_listeners}
 use Rattle.zs_model.specs.Matching.{is_matched, turned, listener_effects}
 use Rattle.zs_model.specs.Answers.{local_reply, local_error}
-use Rattle.zs_model.specs.Subscribers.{sub_ends}
-use Rattle.zs_model.specs.Queryables.{queryable_ends}
 use Rattle.zs_model.specs.Questions.{request_of}
 use Rattle.zs_model.specs.Sends.{OwnKeys, wire_form, declaration_of, publication_sends, sends_of}
 use Rattle.zs_model.specs.Tokens.{answers, is_told}
-use Rattle.zs_model.specs.LivelinessEffects.{Watch, hand_token, hand_told, hand_answer, end_asking, cancelled_ends, asking_ends, lsub_ends, token_hands, history_hands, told_hands, answer_hands, ended_text, watch_effects}
+use Rattle.zs_model.specs.LivelinessEffects.{Watch, hand_token, hand_told, hand_answer, end_asking, cancelled_ends, asking_ends, token_hands, history_hands, told_hands, answer_hands, ended_text, watch_effects}
 use Rattle.zs_model.specs.GetEffects.{hand_reply, hand_query, end_get, last_hands, request_sends, ends_effects, reply_effects, response_effects, final_effects, ended_numbers, cut_effects, told_effects, request_effects, with_gets}
 use Rattle.zs_model.specs.ValueEffects.{Answering, error_effects, replied_effects, reply_for_value, answer_effects, answer_error_effects, finish_effects, value_effects, with_values}
 use Rattle.zs_model.specs.Effects.{Known, to_gets_for, draws_of, answering, entity_sends, hands_of, ends_of, effects_on}
 use Rattle.zs_arrivals.specs.Samples.{sample_in, samples_to}
+use Rattle.zs_laws.proofs.EntityEnds.{ends_cases}
 use Rattle.zs_laws.proofs.Sends.{entity_cases, publication_cases, sends_cases}
 
 -- effects that hand no subscriber a sample
@@ -93,16 +90,7 @@ mute_entity known number text e = entity_cases IsMute mute_none known e number t
 
 -- what ends
 mute_ends : (queryables : List QueryableRow) (rows : List SubRow) (lsubs : List LivelinessSub) (e : Event) → IsMute (ends_of queryables rows lsubs e)
-mute_ends queryables rows lsubs (Undeclare sub_kind id) = λ other. refl
-mute_ends queryables rows lsubs (Undeclare queryable_sort id) = λ other. refl
-mute_ends queryables rows lsubs (Undeclare lsub_sort id) = λ other. refl
-mute_ends queryables rows lsubs Close =
-    mute_append (queryable_ends queryables ++ sub_ends rows) (lsub_ends lsubs)
-    (mute_append (queryable_ends queryables) (sub_ends rows)
-    (mute_map (λ (row : QueryableRow). End queryable_kind row.id) (λ row id. refl) queryables)
-    (mute_map (λ (row : SubRow). End Subscriber row.id) (λ row id. refl) rows))
-    (mute_map (λ (row : LivelinessSub). End LivelinessSubscriber row.id) (λ row id. refl) lsubs)
-mute_ends queryables rows lsubs e = mute_none
+mute_ends queryables rows lsubs e = ends_cases IsMute (record { none = mute_none; both = mute_append; one = λ kind id other. refl }) queryables rows lsubs e
 
 -- what those hear who want to know of tokens
 mute_tokens : (kind : SampleKind) (before : Bool) (text : Option (List ℕ)) (subs : List LivelinessSub) → IsMute (token_hands kind before text subs)

@@ -1,5 +1,5 @@
 -- Every change that fits keeps the groups those of the entities.
-use Rattle.std.proofs.Common.{◌≡◌, ◌≤◌, ◌<◌, ℕ, ◌+◌, List, [], ◌∷◌, ◌++◌, map, Option, Some, None, IfSome, Result, Ok, Err, OnOk, OnErr, refl, sym, subst, arith}
+use Rattle.std.proofs.Common.{◌≡◌, ◌≤◌, ◌<◌, ℕ, ◌+◌, List, [], ◌∷◌, ◌++◌, map, Option, Some, None, IfSome, Result, Ok, Err, OnOk, OnErr, sym, subst, arith}
 use Rattle.std.specs.Prelude.{◌==◌, not, filter, option_map}
 use Rattle.std.specs.List.{AllByRecursion, find}
 use Rattle.zs_keys.specs.Key.{Key}
@@ -12,13 +12,15 @@ use Rattle.zs_tables.specs.Types.{GroupKind, Subscribers, Publishers, Queriers}
 use Rattle.zs_tables.proofs.Ascending.{all_weaker, all_filter, all_push, ascend_filter, ascend_map, ascend_push, ascend_unmap}
 use Rattle.zs_model.specs.Groups.{Shared, sub_shared, pub_shared, querier_shared, joined_by, left_found, aggregates_of}
 use Rattle.zs_model.specs.declared.settings.Settings.{Settings}
-use Rattle.zs_model.proofs.Groups.{IsOne, AreApart}
+use Rattle.zs_model.proofs.Groups.{IsOne}
 use Rattle.zs_model.proofs.Sharing.{AreGrouped, grouped_none, grouped_more}
 use Rattle.zs_world.specs.World.{World, new_world}
 use Rattle.zs_world.specs.Changes.{Fits, with_change}
 use Rattle.zs_world.specs.declared.change.Change.{Change}
 use Rattle.zs_world.specs.declared.change.Change.TheVariants.{Nothing, OfEntities, Shut}
-use Rattle.zs_world.specs.declared.change.EntityChange.TheVariants.{AddSub, EndSub, AddPub, EndPub, AddQueryable, AddQuerier, EndQuerier}
+use Rattle.zs_world.specs.declared.change.EntityChange.TheVariants.{Add as AddEntity, End as EndEntity}
+use Rattle.zs_world.specs.declared.change.EntityRow.TheVariants.{Sub as new_sub, Pub as new_pub, Querier as new_querier}
+use Rattle.zs_events.specs.declared.entity_kind.EntityKind.TheVariants.{Sub as sub_sort, Pub as pub_sort, Querier as querier_sort}
 use Rattle.zs_standing.proofs.GroupNumbers.{pushed, left_out, less_found}
 use Rattle.zs_standing.proofs.Watching.{entity_up}
 use Rattle.zs_core.specs.Keeping.{HasOne, AreKept, KeepsGroups, shared_at}
@@ -87,30 +89,30 @@ shut w Publishers = kept_none w.settings.aggregated_publishers w.counters.entity
 shut w Queriers = kept_none [] w.counters.entity
 
 pub keeps_more : (w : World) (c : Change) → Fits w c → KeepsGroups w → KeepsGroups (with_change c w)
-keeps_more w (OfEntities (AddSub row)) fits keeps Subscribers =
+keeps_more w (OfEntities (AddEntity (new_sub row))) fits keeps Subscribers =
     rw (pushed sub_shared w.entities.subs row)
     (kept_push w.settings.aggregated_subscribers w.groups.subscribers (map sub_shared w.entities.subs) (sub_shared row) w.counters.entity fits.0 (keeps Subscribers))
-keeps_more w (OfEntities (AddSub row)) fits keeps Publishers = untouched w (OfEntities (AddSub row)) Publishers keeps
-keeps_more w (OfEntities (AddSub row)) fits keeps Queriers = untouched w (OfEntities (AddSub row)) Queriers keeps
-keeps_more w (OfEntities (AddPub row)) fits keeps Publishers =
+keeps_more w (OfEntities (AddEntity (new_sub row))) fits keeps Publishers = untouched w (OfEntities (AddEntity (new_sub row))) Publishers keeps
+keeps_more w (OfEntities (AddEntity (new_sub row))) fits keeps Queriers = untouched w (OfEntities (AddEntity (new_sub row))) Queriers keeps
+keeps_more w (OfEntities (AddEntity (new_pub row))) fits keeps Publishers =
     rw (pushed pub_shared w.entities.pubs row)
     (kept_push w.settings.aggregated_publishers w.groups.publishers (map pub_shared w.entities.pubs) (pub_shared row) w.counters.entity fits.0 (keeps Publishers))
-keeps_more w (OfEntities (AddPub row)) fits keeps Subscribers = untouched w (OfEntities (AddPub row)) Subscribers keeps
-keeps_more w (OfEntities (AddPub row)) fits keeps Queriers = untouched w (OfEntities (AddPub row)) Queriers keeps
-keeps_more w (OfEntities (AddQuerier row)) fits keeps Queriers =
+keeps_more w (OfEntities (AddEntity (new_pub row))) fits keeps Subscribers = untouched w (OfEntities (AddEntity (new_pub row))) Subscribers keeps
+keeps_more w (OfEntities (AddEntity (new_pub row))) fits keeps Queriers = untouched w (OfEntities (AddEntity (new_pub row))) Queriers keeps
+keeps_more w (OfEntities (AddEntity (new_querier row))) fits keeps Queriers =
     rw (pushed querier_shared w.entities.queriers row)
     (kept_push [] w.groups.queriers (map querier_shared w.entities.queriers) (querier_shared row) w.counters.entity fits.0 (keeps Queriers))
-keeps_more w (OfEntities (AddQuerier row)) fits keeps Subscribers = untouched w (OfEntities (AddQuerier row)) Subscribers keeps
-keeps_more w (OfEntities (AddQuerier row)) fits keeps Publishers = untouched w (OfEntities (AddQuerier row)) Publishers keeps
-keeps_more w (OfEntities (EndSub id)) fits keeps Subscribers = kept_less sub_shared w.settings.aggregated_subscribers w.groups.subscribers w.entities.subs id w.counters.entity (keeps Subscribers)
-keeps_more w (OfEntities (EndSub id)) fits keeps Publishers = keeps Publishers
-keeps_more w (OfEntities (EndSub id)) fits keeps Queriers = keeps Queriers
-keeps_more w (OfEntities (EndPub id)) fits keeps Publishers = kept_less pub_shared w.settings.aggregated_publishers w.groups.publishers w.entities.pubs id w.counters.entity (keeps Publishers)
-keeps_more w (OfEntities (EndPub id)) fits keeps Subscribers = keeps Subscribers
-keeps_more w (OfEntities (EndPub id)) fits keeps Queriers = keeps Queriers
-keeps_more w (OfEntities (EndQuerier id)) fits keeps Queriers = kept_less querier_shared [] w.groups.queriers w.entities.queriers id w.counters.entity (keeps Queriers)
-keeps_more w (OfEntities (EndQuerier id)) fits keeps Subscribers = keeps Subscribers
-keeps_more w (OfEntities (EndQuerier id)) fits keeps Publishers = keeps Publishers
+keeps_more w (OfEntities (AddEntity (new_querier row))) fits keeps Subscribers = untouched w (OfEntities (AddEntity (new_querier row))) Subscribers keeps
+keeps_more w (OfEntities (AddEntity (new_querier row))) fits keeps Publishers = untouched w (OfEntities (AddEntity (new_querier row))) Publishers keeps
+keeps_more w (OfEntities (EndEntity sub_sort id)) fits keeps Subscribers = kept_less sub_shared w.settings.aggregated_subscribers w.groups.subscribers w.entities.subs id w.counters.entity (keeps Subscribers)
+keeps_more w (OfEntities (EndEntity sub_sort id)) fits keeps Publishers = keeps Publishers
+keeps_more w (OfEntities (EndEntity sub_sort id)) fits keeps Queriers = keeps Queriers
+keeps_more w (OfEntities (EndEntity pub_sort id)) fits keeps Publishers = kept_less pub_shared w.settings.aggregated_publishers w.groups.publishers w.entities.pubs id w.counters.entity (keeps Publishers)
+keeps_more w (OfEntities (EndEntity pub_sort id)) fits keeps Subscribers = keeps Subscribers
+keeps_more w (OfEntities (EndEntity pub_sort id)) fits keeps Queriers = keeps Queriers
+keeps_more w (OfEntities (EndEntity querier_sort id)) fits keeps Queriers = kept_less querier_shared [] w.groups.queriers w.entities.queriers id w.counters.entity (keeps Queriers)
+keeps_more w (OfEntities (EndEntity querier_sort id)) fits keeps Subscribers = keeps Subscribers
+keeps_more w (OfEntities (EndEntity querier_sort id)) fits keeps Publishers = keeps Publishers
 keeps_more w Shut fits keeps kind = shut w kind
 keeps_more w Nothing fits keeps kind = keeps kind
 keeps_more w c fits keeps Subscribers = untouched w c Subscribers keeps

@@ -8,20 +8,18 @@ use answers::{decide_error_to, decide_reply_to};
 use cancelling::{decide_cancel, decide_cancel_token};
 use gets::{decide_get, decide_querier_get, decide_tick};
 use liveliness::{
-    decide_background_lsub, decide_liveliness_get, decide_lsub, decide_token,
-    decide_undeclare_lsub, decide_undeclare_token,
+    decide_liveliness_get, decide_lsub, decide_token, decide_undeclare_lsub, decide_undeclare_token,
 };
 use messages::decide_message;
 use std::alloc::{AllocError, Global};
 use values::{decide_finish, decide_share};
 use zs_announcing::{
-    decide_background_listener, decide_background_queryable, decide_background_sub, decide_close,
-    decide_key, decide_listen, decide_pub, decide_publish, decide_published, decide_querier,
-    decide_queryable, decide_status, decide_sub, decide_undeclare_key, decide_undeclare_listener,
-    decide_undeclare_pub, decide_undeclare_querier, decide_undeclare_queryable,
-    decide_undeclare_sub,
+    decide_background, decide_close, decide_key, decide_listen, decide_pub, decide_publish,
+    decide_published, decide_querier, decide_queryable, decide_status, decide_sub,
+    decide_undeclare_key, decide_undeclare_listener, decide_undeclare_pub,
+    decide_undeclare_querier, decide_undeclare_queryable, decide_undeclare_sub,
 };
-use zs_events::{BackgroundKind, EntityKind, Event, Refusal};
+use zs_events::{EntityKind, Event, Refusal};
 use zs_world::{Change, Decision, SessionTables};
 
 mod answers;
@@ -127,22 +125,6 @@ fn decide_undeclare(
         EntityKind::Listener => decide_undeclare_listener(world, id),
         EntityKind::Token => decide_undeclare_token(world, id),
         EntityKind::Lsub => decide_undeclare_lsub(world, id),
-    }
-}
-
-/// What it makes of one that is left to itself.
-fn decide_background(
-    world: &SessionTables,
-    kind: BackgroundKind,
-    id: u32,
-) -> Result<Decision, AllocError>
-    ensures { IfOk result (λ made. made ≡ open_decision world.now (Event.Background kind id)) }
-{
-    match kind {
-        BackgroundKind::Sub => decide_background_sub(world, id),
-        BackgroundKind::Queryable => decide_background_queryable(world, id),
-        BackgroundKind::Listener => decide_background_listener(world, id),
-        BackgroundKind::Lsub => decide_background_lsub(world, id),
     }
 }
 

@@ -22,7 +22,6 @@ use Rattle.zs_tables.specs.MatchingLaws.{differ}
 use Rattle.zs_tables.specs.Recipients.{has_network}
 use Rattle.zs_tables.specs.declared.listener.ListenerRow.{ListenerRow}
 use Rattle.zs_tables.specs.Types.{LivelinessGet as TokensGet, LivelinessSub, ToldToken}
-use Rattle.zs_tables.specs.declared.queryable.QueryableRow.{QueryableRow}
 use Rattle.zs_tables.specs.declared.subscriber.SubRow.{SubRow}
 use Rattle.zs_query.specs.declared.open_get.OpenGet.{OpenGet}
 use Rattle.zs_query.specs.declared.outcome.Outcome.{Outcome}
@@ -39,12 +38,12 @@ use Rattle.zs_query.proofs.Ascending.{all_append, all_weaker}
 use Rattle.zs_tables.specs.Ascending.{Ascend}
 use Rattle.zs_events.specs.declared.event.Event.{Event}
 use Rattle.zs_events.specs.declared.event.Event.TheVariants.{Undeclare, Close, Net, Get, QuerierGet, Cancel, Tick, Reply as reply_event, ReplyErr, Finish, Share}
-use Rattle.zs_events.specs.declared.entity_kind.EntityKind.TheVariants.{Sub as sub_kind, Queryable as queryable_sort, Querier as querier_sort, Lsub as lsub_sort}
+use Rattle.zs_events.specs.declared.entity_kind.EntityKind.TheVariants.{Querier as querier_sort}
 use Rattle.zs_events.specs.declared.publication.ReplyQuality.{ReplyQuality}
 use Rattle.zs_events.specs.declared.turn.Effect.{Effect}
 use Rattle.zs_events.specs.declared.turn.Effect.TheVariants.{Send, Hand, End, Matching}
 use Rattle.zs_events.specs.declared.turn.HandOver.TheVariants.{Sample as sample_for, Reply as reply_for}
-use Rattle.zs_events.specs.declared.turn.Kind.TheVariants.{Subscriber, Queryable as queryable_kind, LivelinessSubscriber, Listener as listener_kind, LivelinessGet as tokens_kind}
+use Rattle.zs_events.specs.declared.turn.Kind.TheVariants.{Subscriber, Listener as listener_kind, LivelinessGet as tokens_kind}
 use Rattle.zs_events.specs.declared.turn.Refusal.{Refusal}
 use Rattle.zs_events.specs.Turn.{answered}
 use Rattle.zs_events.specs.Updates.{body_of}
@@ -59,21 +58,20 @@ use Rattle.zs_model.specs.Gets.{sample_reply}
 use Rattle.zs_model.specs.Held.{named_text}
 use Rattle.zs_model.specs.Listeners.{is_listener, listener_ends}
 use Rattle.zs_model.specs.Live.{live_listeners}
-use Rattle.zs_model.specs.LivelinessEffects.{Watch, hand_token, hand_told, hand_answer, token_reply, end_asking, cancelled_ends, asking_ends, lsub_ends, token_hands, history_hands, told_hands, answer_hands, ended_text, watch_effects}
+use Rattle.zs_model.specs.LivelinessEffects.{Watch, hand_token, hand_told, hand_answer, token_reply, end_asking, cancelled_ends, asking_ends, token_hands, history_hands, told_hands, answer_hands, ended_text, watch_effects}
 use Rattle.zs_model.specs.Matching.{is_matched, turned, listener_effects}
 use Rattle.zs_model.specs.Past.{past_of, entry_of}
 use Rattle.zs_model.specs.Publications.{Publication, sample_on, allows}
 use Rattle.zs_model.specs.Publishers.{resolved}
 use Rattle.zs_model.specs.Queriers.{querier_at, question_of, asks_of}
-use Rattle.zs_model.specs.Queryables.{queryable_ends}
 use Rattle.zs_model.specs.Questions.{request_of}
 use Rattle.zs_model.specs.Sends.{full_wire, wire_form, declaration_of, sends_of}
-use Rattle.zs_model.specs.Subscribers.{sub_ends}
 use Rattle.zs_model.specs.Tokens.{answers, is_told, asking_now}
 use Rattle.zs_model.specs.Values.{drawn_by}
 use Rattle.zs_model.specs.ValueEffects.{Answering, requested_effects, replied_effects, answer_effects, answer_error_effects, finish_effects}
 use Rattle.zs_model.specs.Effects.{Known, known_of, answering, draws_of, entity_sends, hands_of, hands_for, publication_on, ends_of, effects_on, effects_behind}
 use Rattle.zs_laws.specs.Handed.{accepted_alone}
+use Rattle.zs_laws.proofs.EntityEnds.{ends_cases}
 use Rattle.zs_effects.specs.Answered.{answered_at, answered_to, answer_for, timeout_for, TokensGetsAreHanded, OthersAreAnsweredNothing}
 use Rattle.zs_effects.proofs.Rising.{IsSending}
 use Rattle.zs_effects.proofs.Rows.{askings_below}
@@ -117,15 +115,7 @@ module _ (n : ℕ) where
   published_quiet rows (Some text) (ByPublisher id c) = tt
 
   ends_quiet : (known : Known) (e : Event) → AllByRecursion Quiet (ends_of known.queryables known.subs known.watch.subs e)
-  ends_quiet known (Undeclare sub_kind id) = (refl, tt)
-  ends_quiet known (Undeclare queryable_sort id) = (refl, tt)
-  ends_quiet known (Undeclare lsub_sort id) = (refl, tt)
-  ends_quiet known Close =
-      all_append Quiet (queryable_ends known.queryables ++ sub_ends known.subs) (lsub_ends known.watch.subs)
-      (all_append Quiet (queryable_ends known.queryables) (sub_ends known.subs)
-      (mapped (λ (row : QueryableRow). End queryable_kind row.id) (λ row. refl) known.queryables) (mapped (λ (row : SubRow). End Subscriber row.id) (λ row. refl) known.subs))
-      (mapped (λ (row : LivelinessSub). End LivelinessSubscriber row.id) (λ row. refl) known.watch.subs)
-  ends_quiet known e = tt
+  ends_quiet known e = ends_cases (AllByRecursion Quiet) (record { none = tt; both = all_append Quiet; one = λ kind id. (refl, tt) }) known.queryables known.subs known.watch.subs e
 
   -- what subscribers to liveliness are told
   tokens_quiet : (kind : SampleKind) (before : Bool) (text : Option (List ℕ)) (subs : List LivelinessSub) → AllByRecursion Quiet (token_hands kind before text subs)

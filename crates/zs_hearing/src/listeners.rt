@@ -4,18 +4,18 @@ ghost use Rattle.std.specs.Prelude.{◌≡◌, ◌++◌, ◌∷◌, [], ◌==◌
 ghost use Rattle.zs_tables.specs.Matching.{own_sub, own_queryable, told_sub, told_queryable, seen_if, recounts, is_heard};
 ghost use Rattle.zs_world.specs.Turns.{listener_effects_at};
 ghost use Rattle.zs_world.specs.Changes.{Fits, with_change};
-ghost use Rattle.zs_world.specs.MatchingChanges.{MatchingFits};
+ghost use Rattle.zs_world.specs.EntityChanges.{EntitiesFit};
 ghost use Rattle.zs_world.specs.MatchingTables.{heard_effect};
 ghost use Rattle.zs_model.specs.Listeners.{listener_ends};
 ghost use Rattle.zs_tables.specs.Ascending.{Ascend};
 
 use std::alloc::AllocError;
-use zs_events::{Effect, Effects, Kind};
+use zs_events::{Effect, Effects, EntityKind, Kind};
 use zs_tables::{
     Candidate, ListenerRow, ListenerTable, QueryableRow, Recount, SubRow, ToldQueryable, ToldSub,
 };
 use zs_world::{
-    Change, EntityChange, MatchingChange, SessionTables, own_queryable_of, own_sub_of,
+    Change, EntityChange, EntityRow, MatchingChange, SessionTables, own_queryable_of, own_sub_of,
     told_queryable_of, told_sub_of,
 };
 
@@ -45,35 +45,67 @@ fn hear_entities(
     change: &EntityChange,
     effects: &mut Effects,
 ) -> Result<(), AllocError>
+    requires { EntitiesFit world.now.counters.entity change.now }
     ensures { OnOk result (effects.new ≡ effects.old ++ listener_effects_at world.now (with_change (Change.OfEntities change.now) world.now)) }
 {
     match change {
-        EntityChange::AddSub { row } => hear_sub(world, row, effects),
-        EntityChange::EndSub { id } => hear_sub_end(world, *id, effects),
-        EntityChange::AddQueryable { row } => hear_queryable(world, row, effects),
-        EntityChange::EndQueryable { id } => hear_queryable_end(world, *id, effects),
-        EntityChange::EndPub { id } => hear_pub_end(world, *id, effects),
-        EntityChange::EndQuerier { id } => hear_querier_end(world, *id, effects),
-        EntityChange::AddPub { .. } => Ok(()),
-        EntityChange::AddQuerier { .. } => Ok(()),
-        EntityChange::LeaveSub { .. } => Ok(()),
-        EntityChange::LeaveQueryable { .. } => Ok(()),
+        EntityChange::Add(row) => hear_added(world, row, effects),
+        EntityChange::End { kind, id } => hear_end(world, *kind, *id, effects),
+        EntityChange::Leave { .. } => Ok(()),
     }
 }
 
-/// Of listeners, and of whom the network tells.
+/// Of one that comes.
+fn hear_added(
+    world: &SessionTables,
+    row: &EntityRow,
+    effects: &mut Effects,
+) -> Result<(), AllocError>
+    requires { EntitiesFit world.now.counters.entity (EntityChange.Add row.now) }
+    ensures { OnOk result (effects.new ≡ effects.old
+        ++ listener_effects_at world.now (with_change (Change.OfEntities (EntityChange.Add row.now)) world.now)) }
+{
+    match row {
+        EntityRow::Sub(row) => hear_sub(world, row, effects),
+        EntityRow::Queryable(row) => hear_queryable(world, row, effects),
+        EntityRow::Listener(row) => hear_first(world, row, effects),
+        EntityRow::Pub(_) => Ok(()),
+        EntityRow::Querier(_) => Ok(()),
+        EntityRow::Token(_) => Ok(()),
+        EntityRow::Lsub(_) => Ok(()),
+    }
+}
+
+/// Of one that goes.
+fn hear_end(
+    world: &SessionTables,
+    kind: EntityKind,
+    id: u32,
+    effects: &mut Effects,
+) -> Result<(), AllocError>
+    ensures { OnOk result (effects.new ≡ effects.old
+        ++ listener_effects_at world.now (with_change (Change.OfEntities (EntityChange.End kind id)) world.now)) }
+{
+    match kind {
+        EntityKind::Sub => hear_sub_end(world, id, effects),
+        EntityKind::Pub => hear_pub_end(world, id, effects),
+        EntityKind::Queryable => hear_queryable_end(world, id, effects),
+        EntityKind::Querier => hear_querier_end(world, id, effects),
+        EntityKind::Listener => hear_listener_end(world, id, effects),
+        EntityKind::Token => Ok(()),
+        EntityKind::Lsub => Ok(()),
+    }
+}
+
+/// Of whom the network tells.
 fn hear_matching(
     world: &SessionTables,
     change: &MatchingChange,
     effects: &mut Effects,
 ) -> Result<(), AllocError>
-    requires { MatchingFits world.now.counters.entity change.now }
     ensures { OnOk result (effects.new ≡ effects.old ++ listener_effects_at world.now (with_change (Change.OfMatching change.now) world.now)) }
 {
     match change {
-        MatchingChange::AddListener { row } => hear_first(world, row, effects),
-        MatchingChange::EndListener { id } => hear_listener_end(world, *id, effects),
-        MatchingChange::LeaveListener { .. } => Ok(()),
         MatchingChange::TellSub { row } => hear_told_sub(world, row, effects),
         MatchingChange::ForgetSub { number } => hear_told_sub_end(world, *number, effects),
         MatchingChange::TellQueryable { row } => hear_told_queryable(world, row, effects),
@@ -86,7 +118,7 @@ fn hear_matching(
 /// A subscriber comes.
 fn hear_sub(world: &SessionTables, row: &SubRow, effects: &mut Effects) -> Result<(), AllocError>
     ensures { OnOk result (effects.new ≡ effects.old
-        ++ listener_effects_at world.now (with_change (Change.OfEntities (EntityChange.AddSub row.now)) world.now)) }
+        ++ listener_effects_at world.now (with_change (Change.OfEntities (EntityChange.Add (EntityRow.Sub row.now))) world.now)) }
 {
     let comes = Some(Candidate::own_sub(row));
     push_heard(world.matching.listeners(), None, comes, effects)
@@ -95,7 +127,7 @@ fn hear_sub(world: &SessionTables, row: &SubRow, effects: &mut Effects) -> Resul
 /// A subscriber goes.
 fn hear_sub_end(world: &SessionTables, id: u32, effects: &mut Effects) -> Result<(), AllocError>
     ensures { OnOk result (effects.new ≡ effects.old
-        ++ listener_effects_at world.now (with_change (Change.OfEntities (EntityChange.EndSub id)) world.now)) }
+        ++ listener_effects_at world.now (with_change (Change.OfEntities (EntityChange.End EntityKind.Sub id)) world.now)) }
 {
     let _ascending = world.tables.len();
     let goes = own_sub_of(&world.tables, id);
@@ -109,7 +141,7 @@ fn hear_queryable(
     effects: &mut Effects,
 ) -> Result<(), AllocError>
     ensures { OnOk result (effects.new ≡ effects.old
-        ++ listener_effects_at world.now (with_change (Change.OfEntities (EntityChange.AddQueryable row.now)) world.now)) }
+        ++ listener_effects_at world.now (with_change (Change.OfEntities (EntityChange.Add (EntityRow.Queryable row.now))) world.now)) }
 {
     let comes = Some(Candidate::own_queryable(row));
     push_heard(world.matching.listeners(), None, comes, effects)
@@ -122,7 +154,7 @@ fn hear_queryable_end(
     effects: &mut Effects,
 ) -> Result<(), AllocError>
     ensures { OnOk result (effects.new ≡ effects.old
-        ++ listener_effects_at world.now (with_change (Change.OfEntities (EntityChange.EndQueryable id)) world.now)) }
+        ++ listener_effects_at world.now (with_change (Change.OfEntities (EntityChange.End EntityKind.Queryable id)) world.now)) }
 {
     let _ascending = world.queryables.len();
     let goes = own_queryable_of(&world.queryables, id);
@@ -132,7 +164,7 @@ fn hear_queryable_end(
 /// A publisher ends, and with it those that listen to it.
 fn hear_pub_end(world: &SessionTables, id: u32, effects: &mut Effects) -> Result<(), AllocError>
     ensures { OnOk result (effects.new ≡ effects.old
-        ++ listener_effects_at world.now (with_change (Change.OfEntities (EntityChange.EndPub id)) world.now)) }
+        ++ listener_effects_at world.now (with_change (Change.OfEntities (EntityChange.End EntityKind.Pub id)) world.now)) }
 {
     push_ends_of(world.matching.listeners(), id, effects)
 }
@@ -140,7 +172,7 @@ fn hear_pub_end(world: &SessionTables, id: u32, effects: &mut Effects) -> Result
 /// A querier ends, and with it those that listen to it.
 fn hear_querier_end(world: &SessionTables, id: u32, effects: &mut Effects) -> Result<(), AllocError>
     ensures { OnOk result (effects.new ≡ effects.old
-        ++ listener_effects_at world.now (with_change (Change.OfEntities (EntityChange.EndQuerier id)) world.now)) }
+        ++ listener_effects_at world.now (with_change (Change.OfEntities (EntityChange.End EntityKind.Querier id)) world.now)) }
 {
     push_ends_of(world.matching.listeners(), id, effects)
 }
@@ -151,9 +183,9 @@ fn hear_first(
     row: &ListenerRow,
     effects: &mut Effects,
 ) -> Result<(), AllocError>
-    requires { MatchingFits world.now.counters.entity (MatchingChange.AddListener row.now) }
+    requires { EntitiesFit world.now.counters.entity (EntityChange.Add (EntityRow.Listener row.now)) }
     ensures { OnOk result (effects.new ≡ effects.old
-        ++ listener_effects_at world.now (with_change (Change.OfMatching (MatchingChange.AddListener row.now)) world.now)) }
+        ++ listener_effects_at world.now (with_change (Change.OfEntities (EntityChange.Add (EntityRow.Listener row.now))) world.now)) }
 {
     let count = world.present().count(world.alloc, row)?;
     if count == 0 {
@@ -172,7 +204,7 @@ fn hear_listener_end(
     effects: &mut Effects,
 ) -> Result<(), AllocError>
     ensures { OnOk result (effects.new ≡ effects.old
-        ++ listener_effects_at world.now (with_change (Change.OfMatching (MatchingChange.EndListener id)) world.now)) }
+        ++ listener_effects_at world.now (with_change (Change.OfEntities (EntityChange.End EntityKind.Listener id)) world.now)) }
 {
     let _ascending = world.matching.listeners().len();
     push_end(world.matching.listeners(), id, effects)

@@ -6,7 +6,7 @@ use Rattle.std.specs.List.{AllByRecursion, list_any, find}
 use Rattle.std.specs.Option.{IfSome}
 use Rattle.std.proofs.lemmas.Bool.Decides.{nat_tests}
 use Rattle.std.proofs.lemmas.Slice.Eq.{bytes_eq-Decides}
-use Rattle.zs_keys.specs.Key.{Key as a_key}
+use Rattle.zs_keys.specs.Key.{Key as a_key, undeclared}
 use Rattle.zs_wire.specs.declared.message.Message.{Message}
 use Rattle.zs_wire.specs.declared.message.Message.TheVariants.{DeclareSubscriber, Close as close_message}
 use Rattle.zs_wire.specs.declared.wire_expr.WireExpr.{WireExpr}
@@ -25,8 +25,9 @@ use Rattle.zs_events.specs.Kinds.{NamedKey, Question, ToGets, NoGet, Asks, AsksB
 use Rattle.zs_model.specs.declared.publisher.PubRow.{PubRow}
 use Rattle.zs_model.specs.declared.settings.Settings.{Settings}
 use Rattle.zs_world.specs.declared.change.Change.{Change}
-use Rattle.zs_world.specs.declared.change.Change.TheVariants.{OfEntities, Shut, OfLiveliness, OfMatching}
-use Rattle.zs_world.specs.declared.change.EntityChange.TheVariants.{AddSub, EndSub, AddPub, AddQueryable, AddQuerier}
+use Rattle.zs_world.specs.declared.change.Change.TheVariants.{OfEntities, Shut, OfLiveliness}
+use Rattle.zs_world.specs.declared.change.EntityChange.TheVariants.{Add as AddEntity, End as EndEntity}
+use Rattle.zs_world.specs.declared.change.EntityRow.TheVariants.{Sub as new_sub}
 use Rattle.zs_world.specs.declared.change.Decision.{Decision}
 use Rattle.zs_world.specs.World.{World}
 use Rattle.zs_model.specs.Entry.{Entry}
@@ -40,7 +41,7 @@ use Rattle.zs_query.specs.Types.{QueryValue}
 use Rattle.zs_model.specs.GetEffects.{asked_effects, request_effects}
 use Rattle.zs_model.specs.ValueEffects.{Answering, value_effects}
 use Rattle.zs_model.specs.Effects.{Known, to_gets_for, draws_of, answering, key_wire, entity_sends, effects}
-use Rattle.zs_world.specs.Changes.{change_for, sub_change, with_change}
+use Rattle.zs_world.specs.Changes.{change_for, added, with_change}
 use Rattle.zs_world.specs.Turns.{text_for, number_for, known_at, decision}
 use Rattle.zs_standing.specs.Stands.{world_of, world_after}
 use Rattle.zs_model.specs.Received.{messages_of, sent_behind, sent, read_as, spoken_by, spoken_text, AreReadAs, AreSpelled, AreUtf8}
@@ -50,7 +51,7 @@ use Rattle.zs_model.proofs.Filters.{all_weaker}
 use Rattle.zs_standing.proofs.Decisions.{entry_for, cases}
 use Rattle.zs_standing.proofs.Saying.{IsMade}
 use Rattle.zs_standing.proofs.Changes.{made}
-use Rattle.zs_standing.proofs.Watching.{never_down, listening_up}
+use Rattle.zs_standing.proofs.Watching.{never_down}
 use Rattle.zs_model.proofs.Groups.{AreApart}
 use Rattle.zs_standing.proofs.GroupNumbers.{AreShared}
 use Rattle.zs_standing.proofs.Stands.{AreStanding, standing, same_text, steps}
@@ -128,14 +129,11 @@ same n = omega arith
 
 unmoved : (w : World) (x : Entry) (c : Change) → IsMade w x c → ((id : ℕ) → drew Subscriber id x.event x.number ≡ false) → ((id : ℕ) → ends Subscriber id x.event ≡ false)
     → ((with_change c w).groups.subscribers ≡ w.groups.subscribers) × (w.counters.entity ≤ (with_change c w).counters.entity)
-unmoved w x (OfEntities (AddSub row)) m drew ended = let no : true ≡ false = sym (same_number row.id) ∙ sym (m.entities.subs.drew row.id) ∙ drew row.id in cc
-unmoved w x (OfEntities (EndSub id)) m drew ended = let no : true ≡ false = sym (same_number id) ∙ sym (m.entities.subs.ended id) ∙ ended id in cc
+unmoved w x (OfEntities (AddEntity (new_sub row))) m drew ended = let no : true ≡ false = sym (same_number row.id) ∙ sym (m.entities.subs.drew row.id) ∙ drew row.id in cc
+unmoved w x (OfEntities (EndEntity sub_kind id)) m drew ended = let no : true ≡ false = sym (same_number id) ∙ sym (m.entities.subs.ended id) ∙ ended id in cc
 unmoved w x Shut m drew ended = let no : true ≡ false = sym (m.entities.subs.ended 0) ∙ ended 0 in cc
-unmoved w x (OfEntities (AddPub row)) m drew ended = (refl, omega arith)
-unmoved w x (OfEntities (AddQueryable row)) m drew ended = (refl, omega arith)
-unmoved w x (OfEntities (AddQuerier row)) m drew ended = (refl, omega arith)
+unmoved w x (OfEntities (AddEntity row)) m drew ended = (refl, omega arith)
 unmoved w x (OfLiveliness change) m drew ended = (refl, never_down change w.counters.entity)
-unmoved w x (OfMatching change) m drew ended = (refl, listening_up change w.counters.entity)
 unmoved w x c m drew ended = (refl, same w.counters.entity)
 
 kept : (w : World) (e : Event) (ms before : List Message) → IsMade w (entry_for w e) (change_for w e) → AreBeside ms
@@ -162,7 +160,7 @@ join_told s text id wire gs before apart are true read =
 
 join : (w : World) (origin : Locality) (key : KeyArg) (to : Chan) (text : Option (List ℕ)) (before : List Message) → AreShared w
     → AreReadAs w.settings text before (messages_of (entity_sends (known_at w) (Sub origin key to) (Some w.counters.entity) text)) → Covers w before
-    → Covers (with_change (sub_change w.counters.entity origin text) w) (sent_behind (messages_of (entity_sends (known_at w) (Sub origin key to) (Some w.counters.entity) text)) before)
+    → Covers (with_change (added (λ t. new_sub (record { id = w.counters.entity; origin = origin; key = undeclared t })) text) w) (sent_behind (messages_of (entity_sends (known_at w) (Sub origin key to) (Some w.counters.entity) text)) before)
 join w origin key to None before shared read are = are
 join w origin key to (Some text) before shared read are =
     join_told w.settings text w.counters.entity (group_wire w.settings.aggregated_subscribers text (key_wire (known_at w).keys text key)) w.groups.subscribers before

@@ -1,7 +1,7 @@
 -- What each listener was told last is whether anyone matches it, and it is told just what changes: by the tables, over every history.
-use Rattle.std.proofs.Common.{◌≡◌, ◌≢◌, ◌≤◌, ◌<◌, ◌+◌, ℕ, Bool, true, false, List, [], ◌∷◌, ◌++◌, Option, Some, None, refl, sym, ap, subst, ◌∙◌, arith}
-use Rattle.std.specs.Prelude.{◌==◌, ◌&&◌, ◌||◌, not, map, filter, if◌then◌else◌}
-use Rattle.std.specs.List.{AllByRecursion, list_any}
+use Rattle.std.proofs.Common.{◌≡◌, ◌≤◌, ◌<◌, ◌+◌, ℕ, Bool, true, false, List, [], ◌∷◌, ◌++◌, refl, sym, ap, subst, ◌∙◌, arith}
+use Rattle.std.specs.Prelude.{◌==◌, ◌&&◌, ◌||◌, not, filter, if◌then◌else◌}
+use Rattle.std.specs.List.{AllByRecursion}
 use Rattle.std.proofs.lemmas.Bool.Decides.{nat_tests}
 use Rattle.zs_tables.specs.Ascending.{Ascend}
 use Rattle.zs_tables.specs.Matching.{status}
@@ -11,13 +11,14 @@ use Rattle.zs_tables.proofs.Ascending.{all_weaker, all_both, all_filter, all_pus
 use Rattle.zs_tables.proofs.ByKey.{by_test}
 use Rattle.zs_events.specs.declared.event.Event.{Event}
 use Rattle.zs_events.specs.declared.turn.Effect.{Effect}
-use Rattle.zs_events.specs.declared.turn.Effect.TheVariants.{Matching, End}
+use Rattle.zs_events.specs.declared.turn.Effect.TheVariants.{End}
 use Rattle.zs_events.specs.declared.turn.Kind.TheVariants.{Listener as listener_kind}
-use Rattle.zs_events.specs.declared.turn.Refusal.{Refusal}
 use Rattle.zs_world.specs.declared.change.Change.{Change}
-use Rattle.zs_world.specs.declared.change.Change.TheVariants.{Nothing, OfKeys, OfEntities, OfNetwork, OfGets, OfLiveliness, OfValues, OfCancellation, OfMatching, Shut}
-use Rattle.zs_world.specs.declared.change.EntityChange.TheVariants.{AddSub, EndSub, AddPub, EndPub, AddQueryable, EndQueryable, AddQuerier, EndQuerier, LeaveSub, LeaveQueryable}
-use Rattle.zs_world.specs.declared.change.MatchingChange.TheVariants.{AddListener, EndListener, LeaveListener, TellSub, ForgetSub, TellQueryable, ForgetQueryable}
+use Rattle.zs_events.specs.declared.entity_kind.EntityKind.TheVariants.{Pub as pub_sort, Querier as querier_sort, Listener as listener_sort}
+use Rattle.zs_world.specs.declared.change.Change.TheVariants.{OfEntities, OfMatching, Shut}
+use Rattle.zs_world.specs.declared.change.EntityChange.TheVariants.{Add as AddEntity, End as EndEntity}
+use Rattle.zs_world.specs.declared.change.EntityRow.TheVariants.{Listener as new_listener}
+use Rattle.zs_world.specs.declared.change.MatchingChange.TheVariants.{TellSub}
 use Rattle.zs_world.specs.declared.change.Decision.{Decision}
 use Rattle.zs_model.specs.declared.settings.Settings.{Settings}
 use Rattle.zs_world.specs.World.{World, present_at}
@@ -29,11 +30,10 @@ use Rattle.zs_model.specs.Heard.{told_to, last_of, last_told}
 use Rattle.zs_model.specs.Past.{past_of}
 use Rattle.zs_world.specs.Changes.{with_change, change_for, Fits}
 use Rattle.zs_model.specs.Effects.{effects}
-use Rattle.zs_world.specs.Turns.{number_for, text_for, known_at, effects_of, decision_of, decision, listener_effects_at, with_listeners}
+use Rattle.zs_world.specs.Turns.{number_for, text_for, known_at, effects_of, decision, listener_effects_at, with_listeners}
 use Rattle.zs_standing.specs.Stands.{world_after}
-use Rattle.zs_standing.proofs.Decisions.{entry_for, cases}
+use Rattle.zs_standing.proofs.Decisions.{cases}
 use Rattle.zs_standing.proofs.Changes.{made}
-use Rattle.zs_standing.proofs.Saying.{IsMade}
 use Rattle.zs_standing.proofs.Watching.{entity_up}
 use Rattle.zs_world.proofs.Hearing.{all_there, between_same, not_there}
 use Rattle.zs_standing.proofs.Matched.{matched_is}
@@ -46,48 +46,31 @@ pub record AreNumbered (w : World) : Type 0 where
   pub ascend : Ascend (λ (row : ListenerRow). row.id) w.matching.listeners
   pub below : AllByRecursion (λ (row : ListenerRow). row.id < w.counters.entity) w.matching.listeners
 
+-- what a change makes of the listeners: nothing, one more of the next number, those alone that pass a test, or none
+by_listeners : (P : List ListenerRow → Type 0) (w : World) (c : Change) → Fits w c → P w.matching.listeners
+    → ((row : ListenerRow) → row.id ≡ w.counters.entity → (with_change c w).counters.entity ≡ w.counters.entity + 1 → P (w.matching.listeners ++ row ∷ []))
+    → ((keep : ListenerRow → Bool) → P (filter keep w.matching.listeners)) → P [] → P (with_change c w).matching.listeners
+by_listeners P w (OfEntities (AddEntity (new_listener row))) fits same more fewer none = more row fits.0 refl
+by_listeners P w (OfEntities (EndEntity listener_sort id)) fits same more fewer none = fewer (λ row. not (row.id == id))
+by_listeners P w (OfEntities (EndEntity pub_sort id)) fits same more fewer none = fewer (λ row. not (row.parent == id))
+by_listeners P w (OfEntities (EndEntity querier_sort id)) fits same more fewer none = fewer (λ row. not (row.parent == id))
+by_listeners P w (OfMatching (TellSub row)) fits same more fewer none = same
+by_listeners P w Shut fits same more fewer none = none
+by_listeners P w c fits same more fewer none = same
+
 -- what holds of each listener holds of those that a change leaves, and of a new one if it holds of the next number's
 behind_each : (w : World) (c : Change) (P : ListenerRow → Type 0) → Fits w c → AllByRecursion P w.matching.listeners → ((row : ListenerRow) → row.id ≡ w.counters.entity → P row)
     → AllByRecursion P (with_change c w).matching.listeners
-behind_each w (OfMatching (AddListener row)) P fits all new = all_push P w.matching.listeners row all (new row fits.0)
-behind_each w (OfMatching (EndListener id)) P fits all new = all_filter P (λ (row : ListenerRow). not (row.id == id)) w.matching.listeners all
-behind_each w (OfMatching (LeaveListener id)) P fits all new = all
-behind_each w (OfMatching (TellSub row)) P fits all new = all
-behind_each w (OfMatching (ForgetSub number)) P fits all new = all
-behind_each w (OfMatching (TellQueryable row)) P fits all new = all
-behind_each w (OfMatching (ForgetQueryable number)) P fits all new = all
-behind_each w (OfEntities (EndPub id)) P fits all new = all_filter P (λ (row : ListenerRow). not (row.parent == id)) w.matching.listeners all
-behind_each w (OfEntities (EndQuerier id)) P fits all new = all_filter P (λ (row : ListenerRow). not (row.parent == id)) w.matching.listeners all
-behind_each w (OfEntities change) P fits all new = all
-behind_each w Shut P fits all new = tt
-behind_each w Nothing P fits all new = all
-behind_each w (OfKeys change) P fits all new = all
-behind_each w (OfNetwork change) P fits all new = all
-behind_each w (OfGets change) P fits all new = all
-behind_each w (OfLiveliness change) P fits all new = all
-behind_each w (OfValues change) P fits all new = all
-behind_each w (OfCancellation change) P fits all new = all
+behind_each w c P fits all new =
+    by_listeners (AllByRecursion P) w c fits all
+    (λ row next up. all_push P w.matching.listeners row all (new row next)) (λ keep. all_filter P keep w.matching.listeners all) tt
 
 -- they keep their order
 ascend_behind : (w : World) (c : Change) → Fits w c → AreNumbered w → Ascend (λ (row : ListenerRow). row.id) (with_change c w).matching.listeners
-ascend_behind w (OfMatching (AddListener row)) fits n = ascend_push (λ (row : ListenerRow). row.id) w.matching.listeners row n.ascend (rw fits.0 n.below)
-ascend_behind w (OfMatching (EndListener id)) fits n = ascend_filter (λ (row : ListenerRow). row.id) (λ row. not (row.id == id)) w.matching.listeners n.ascend
-ascend_behind w (OfMatching (LeaveListener id)) fits n = n.ascend
-ascend_behind w (OfMatching (TellSub row)) fits n = n.ascend
-ascend_behind w (OfMatching (ForgetSub number)) fits n = n.ascend
-ascend_behind w (OfMatching (TellQueryable row)) fits n = n.ascend
-ascend_behind w (OfMatching (ForgetQueryable number)) fits n = n.ascend
-ascend_behind w (OfEntities (EndPub id)) fits n = ascend_filter (λ (row : ListenerRow). row.id) (λ row. not (row.parent == id)) w.matching.listeners n.ascend
-ascend_behind w (OfEntities (EndQuerier id)) fits n = ascend_filter (λ (row : ListenerRow). row.id) (λ row. not (row.parent == id)) w.matching.listeners n.ascend
-ascend_behind w (OfEntities change) fits n = n.ascend
-ascend_behind w Shut fits n = tt
-ascend_behind w Nothing fits n = n.ascend
-ascend_behind w (OfKeys change) fits n = n.ascend
-ascend_behind w (OfNetwork change) fits n = n.ascend
-ascend_behind w (OfGets change) fits n = n.ascend
-ascend_behind w (OfLiveliness change) fits n = n.ascend
-ascend_behind w (OfValues change) fits n = n.ascend
-ascend_behind w (OfCancellation change) fits n = n.ascend
+ascend_behind w c fits n =
+    by_listeners (Ascend (λ (row : ListenerRow). row.id)) w c fits n.ascend
+    (λ row next up. ascend_push (λ (row : ListenerRow). row.id) w.matching.listeners row n.ascend (rw next n.below))
+    (λ keep. ascend_filter (λ (row : ListenerRow). row.id) keep w.matching.listeners n.ascend) tt
 
 -- and their numbers stay below the next one
 old_below : (w : World) (c : Change) → AreNumbered w → AllByRecursion (λ (row : ListenerRow). row.id < (with_change c w).counters.entity) w.matching.listeners
@@ -96,29 +79,10 @@ old_below w c n =
     (λ row less. omega (arith, less, entity_up w c)) w.matching.listeners n.below
 
 below_behind : (w : World) (c : Change) → Fits w c → AreNumbered w → AllByRecursion (λ (row : ListenerRow). row.id < (with_change c w).counters.entity) (with_change c w).matching.listeners
-below_behind w (OfMatching (AddListener row)) fits n =
-    all_push (λ (r : ListenerRow). r.id < w.counters.entity + 1) w.matching.listeners row (old_below w (OfMatching (AddListener row)) n) (omega (arith, fits.0))
-below_behind w (OfMatching (EndListener id)) fits n = all_filter (λ (row : ListenerRow). row.id < w.counters.entity) (λ row. not (row.id == id)) w.matching.listeners n.below
-below_behind w (OfMatching (LeaveListener id)) fits n = n.below
-below_behind w (OfMatching (TellSub row)) fits n = n.below
-below_behind w (OfMatching (ForgetSub number)) fits n = n.below
-below_behind w (OfMatching (TellQueryable row)) fits n = n.below
-below_behind w (OfMatching (ForgetQueryable number)) fits n = n.below
-below_behind w (OfEntities (EndPub id)) fits n = all_filter (λ (row : ListenerRow). row.id < w.counters.entity) (λ row. not (row.parent == id)) w.matching.listeners n.below
-below_behind w (OfEntities (EndQuerier id)) fits n = all_filter (λ (row : ListenerRow). row.id < w.counters.entity) (λ row. not (row.parent == id)) w.matching.listeners n.below
-below_behind w (OfEntities (AddSub row)) fits n = old_below w (OfEntities (AddSub row)) n
-below_behind w (OfEntities (AddPub row)) fits n = old_below w (OfEntities (AddPub row)) n
-below_behind w (OfEntities (AddQueryable row)) fits n = old_below w (OfEntities (AddQueryable row)) n
-below_behind w (OfEntities (AddQuerier row)) fits n = old_below w (OfEntities (AddQuerier row)) n
-below_behind w (OfEntities change) fits n = n.below
-below_behind w Shut fits n = tt
-below_behind w (OfLiveliness change) fits n = old_below w (OfLiveliness change) n
-below_behind w Nothing fits n = n.below
-below_behind w (OfKeys change) fits n = n.below
-below_behind w (OfNetwork change) fits n = n.below
-below_behind w (OfGets change) fits n = n.below
-below_behind w (OfValues change) fits n = n.below
-below_behind w (OfCancellation change) fits n = n.below
+below_behind w c fits n =
+    by_listeners (AllByRecursion (λ (row : ListenerRow). row.id < (with_change c w).counters.entity)) w c fits (old_below w c n)
+    (λ row next up. all_push (λ (r : ListenerRow). r.id < (with_change c w).counters.entity) w.matching.listeners row (old_below w c n) (omega (arith, next, up)))
+    (λ keep. all_filter (λ (r : ListenerRow). r.id < (with_change c w).counters.entity) keep w.matching.listeners (old_below w c n)) tt
 
 pub numbered : (s : Settings) (h : List Event) → AreNumbered (world_after s h)
 numbered s h =

@@ -23,6 +23,7 @@ mod TokensKnown
 mod Ordered
 pub mod Covered
 pub mod Endings
+pub mod EntityEnds
 pub mod Finals
 pub mod KeyNumbers
 pub mod Knowing

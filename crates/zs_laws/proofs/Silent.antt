@@ -26,12 +26,10 @@ use Rattle.zs_tables.specs.Types.{LivelinessGet as a_liveliness_get, LivelinessS
 use Rattle.zs_tables.specs.declared.queryable.QueryableRow.{QueryableRow}
 use Rattle.zs_tables.specs.declared.subscriber.SubRow.{SubRow}
 use Rattle.zs_events.specs.declared.event.Event.{Event}
-use Rattle.zs_events.specs.declared.event.Event.TheVariants.{Undeclare, Close}
-use Rattle.zs_events.specs.declared.entity_kind.EntityKind.TheVariants.{Sub as sub_kind, Queryable as queryable_sort, Lsub as lsub_sort}
 use Rattle.zs_events.specs.declared.turn.Effect.{Effect}
 use Rattle.zs_events.specs.declared.turn.Effect.TheVariants.{Matching, Send, Hand, End}
 use Rattle.zs_events.specs.declared.turn.HandOver.TheVariants.{Sample as sample_for}
-use Rattle.zs_events.specs.declared.turn.Kind.TheVariants.{Subscriber, Queryable as queryable_kind, LivelinessSubscriber}
+use Rattle.zs_events.specs.declared.turn.Kind.TheVariants.{Subscriber}
 use Rattle.zs_events.specs.Kinds.{NamedKey, Publishes, NoContent, OwnContent, ByPublisher, ToGets, NoGet, Asks, AsksBy, Answers, EndsSide, Reaches, EndsQuerier, Cancels, EndsAll, ToValues, NoValue, Requested, AnswersBy, AnswersError, SharesValue, GivesBack, ToLiveliness, NoToken, Subscribes, AsksTokens, TellsToken, EndsToken, EndsAnswers, row_of}
 use Rattle.zs_model.specs.declared.publisher.PubRow.{PubRow}
 use Rattle.zs_model.specs.Heard.{told_to}
@@ -39,15 +37,14 @@ use Rattle.zs_model.specs.Gets.{sample_reply}
 use Rattle.zs_model.specs.Answers.{local_reply, local_error}
 use Rattle.zs_model.specs.Publications.{allows, sample_on}
 use Rattle.zs_model.specs.Publishers.{resolved}
-use Rattle.zs_model.specs.Subscribers.{sub_ends}
-use Rattle.zs_model.specs.Queryables.{queryable_ends}
 use Rattle.zs_model.specs.Questions.{request_of}
 use Rattle.zs_model.specs.Sends.{OwnKeys, wire_form, declaration_of, sends_of}
 use Rattle.zs_model.specs.Tokens.{answers, is_told}
-use Rattle.zs_model.specs.LivelinessEffects.{Watch, hand_token, hand_told, hand_answer, end_asking, cancelled_ends, asking_ends, lsub_ends, token_hands, history_hands, told_hands, answer_hands, ended_text, watch_effects}
+use Rattle.zs_model.specs.LivelinessEffects.{Watch, hand_token, hand_told, hand_answer, end_asking, cancelled_ends, asking_ends, token_hands, history_hands, told_hands, answer_hands, ended_text, watch_effects}
 use Rattle.zs_model.specs.GetEffects.{hand_reply, hand_query, end_get, last_hands, request_sends, ends_effects, reply_effects, response_effects, final_effects, ended_numbers, cut_effects, told_effects, request_effects, with_gets}
 use Rattle.zs_model.specs.ValueEffects.{Answering, error_effects, replied_effects, reply_for_value, answer_effects, answer_error_effects, finish_effects, value_effects, with_values}
 use Rattle.zs_model.specs.Effects.{Known, to_gets_for, draws_of, answering, entity_sends, publication_on, hands_for, hands_of, ends_of, effects_on}
+use Rattle.zs_laws.proofs.EntityEnds.{ends_cases}
 use Rattle.zs_laws.proofs.Sends.{entity_cases, sends_cases}
 
 -- effects that tell no listener anything
@@ -104,16 +101,7 @@ silent_hands rows (Some text) (OwnContent c) = silent_map (λ (row : SubRow). Ha
     (filter (allows (record { local = c.local; destination = c.destination; sample = sample_on text c })) rows)
 
 silent_ends : (queryables : List QueryableRow) (rows : List SubRow) (lsubs : List LivelinessSub) (e : Event) → IsSilent (ends_of queryables rows lsubs e)
-silent_ends queryables rows lsubs (Undeclare sub_kind id) = λ other. refl
-silent_ends queryables rows lsubs (Undeclare queryable_sort id) = λ other. refl
-silent_ends queryables rows lsubs (Undeclare lsub_sort id) = λ other. refl
-silent_ends queryables rows lsubs Close =
-    silent_append (queryable_ends queryables ++ sub_ends rows) (lsub_ends lsubs)
-    (silent_append (queryable_ends queryables) (sub_ends rows)
-    (silent_map (λ (row : QueryableRow). End queryable_kind row.id) (λ row id. refl) queryables)
-    (silent_map (λ (row : SubRow). End Subscriber row.id) (λ row id. refl) rows))
-    (silent_map (λ (row : LivelinessSub). End LivelinessSubscriber row.id) (λ row id. refl) lsubs)
-silent_ends queryables rows lsubs e = silent_none
+silent_ends queryables rows lsubs e = ends_cases IsSilent (record { none = silent_none; both = silent_append; one = λ kind id other. refl }) queryables rows lsubs e
 
 -- what those hear who want to know of tokens
 silent_tokens : (kind : SampleKind) (before : Bool) (text : Option (List ℕ)) (subs : List LivelinessSub) → IsSilent (token_hands kind before text subs)

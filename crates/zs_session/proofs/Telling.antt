@@ -6,8 +6,7 @@ use Rattle.std.proofs.lemmas.Bool.{and_from}
 use Rattle.std.proofs.lemmas.List.{append-nil, map-append}
 use Rattle.std.proofs.lemmas.List.Elements.{filter-append}
 use Rattle.zs_events.specs.declared.event.Event.{Event}
-use Rattle.zs_events.specs.declared.event.Event.TheVariants.{Undeclare, Publish, PublishBy, Close, Net}
-use Rattle.zs_events.specs.declared.entity_kind.EntityKind.TheVariants.{Sub as sub_kind, Queryable as queryable_kind, Lsub as lsub_kind}
+use Rattle.zs_events.specs.declared.event.Event.TheVariants.{Publish, PublishBy, Net}
 use Rattle.zs_tables.specs.Types.{Subscribers, Publishers, Queriers, LivelinessSub}
 use Rattle.zs_wire.specs.declared.message.Message.TheVariants.{Push}
 use Rattle.zs_core.specs.Types.{Settings}
@@ -31,9 +30,7 @@ use Rattle.zs_core.specs.Live.{live_subs, live_pubs, live_queryables, live_lsubs
 use Rattle.zs_core.specs.Listeners.{is_listener, listener_ends}
 use Rattle.zs_core.specs.Matching.{is_matched, listener_effects}
 use Rattle.zs_core.specs.Tokens.{asking_now}
-use Rattle.zs_core.specs.LivelinessEffects.{watch_effects, lsub_ends}
-use Rattle.zs_core.specs.Subscribers.{sub_ends}
-use Rattle.zs_core.specs.Queryables.{queryable_ends}
+use Rattle.zs_core.specs.LivelinessEffects.{watch_effects}
 use Rattle.zs_core.specs.Publications.{Publication, allows, sample_on}
 use Rattle.zs_core.specs.Seen.{Sight}
 use Rattle.zs_core.specs.Received.{AreSpelled}
@@ -53,6 +50,7 @@ use Rattle.zs_script.specs.Plain.{is_plain, is_plain_text, is_plain_event, is_pl
 use Rattle.zs_script.proofs.PlainTexts.{fields-found}
 use Rattle.zs_script.proofs.PlainEffects.{answers-plain, effects-plain}
 use Rattle.zs_session.specs.Telling.{plain_line, tells, tells_behind, is_telling, told, published, hand_lines, refusal_or, event_lines}
+use Rattle.zs_laws.proofs.EntityEnds.{ends_cases}
 use Rattle.zs_session.proofs.PlainKeys.{IsText, PlainPast, PlainContent, plain_handed, content_plain, pubs_plain, held_plain, text_plain}
 use Rattle.zs_session.proofs.PlainSends.{IsQuiet, AreQuiet, AreSpelledGroups, sent_by, quiet_tell, all_plain, all_sent}
 use Rattle.zs_session.proofs.PlainValues.{to_plain, does_plain, drawn_plain, values_plain}
@@ -106,26 +104,8 @@ publication_told past n None = refl
 publication_told past n (Some p) = hands_tell n p (filter (allows p) (live_subs past))
 
 -- all ends are quiet
-sub_ends_quiet : (rows : List SubRow) → AreQuiet (sub_ends rows)
-sub_ends_quiet [] = tt
-sub_ends_quiet (row ∷ rows) = (tt, sub_ends_quiet rows)
-
-queryable_ends_quiet : (rows : List QueryableRow) → AreQuiet (queryable_ends rows)
-queryable_ends_quiet [] = tt
-queryable_ends_quiet (row ∷ rows) = (tt, queryable_ends_quiet rows)
-
-lsub_ends_quiet : (subs : List LivelinessSub) → AreQuiet (lsub_ends subs)
-lsub_ends_quiet [] = tt
-lsub_ends_quiet (row ∷ rows) = (tt, lsub_ends_quiet rows)
-
 ends_quiet : (queryables : List QueryableRow) (rows : List SubRow) (lsubs : List LivelinessSub) (e : Event) → AreQuiet (ends_of queryables rows lsubs e)
-ends_quiet queryables rows lsubs (Undeclare sub_kind id) = (tt, tt)
-ends_quiet queryables rows lsubs (Undeclare queryable_kind id) = (tt, tt)
-ends_quiet queryables rows lsubs (Undeclare lsub_kind id) = (tt, tt)
-ends_quiet queryables rows lsubs Close =
-    all_append IsQuiet (queryable_ends queryables ++ sub_ends rows) (lsub_ends lsubs)
-    (all_append IsQuiet (queryable_ends queryables) (sub_ends rows) (queryable_ends_quiet queryables) (sub_ends_quiet rows)) (lsub_ends_quiet lsubs)
-ends_quiet queryables rows lsubs e = tt
+ends_quiet queryables rows lsubs e = ends_cases AreQuiet (record { none = tt; both = all_append IsQuiet; one = λ kind id. (tt, tt) }) queryables rows lsubs e
 
 -- what an event sends behind a past, given the number that it is answered
 abbrev sent : Settings → List Entry → Option ℕ → Event → List Effect

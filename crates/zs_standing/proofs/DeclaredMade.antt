@@ -2,28 +2,30 @@
 use Rattle.std.proofs.Common.{◌≡◌, ℕ, List, Bool, true, false, Option, Some, None, refl, sym, ◌∙◌, ap}
 use Rattle.std.specs.Prelude.{◌==◌, ◌&&◌, ◌||◌, not, is_some, unwrap_or, encode_utf8_all, if◌then◌else◌}
 use Rattle.zs_keys.specs.Key.{Key as a_key}
-use Rattle.zs_sample.specs.declared.locality.Locality.{Locality}
 use Rattle.zs_wire.specs.declared.wire_expr.WireExpr.{WireExpr}
 use Rattle.zs_tables.specs.Numbers.{key_at, number_at}
-use Rattle.zs_events.specs.declared.event.Event.TheVariants.{Key, UndeclareKey, Sub, Pub, Queryable, Querier, Net}
-use Rattle.zs_events.specs.declared.chan.Chan.{Chan}
-use Rattle.zs_events.specs.declared.publication.PublisherSettings.{PublisherSettings}
+use Rattle.zs_events.specs.declared.event.Event.{Event}
+use Rattle.zs_events.specs.declared.event.Event.TheVariants.{Key, UndeclareKey, Net}
 use Rattle.zs_events.specs.declared.key_arg.KeyArg.{KeyArg}
 use Rattle.zs_events.specs.declared.key_arg.KeyArg.TheVariants.{Number, Declared}
 use Rattle.zs_wire.specs.declared.message.Message.TheVariants.{DeclareKeyExpr}
-use Rattle.zs_world.specs.declared.change.Change.TheVariants.{OfKeys}
+use Rattle.zs_world.specs.declared.change.Change.TheVariants.{OfKeys, OfEntities}
+use Rattle.zs_world.specs.declared.change.EntityRow.{EntityRow}
+use Rattle.zs_world.specs.declared.change.EntityChange.TheVariants.{Add as AddEntity}
 use Rattle.zs_world.specs.declared.change.KeyChange.TheVariants.{Hold, Release}
 use Rattle.zs_world.specs.World.{World}
-use Rattle.zs_events.specs.Kinds.{EntityNumber, KeyNumber, is_all_of, row_of}
-use Rattle.zs_events.specs.declared.inquiry.QuerySettings.{QuerySettings}
-use Rattle.zs_model.specs.Settings.{last_key}
+use Rattle.zs_events.specs.Kinds.{Application, OwnKey, EntityNumber, KeyNumber, said_by as said_row, is_all_of, row_of}
+use Rattle.zs_model.specs.Seen.{Sight, is_not_found}
+use Rattle.zs_model.specs.Settings.{last_entity, last_key}
 use Rattle.zs_model.specs.Counters.{is_spent}
 use Rattle.zs_world.specs.Keys.{is_key_of, has_claim, text_with_suffix}
-use Rattle.zs_world.specs.Changes.{key_change, key_change_by, sub_change, pub_change, queryable_change, querier_change, tell_change}
-use Rattle.zs_world.specs.Turns.{has_run_out, number_of}
+use Rattle.zs_world.specs.EntityChanges.{row_number}
+use Rattle.zs_world.specs.Changes.{key_change, key_change_by, added, tell_change}
+use Rattle.zs_world.specs.Turns.{has_run_out, number_of, to_gets_at}
+use Rattle.zs_model.proofs.Gets.{IsAskedUnder}
 use Rattle.zs_standing.proofs.Numbers.{number_at-known}
 use Rattle.zs_standing.proofs.Saying.{IsMade, HasPassed}
-use Rattle.zs_standing.proofs.Said.{said_by, all_said}
+use Rattle.zs_standing.proofs.Said.{said_of, said_by, all_said}
 
 pub key_made : (w : World) (key : KeyArg) (text : Option (List ℕ)) → w.closed ≡ false
     → HasPassed (row_of (Key key)) (record { text = text; lives = true; claimed = true; owed = true; drawn = true; cancelled = false; disjoint = false; lacks = has_run_out w KeyNumber text; idle = false; spared = false })
@@ -55,24 +57,20 @@ declared_back_made w text number prefix_len true is None e o p =
     let no : true ≡ false = ap (λ (k : Option a_key). not (is_key_of (encode_utf8_all text) k)) (sym e) ∙ unclaimed in cc
 declared_back_made w text number prefix_len true is (Some key) e o p = all_said o (ap is_some e) tt tt tt refl
 
-pub sub_made : (w : World) (origin : Locality) (key : KeyArg) (to : Chan) (text : Option (List ℕ)) → w.closed ≡ false
-    → HasPassed (row_of (Sub origin key to)) (record { text = text; lives = true; claimed = true; owed = true; drawn = true; cancelled = false; disjoint = false; lacks = has_run_out w EntityNumber text; idle = false; spared = false })
-    → IsMade w (record { number = Some w.counters.entity; text = text; event = Sub origin key to }) (sub_change w.counters.entity origin text)
-sub_made w origin key to None o p = cc (p.found)
-sub_made w origin key to (Some text) o p = all_said o (refl, p.left) tt refl tt refl
+-- what is looked up for an event that names nothing but a key of its own, and draws a number of entities
+abbrev pub on_key : World → Option (List ℕ) → Sight
+on_key w text = record { text = text; lives = true; claimed = true; owed = true; drawn = true; cancelled = false; disjoint = false; lacks = has_run_out w EntityNumber text; idle = false; spared = false }
 
-pub pub_made : (w : World) (key : KeyArg) (settings : PublisherSettings) (text : Option (List ℕ)) → w.closed ≡ false
-    → HasPassed (row_of (Pub key settings)) (record { text = text; lives = true; claimed = true; owed = true; drawn = true; cancelled = false; disjoint = false; lacks = has_run_out w EntityNumber text; idle = false; spared = false })
-    → IsMade w (record { number = Some w.counters.entity; text = text; event = Pub key settings }) (pub_change w.counters.entity key settings text)
-pub_made w key settings None o p = cc (p.found)
-pub_made w key settings (Some text) o p = all_said o (refl, p.left) tt refl tt refl
-
-pub queryable_made : (w : World) (origin : Locality) (complete : Bool) (key : KeyArg) (text : Option (List ℕ)) → w.closed ≡ false
-    → HasPassed (row_of (Queryable origin complete key)) (record { text = text; lives = true; claimed = true; owed = true; drawn = true; cancelled = false; disjoint = false; lacks = has_run_out w EntityNumber text; idle = false; spared = false })
-    → IsMade w (record { number = Some w.counters.entity; text = text; event = Queryable origin complete key })
-    (queryable_change w.counters.entity origin complete text)
-queryable_made w origin complete key None o p = cc (p.found)
-queryable_made w origin complete key (Some text) o p = all_said o (refl, p.left) tt refl tt refl
+-- an entity that is declared on a key: its event is accepted where that has a text, and is one with its change where both say the same on each
+pub entity_made : (w : World) (e : Event) (key : KeyArg) (row : List ℕ → EntityRow) (text : Option (List ℕ)) → w.closed ≡ false
+    → is_not_found (record (said_row Application) { key = OwnKey key }) (on_key w text) ≡ false → is_spent last_entity w.counters.entity ≡ false
+    → IsAskedUnder (to_gets_at w e) (Some w.counters.entity) w.asking.next
+    → ((t : List ℕ) → row_number (row t) ≡ w.counters.entity)
+    → ((t : List ℕ) → said_of w (record { number = Some w.counters.entity; text = Some t; event = e }) ≡ said_by w (OfEntities (AddEntity (row t))))
+    → IsMade w (record { number = Some w.counters.entity; text = text; event = e }) (added row text)
+entity_made w e key row None o found left under number same = cc (found)
+entity_made w e key row (Some text) o found left under number same =
+    all_said {w = w} {x = record { number = Some w.counters.entity; text = Some text; event = e }} {c = OfEntities (AddEntity (row text))} o (number text, left) tt (ap (λ (n : ℕ). Some n) (sym (number text))) under (same text)
 
 pub tell_made : (w : World) (number : ℕ) (wire : WireExpr) (text : Option (List ℕ)) → w.closed ≡ false
     → HasPassed (row_of (Net (DeclareKeyExpr number wire))) (record { text = text; lives = true; claimed = true; owed = true; drawn = true; cancelled = false; disjoint = false; lacks = false; idle = false; spared = false })
@@ -83,9 +81,3 @@ tell_made w number wire None o p = let no : ((number == 0) || true) ≡ false = 
     always true h = cc
     always false h = cc
 tell_made w number wire (Some text) o p = all_said o tt refl tt tt refl
-
-pub querier_made : (w : World) (key : KeyArg) (settings : QuerySettings) (text : Option (List ℕ)) → w.closed ≡ false
-    → HasPassed (row_of (Querier key settings)) (record { text = text; lives = true; claimed = true; owed = true; drawn = true; cancelled = false; disjoint = false; lacks = has_run_out w EntityNumber text; idle = false; spared = false })
-    → IsMade w (record { number = Some w.counters.entity; text = text; event = Querier key settings }) (querier_change w.counters.entity key settings text)
-querier_made w key settings None o p = cc (p.found)
-querier_made w key settings (Some text) o p = all_said o (refl, p.left) tt refl tt refl

@@ -13,7 +13,9 @@ use Rattle.zs_model.specs.declared.querier.QuerierRow.{QuerierRow}
 use Rattle.zs_model.specs.declared.settings.Settings.{Settings}
 use Rattle.zs_world.specs.declared.change.Change.{Change}
 use Rattle.zs_world.specs.declared.change.Change.TheVariants.{Nothing, OfEntities, Shut}
-use Rattle.zs_world.specs.declared.change.EntityChange.TheVariants.{AddSub, EndSub, AddPub, EndPub, AddQuerier, EndQuerier}
+use Rattle.zs_world.specs.declared.change.EntityChange.TheVariants.{Add as AddEntity, End as EndEntity}
+use Rattle.zs_world.specs.declared.change.EntityRow.TheVariants.{Sub as new_sub, Pub as new_pub, Querier as new_querier}
+use Rattle.zs_events.specs.declared.entity_kind.EntityKind.TheVariants.{Sub as sub_sort, Pub as pub_sort, Querier as querier_sort}
 use Rattle.zs_world.specs.World.{World}
 use Rattle.zs_model.specs.Entry.{Entry}
 use Rattle.zs_model.specs.Groups.{Shared, sub_shared, pub_shared, querier_shared, left_found, sharing, group, group_number}
@@ -83,32 +85,32 @@ less_found {R} shared aggregates gs rows id up are = go (find (λ r. (shared r).
 
 -- an accepted event keeps them so
 shared_step : (w : World) (past : List Entry) (c : Change) → AreLive w past → AreShared w → AreShared (with_change c w)
-shared_step w past (OfEntities (AddSub row)) l are = record {
+shared_step w past (OfEntities (AddEntity (new_sub row))) l are = record {
   subs = rw (pushed sub_shared w.entities.subs row) (grouped_more w.settings.aggregated_subscribers w.groups.subscribers (map sub_shared w.entities.subs) (sub_shared row) are.subs);
   pubs = are.pubs;
   queriers = are.queriers;
 }
-shared_step w past (OfEntities (EndSub id)) l are = record {
+shared_step w past (OfEntities (EndEntity sub_sort id)) l are = record {
   subs = less_found sub_shared w.settings.aggregated_subscribers w.groups.subscribers w.entities.subs id (table_ascends _ _ _ _ _ _ l.subs) are.subs;
   pubs = are.pubs;
   queriers = are.queriers;
 }
-shared_step w past (OfEntities (AddPub row)) l are = record {
+shared_step w past (OfEntities (AddEntity (new_pub row))) l are = record {
   subs = are.subs;
   pubs = rw (pushed pub_shared w.entities.pubs row) (grouped_more w.settings.aggregated_publishers w.groups.publishers (map pub_shared w.entities.pubs) (pub_shared row) are.pubs);
   queriers = are.queriers;
 }
-shared_step w past (OfEntities (EndPub id)) l are = record {
+shared_step w past (OfEntities (EndEntity pub_sort id)) l are = record {
   subs = are.subs;
   pubs = less_found pub_shared w.settings.aggregated_publishers w.groups.publishers w.entities.pubs id (table_ascends _ _ _ _ _ _ l.pubs) are.pubs;
   queriers = are.queriers;
 }
-shared_step w past (OfEntities (AddQuerier row)) l are = record {
+shared_step w past (OfEntities (AddEntity (new_querier row))) l are = record {
   subs = are.subs;
   pubs = are.pubs;
   queriers = rw (pushed querier_shared w.entities.queriers row) (grouped_more [] w.groups.queriers (map querier_shared w.entities.queriers) (querier_shared row) are.queriers);
 }
-shared_step w past (OfEntities (EndQuerier id)) l are = record {
+shared_step w past (OfEntities (EndEntity querier_sort id)) l are = record {
   subs = are.subs;
   pubs = are.pubs;
   queriers = less_found querier_shared [] w.groups.queriers w.entities.queriers id (table_ascends _ _ _ _ _ _ l.queriers) are.queriers;
@@ -154,18 +156,18 @@ kept_number w Queriers text number are = number_kept text w.groups.queriers numb
 number_step : (w : World) (c : Change) (number : Option ℕ) (kind : GroupKind) (text : List ℕ) → IsNumber number c → AreShared w
     → number_of_group text (groups_of kind (with_change c w).groups)
     ≡ numbered (number_of_group text (groups_of kind w.groups)) number (members_of text (groups_of kind (with_change c w).groups))
-number_step w (OfEntities (AddSub row)) number Subscribers text is are = rw is (number_more w.settings.aggregated_subscribers w.groups.subscribers (sub_shared row) text are.subs.apart)
-number_step w (OfEntities (AddSub row)) number kind text is are = kept_number w kind text number are
-number_step w (OfEntities (EndSub id)) number Subscribers text is are = number_found w.settings.aggregated_subscribers w.groups.subscribers _ text number _ are.subs
-number_step w (OfEntities (EndSub id)) number kind text is are = kept_number w kind text number are
-number_step w (OfEntities (AddPub row)) number Publishers text is are = rw is (number_more w.settings.aggregated_publishers w.groups.publishers (pub_shared row) text are.pubs.apart)
-number_step w (OfEntities (AddPub row)) number kind text is are = kept_number w kind text number are
-number_step w (OfEntities (EndPub id)) number Publishers text is are = number_found w.settings.aggregated_publishers w.groups.publishers _ text number _ are.pubs
-number_step w (OfEntities (EndPub id)) number kind text is are = kept_number w kind text number are
-number_step w (OfEntities (AddQuerier row)) number Queriers text is are = rw is (number_more [] w.groups.queriers (querier_shared row) text are.queriers.apart)
-number_step w (OfEntities (AddQuerier row)) number kind text is are = kept_number w kind text number are
-number_step w (OfEntities (EndQuerier id)) number Queriers text is are = number_found [] w.groups.queriers _ text number _ are.queriers
-number_step w (OfEntities (EndQuerier id)) number kind text is are = kept_number w kind text number are
+number_step w (OfEntities (AddEntity (new_sub row))) number Subscribers text is are = rw is (number_more w.settings.aggregated_subscribers w.groups.subscribers (sub_shared row) text are.subs.apart)
+number_step w (OfEntities (AddEntity (new_sub row))) number kind text is are = kept_number w kind text number are
+number_step w (OfEntities (EndEntity sub_sort id)) number Subscribers text is are = number_found w.settings.aggregated_subscribers w.groups.subscribers _ text number _ are.subs
+number_step w (OfEntities (EndEntity sub_sort id)) number kind text is are = kept_number w kind text number are
+number_step w (OfEntities (AddEntity (new_pub row))) number Publishers text is are = rw is (number_more w.settings.aggregated_publishers w.groups.publishers (pub_shared row) text are.pubs.apart)
+number_step w (OfEntities (AddEntity (new_pub row))) number kind text is are = kept_number w kind text number are
+number_step w (OfEntities (EndEntity pub_sort id)) number Publishers text is are = number_found w.settings.aggregated_publishers w.groups.publishers _ text number _ are.pubs
+number_step w (OfEntities (EndEntity pub_sort id)) number kind text is are = kept_number w kind text number are
+number_step w (OfEntities (AddEntity (new_querier row))) number Queriers text is are = rw is (number_more [] w.groups.queriers (querier_shared row) text are.queriers.apart)
+number_step w (OfEntities (AddEntity (new_querier row))) number kind text is are = kept_number w kind text number are
+number_step w (OfEntities (EndEntity querier_sort id)) number Queriers text is are = number_found [] w.groups.queriers _ text number _ are.queriers
+number_step w (OfEntities (EndEntity querier_sort id)) number kind text is are = kept_number w kind text number are
 number_step w Shut number Subscribers text is are = refl
 number_step w Shut number Publishers text is are = refl
 number_step w Shut number Queriers text is are = refl

@@ -30,7 +30,8 @@ use Rattle.zs_standing.proofs.Decisions.{entry_for}
 use Rattle.zs_standing.proofs.Matched.{SaysMatching, HasText, subs_told, queryables_told}
 use Rattle.zs_events.specs.declared.turn.Kind.TheVariants.{Publisher, Querier}
 use Rattle.zs_world.specs.declared.change.Change.TheVariants.{OfEntities, OfMatching, Shut}
-use Rattle.zs_world.specs.declared.change.EntityChange.TheVariants.{EndPub, EndQuerier}
+use Rattle.zs_world.specs.declared.change.EntityChange.TheVariants.{Add as AddEntity, End as EndEntity, Leave as LeaveEntity}
+use Rattle.zs_world.specs.declared.change.EntityRow.TheVariants.{Listener as new_listener}
 use Rattle.std.proofs.lemmas.Bool.Decides.{nat_tests}
 
 -- no listener ends, and all do
@@ -64,9 +65,12 @@ same_number n = grind (arith, nat_tests)
 
 still : (w : World) (x : Entry) (c : Change) → IsMade w x c → ((id : ℕ) → ends Publisher id x.event ≡ false) → ((id : ℕ) → ends Querier id x.event ≡ false) → touches_matching x ≡ false
     → (with_change c w).matching ≡ w.matching
-still w x (OfEntities (EndPub id)) m pubs queriers apart = let no : true ≡ false = sym (same_number id) ∙ sym (m.entities.pubs.ended id) ∙ pubs id in cc
-still w x (OfEntities (EndQuerier id)) m pubs queriers apart = let no : true ≡ false = sym (same_number id) ∙ sym (m.entities.queriers.ended id) ∙ queriers id in cc
+still w x (OfEntities (EndEntity pub_sort id)) m pubs queriers apart = let no : true ≡ false = sym (same_number id) ∙ sym (m.entities.pubs.ended id) ∙ pubs id in cc
+still w x (OfEntities (EndEntity querier_sort id)) m pubs queriers apart = let no : true ≡ false = sym (same_number id) ∙ sym (m.entities.queriers.ended id) ∙ queriers id in cc
 still w x Shut m pubs queriers apart = let no : true ≡ false = sym (m.entities.pubs.ended 0) ∙ pubs 0 in cc
+still w x (OfEntities (AddEntity (new_listener row))) m pubs queriers apart = let no : true ≡ false = sym m.matching ∙ apart in cc
+still w x (OfEntities (EndEntity listener_sort id)) m pubs queriers apart = let no : true ≡ false = sym m.matching ∙ apart in cc
+still w x (OfEntities (LeaveEntity background_listener id)) m pubs queriers apart = let no : true ≡ false = sym m.matching ∙ apart in cc
 still w x (OfMatching change) m pubs queriers apart = let no : true ≡ false = sym m.matching ∙ apart in cc
 still w x c m pubs queriers apart = refl
 

@@ -1,23 +1,27 @@
 -- What an entry says and what its change says: what is to be proved of each kind of event.
 use Rattle.std.proofs.Common.{◌≡◌, ◌+◌, ℕ, List, Bool, true, false, Option, Some, None, refl}
-use Rattle.std.specs.Prelude.{◌==◌, ◌&&◌, ◌||◌, not, is_some, if◌then◌else◌}
+use Rattle.std.specs.Prelude.{◌==◌, ◌||◌, not, is_some, if◌then◌else◌}
 use Rattle.zs_tables.specs.Numbers.{number_at}
 use Rattle.zs_tables.specs.declared.subscriber.SubRow.{SubRow}
 use Rattle.zs_tables.specs.declared.queryable.QueryableRow.{QueryableRow}
 use Rattle.zs_events.specs.declared.turn.Kind.{Kind}
-use Rattle.zs_events.specs.declared.turn.Kind.TheVariants.{Subscriber, Publisher, Queryable as queryable_kind, Querier as querier_kind, LivelinessSubscriber, Listener}
+use Rattle.zs_events.specs.declared.turn.Kind.TheVariants.{Subscriber, Publisher, Queryable as queryable_kind, Querier as querier_kind, Token, LivelinessSubscriber, Listener}
 use Rattle.zs_model.specs.declared.publisher.PubRow.{PubRow}
 use Rattle.zs_events.specs.declared.turn.Refusal.TheVariants.{NotFound, UnknownScope, BadKeyExpr, QueryCancelled, ReplyDisjoint, NotDeclared, IdsExhausted, Ignored}
 use Rattle.zs_world.specs.declared.change.Change.{Change}
 use Rattle.zs_world.specs.declared.change.Change.TheVariants.{OfKeys, OfEntities, OfNetwork, Shut, OfLiveliness, OfMatching}
 use Rattle.zs_world.specs.declared.change.KeyChange.TheVariants.{Declare, Hold, Release}
-use Rattle.zs_world.specs.declared.change.EntityChange.TheVariants.{AddSub, EndSub, AddPub, EndPub, AddQueryable, EndQueryable, AddQuerier, EndQuerier, LeaveSub, LeaveQueryable}
+use Rattle.zs_world.specs.declared.change.EntityChange.{EntityChange}
+use Rattle.zs_world.specs.declared.change.EntityChange.TheVariants.{Add as AddEntity, End as EndEntity, Leave as LeaveEntity}
+use Rattle.zs_world.specs.declared.change.EntityRow.{EntityRow}
+use Rattle.zs_world.specs.declared.change.EntityRow.TheVariants.{Sub as new_sub, Pub as new_pub, Queryable as new_queryable, Querier as new_querier, Listener as new_listener, Token as new_token, Lsub as new_lsub}
+use Rattle.zs_events.specs.declared.entity_kind.EntityKind.TheVariants.{Sub as sub_sort, Pub as pub_sort, Queryable as queryable_sort, Querier as querier_sort}
 use Rattle.zs_world.specs.declared.change.NetworkChange.TheVariants.{TellKey}
-use Rattle.zs_world.specs.declared.change.LivelinessChange.TheVariants.{DeclareToken, AddLsub, LeaveLsub, AskTokens}
+use Rattle.zs_world.specs.declared.change.LivelinessChange.TheVariants.{AskTokens}
 use Rattle.zs_world.specs.World.{World}
 use Rattle.zs_model.proofs.Values.{handing_next}
 use Rattle.zs_model.proofs.Gets.{asking_by, IsAskedUnder}
-use Rattle.zs_events.specs.Kinds.{Draws, KeyNumber, ToEntities, Declares, EndsEntity, LeavesEntity, ToMatching, NoMatch, TellsSub, TellsQueryable, Row, row_of}
+use Rattle.zs_events.specs.Kinds.{Draws, KeyNumber, kind_of, background_kind_of, ToEntities, Declares, EndsEntity, LeavesEntity, ToMatching, NoMatch, TellsSub, TellsQueryable, Row, row_of}
 use Rattle.zs_model.specs.Seen.{Sight, is_not_found, is_unknown, is_bad_key}
 use Rattle.zs_model.specs.Entry.{Entry, is_close}
 use Rattle.zs_model.specs.Held.{declares_number, returns_number, tells_number}
@@ -27,8 +31,8 @@ use Rattle.zs_model.specs.Queryables.{queryable_row}
 use Rattle.zs_model.specs.declared.querier.QuerierRow.{QuerierRow}
 use Rattle.zs_model.specs.Queriers.{querier_row}
 use Rattle.zs_model.proofs.Cancelling.{cancelling_by}
-use Rattle.zs_model.specs.Live.{is_same, leaves}
-use Rattle.zs_world.specs.declared.change.MatchingChange.TheVariants.{AddListener, LeaveListener}
+use Rattle.zs_model.specs.Live.{leaves, leaves_as}
+use Rattle.zs_world.specs.EntityChanges.{row_number}
 use Rattle.zs_standing.proofs.Watching.{SaysLiveliness}
 use Rattle.zs_model.specs.Counters.{draws_entity, draws_query}
 use Rattle.zs_world.specs.Changes.{Fits, with_change}
@@ -74,58 +78,59 @@ told_by n c = false
 
 -- what it makes of the subscribers, of the publishers, of the queryables and of the queriers
 abbrev pub subs_by : Change → RowChange SubRow
-subs_by (OfEntities (AddSub row)) = Add row
-subs_by (OfEntities (EndSub id)) = Take id
+subs_by (OfEntities (AddEntity (new_sub row))) = Add row
+subs_by (OfEntities (EndEntity sub_sort id)) = Take id
 subs_by Shut = Clear
 subs_by c = Keep
 
 abbrev pub pubs_by : Change → RowChange PubRow
-pubs_by (OfEntities (AddPub row)) = Add row
-pubs_by (OfEntities (EndPub id)) = Take id
+pubs_by (OfEntities (AddEntity (new_pub row))) = Add row
+pubs_by (OfEntities (EndEntity pub_sort id)) = Take id
 pubs_by Shut = Clear
 pubs_by c = Keep
 
 abbrev pub queryables_by : Change → RowChange QueryableRow
-queryables_by (OfEntities (AddQueryable row)) = Add row
-queryables_by (OfEntities (EndQueryable id)) = Take id
+queryables_by (OfEntities (AddEntity (new_queryable row))) = Add row
+queryables_by (OfEntities (EndEntity queryable_sort id)) = Take id
 queryables_by Shut = Clear
 queryables_by c = Keep
 
 abbrev pub queriers_by : Change → RowChange QuerierRow
-queriers_by (OfEntities (AddQuerier row)) = Add row
-queriers_by (OfEntities (EndQuerier id)) = Take id
+queriers_by (OfEntities (AddEntity (new_querier row))) = Add row
+queriers_by (OfEntities (EndEntity querier_sort id)) = Take id
 queriers_by Shut = Clear
 queriers_by c = Keep
 
+-- the kind of what is added
+abbrev pub kind_of_row : EntityRow → Kind
+kind_of_row (new_sub row) = Subscriber
+kind_of_row (new_pub row) = Publisher
+kind_of_row (new_queryable row) = queryable_kind
+kind_of_row (new_querier row) = querier_kind
+kind_of_row (new_listener row) = Listener
+kind_of_row (new_token id) = Token
+kind_of_row (new_lsub row) = LivelinessSubscriber
+
+-- what a change is to entities
+abbrev pub entities_by : EntityChange → ToEntities
+entities_by (AddEntity row) = Declares (kind_of_row row)
+entities_by (EndEntity kind id) = EndsEntity (kind_of kind) id
+entities_by (LeaveEntity kind id) = LeavesEntity (background_kind_of kind) id
+
 -- that leaves an entity to itself
 abbrev pub leaves_by : Kind → ℕ → Change → Bool
-leaves_by kind id (OfEntities (LeaveSub number)) = is_same kind Subscriber && id == number
-leaves_by kind id (OfEntities (LeaveQueryable number)) = is_same kind queryable_kind && id == number
-leaves_by kind id (OfLiveliness (LeaveLsub number)) = is_same kind LivelinessSubscriber && id == number
-leaves_by kind id (OfMatching (LeaveListener number)) = is_same kind Listener && id == number
+leaves_by kind id (OfEntities change) = leaves_as kind id (entities_by change)
 leaves_by kind id c = false
 
 -- that draws a number for an entity, and which
 abbrev pub adds : Change → Bool
-adds (OfEntities (AddSub row)) = true
-adds (OfEntities (AddPub row)) = true
-adds (OfEntities (AddQueryable row)) = true
-adds (OfEntities (AddQuerier row)) = true
-adds (OfLiveliness (DeclareToken id)) = true
-adds (OfLiveliness (AddLsub row)) = true
+adds (OfEntities (AddEntity row)) = true
 adds (OfLiveliness (AskTokens row)) = true
-adds (OfMatching (AddListener row)) = true
 adds c = false
 
 abbrev pub IsNumber : Option ℕ → Change → Type 0
-IsNumber number (OfEntities (AddSub row)) = number ≡ Some row.id
-IsNumber number (OfEntities (AddPub row)) = number ≡ Some row.id
-IsNumber number (OfEntities (AddQueryable row)) = number ≡ Some row.id
-IsNumber number (OfEntities (AddQuerier row)) = number ≡ Some row.id
-IsNumber number (OfLiveliness (DeclareToken id)) = number ≡ Some id
-IsNumber number (OfLiveliness (AddLsub row)) = number ≡ Some row.id
+IsNumber number (OfEntities (AddEntity row)) = number ≡ Some (row_number row)
 IsNumber number (OfLiveliness (AskTokens row)) = number ≡ Some row.number
-IsNumber number (OfMatching (AddListener row)) = number ≡ Some row.id
 IsNumber number c = Unit {0}
 
 -- what an entry says of the declared keys, its change says too
@@ -174,6 +179,7 @@ touches_matching x = of_listeners (row_of x.event).to_entities || tells_matching
 
 -- and whether a change does
 abbrev pub matches_by : Change → Bool
+matches_by (OfEntities change) = of_listeners (entities_by change)
 matches_by (OfMatching change) = true
 matches_by c = false
 

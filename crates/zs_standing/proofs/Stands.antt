@@ -4,10 +4,10 @@ use Rattle.std.specs.Prelude.{not, filter, ◌&&◌, ◌||◌, is_some, unwrap_o
 use Rattle.zs_events.specs.declared.event.Event.{Event}
 use Rattle.zs_model.specs.declared.settings.Settings.{Settings}
 use Rattle.zs_world.specs.declared.change.Change.{Change}
-use Rattle.zs_world.specs.declared.change.Change.TheVariants.{Nothing, OfKeys, OfEntities, OfLiveliness, OfMatching}
+use Rattle.zs_world.specs.declared.change.Change.TheVariants.{Nothing, OfKeys, OfEntities, OfLiveliness}
 use Rattle.zs_world.specs.declared.change.KeyChange.TheVariants.{Declare, Hold, Release}
-use Rattle.zs_world.specs.declared.change.EntityChange.TheVariants.{AddSub}
-use Rattle.zs_world.specs.declared.change.LivelinessChange.TheVariants.{DeclareToken}
+use Rattle.zs_world.specs.declared.change.EntityChange.TheVariants.{Add as AddEntity}
+use Rattle.zs_world.specs.declared.change.LivelinessChange.TheVariants.{AskTokens}
 use Rattle.zs_world.specs.declared.change.Decision.{Decision}
 use Rattle.zs_events.specs.declared.turn.Refusal.{Refusal}
 use Rattle.zs_events.specs.declared.turn.Turn.{Turn}
@@ -50,7 +50,6 @@ use Rattle.zs_world.specs.World.{new_world}
 use Rattle.zs_standing.proofs.Decisions.{entry_for, past_with_by, cases}
 use Rattle.zs_standing.proofs.Saying.{IsMade, adds, draws_by, draws_new}
 use Rattle.zs_standing.proofs.Changes.{made}
-use Rattle.zs_world.specs.declared.change.MatchingChange.TheVariants.{AddListener}
 use Rattle.zs_standing.proofs.Live.{AreLive, live_more, live_none, same_gets}
 use Rattle.zs_model.proofs.Sharing.{grouped_none}
 use Rattle.zs_standing.proofs.GroupNumbers.{AreShared, shared_more, members_are, number_next}
@@ -83,9 +82,8 @@ settings_step w Nothing = refl
 settings_step w c = refl
 
 entity_step : (w : World) (c : Change) → (with_change c w).counters.entity ≡ (if adds c then w.counters.entity + 1 else w.counters.entity)
-entity_step w (OfEntities (AddSub row)) = refl
-entity_step w (OfLiveliness (DeclareToken id)) = refl
-entity_step w (OfMatching (AddListener row)) = refl
+entity_step w (OfEntities (AddEntity row)) = refl
+entity_step w (OfLiveliness (AskTokens row)) = refl
 entity_step w c = refl
 
 key_step : (w : World) (c : Change) → (with_change c w).counters.key ≡ (if draws_by c then w.counters.key + 1 else w.counters.key)

@@ -3,7 +3,7 @@ use Rattle.std.proofs.Common.{◌≡◌, ℕ, List, [], ◌∷◌, Bool, true, f
 use Rattle.std.specs.Prelude.{◌&&◌, ◌||◌, not, if◌then◌else◌}
 use Rattle.zs_keys.specs.Key.{undeclared}
 use Rattle.zs_wire.specs.declared.wire_expr.WireExpr.{WireExpr}
-use Rattle.zs_events.specs.declared.event.Event.TheVariants.{Net, Listen, Lsub, LivelinessGet}
+use Rattle.zs_events.specs.declared.event.Event.TheVariants.{Net, Listen, LivelinessGet}
 use Rattle.zs_events.specs.declared.chan.Chan.{Chan}
 use Rattle.zs_events.specs.declared.key_arg.KeyArg.{KeyArg}
 use Rattle.zs_wire.specs.declared.message.Message.TheVariants.{DeclareToken as token_message, DeclareSubscriber, DeclareQueryable}
@@ -22,7 +22,7 @@ use Rattle.zs_model.specs.Queriers.{is_querier, querier_at}
 use Rattle.zs_model.proofs.Queriers.{missing_there}
 use Rattle.zs_model.specs.Cancelling.{is_drawn, is_any, is_among}
 use Rattle.zs_model.specs.Tokens.{answers}
-use Rattle.zs_world.specs.LivelinessChanges.{lsub_change, asking_change, told_change}
+use Rattle.zs_world.specs.LivelinessChanges.{asking_change, told_change}
 use Rattle.zs_tables.specs.declared.listener.ListenerRow.{ListenerRow}
 use Rattle.zs_events.specs.declared.entity_kind.ParentKind.{ParentKind}
 use Rattle.zs_events.specs.Kinds.{parent_kind_of}
@@ -33,12 +33,6 @@ use Rattle.zs_world.specs.Turns.{has_run_out, sight, is_there, is_left}
 use Rattle.zs_standing.proofs.Said.{Said, said_of, all_said}
 use Rattle.zs_standing.proofs.Saying.{IsMade, HasPassed}
 use Rattle.zs_standing.proofs.AskedMade.{neither}
-
-pub lsub_made : (w : World) (history : Bool) (key : KeyArg) (text : Option (List ℕ)) → w.closed ≡ false
-    → HasPassed (row_of (Lsub history key)) (record { text = text; lives = true; claimed = true; owed = true; drawn = true; cancelled = false; disjoint = false; lacks = has_run_out w EntityNumber text; idle = false; spared = false })
-    → IsMade w (record { number = Some w.counters.entity; text = text; event = Lsub history key }) (lsub_change w.counters.entity history text)
-lsub_made w history key None o p = cc (p.found)
-lsub_made w history key (Some text) o p = all_said o (refl, p.left) tt refl tt refl
 
 pub tokens_made : (w : World) (key : KeyArg) (timeout token : Option ℕ) (to : Chan) (text : Option (List ℕ)) → w.closed ≡ false
     → HasPassed (row_of (LivelinessGet key timeout token to))

@@ -17,12 +17,14 @@ use Rattle.zs_events.specs.declared.turn.Kind.{Kind}
 use Rattle.zs_events.specs.declared.turn.Kind.TheVariants.{Token, LivelinessSubscriber}
 use Rattle.zs_model.specs.declared.settings.Settings.{Settings}
 use Rattle.zs_world.specs.declared.change.Change.{Change}
-use Rattle.zs_world.specs.declared.change.Change.TheVariants.{Nothing, OfEntities, OfGets, OfCancellation, OfLiveliness, OfMatching, Shut}
-use Rattle.zs_world.specs.declared.change.EntityChange.TheVariants.{AddSub, AddPub, AddQueryable, AddQuerier}
+use Rattle.zs_world.specs.declared.change.Change.TheVariants.{Nothing, OfEntities, OfGets, OfCancellation, OfLiveliness, Shut}
+use Rattle.zs_world.specs.declared.change.EntityChange.TheVariants.{Add as AddEntity, End as EndEntity}
+use Rattle.zs_world.specs.declared.change.EntityRow.TheVariants.{Token as new_token, Lsub as new_lsub}
+use Rattle.zs_events.specs.declared.entity_kind.EntityKind.TheVariants.{Token as token_sort, Lsub as lsub_sort}
 use Rattle.zs_world.specs.declared.change.CancellationChange.TheVariants.{Take as TakeCancellationToken}
 use Rattle.zs_world.specs.declared.change.GetChange.TheVariants.{Advance}
 use Rattle.zs_world.specs.declared.change.LivelinessChange.{LivelinessChange}
-use Rattle.zs_world.specs.declared.change.LivelinessChange.TheVariants.{DeclareToken, EndToken, AddLsub, EndLsub, AskTokens, EndAsking}
+use Rattle.zs_world.specs.declared.change.LivelinessChange.TheVariants.{AskTokens, EndAsking}
 use Rattle.zs_world.specs.World.{World}
 use Rattle.zs_model.specs.Entry.{Entry}
 use Rattle.zs_model.specs.Live.{declared, is_live}
@@ -30,9 +32,6 @@ use Rattle.zs_model.specs.Liveliness.{token_row, lsub_row}
 use Rattle.zs_model.specs.Gets.{moment_of}
 use Rattle.zs_model.specs.Tokens.{tokens_asked, ends_asking, unended, asking_now, told_behind, remote_tokens}
 use Rattle.zs_world.specs.LivelinessChanges.{next_behind}
-use Rattle.zs_world.specs.declared.change.MatchingChange.{MatchingChange}
-use Rattle.zs_world.specs.declared.change.MatchingChange.TheVariants.{AddListener}
-use Rattle.zs_world.specs.MatchingChanges.{next_listening}
 use Rattle.zs_world.specs.Changes.{with_change, Fits}
 use Rattle.zs_model.proofs.Entities.{AreRows, RowChange, Keep, Add, Take, Clear, SaysRows}
 use Rattle.zs_model.proofs.Filters.{filter-filter, filter_none, all_weaker, all_append}
@@ -66,12 +65,8 @@ put_last number kind row_of rows next past new is l =
 
 -- no change takes a number back
 pub never_down : (c : LivelinessChange) (next : ℕ) → next ≤ next_behind c next
-never_down (DeclareToken id) next = omega arith
+never_down (AskTokens row) next = omega arith
 never_down c next = omega arith
-
-pub listening_up : (c : MatchingChange) (next : ℕ) → next ≤ next_listening c next
-listening_up (AddListener row) next = omega arith
-listening_up c next = omega arith
 
 -- what a change makes of the open gets of tokens: those that it ends, and the one that it asks
 abbrev pub stops_by : LivelinessGet → Change → Bool
@@ -87,15 +82,15 @@ asks_by c = []
 
 -- what a change makes of the table of this session's tokens
 abbrev pub tokens_by : Change → RowChange ℕ
-tokens_by (OfLiveliness (DeclareToken id)) = Add id
-tokens_by (OfLiveliness (EndToken id)) = Take id
+tokens_by (OfEntities (AddEntity (new_token id))) = Add id
+tokens_by (OfEntities (EndEntity token_sort id)) = Take id
 tokens_by Shut = Clear
 tokens_by c = Keep
 
 -- and of the subscribers to liveliness
 abbrev pub lsubs_by : Change → RowChange LivelinessSub
-lsubs_by (OfLiveliness (AddLsub row)) = Add row
-lsubs_by (OfLiveliness (EndLsub id)) = Take id
+lsubs_by (OfEntities (AddEntity (new_lsub row))) = Add row
+lsubs_by (OfEntities (EndEntity lsub_sort id)) = Take id
 lsubs_by Shut = Clear
 lsubs_by c = Keep
 
@@ -142,12 +137,8 @@ same n = omega arith
 
 -- entity numbers never go down
 pub entity_up : (w : World) (c : Change) → w.counters.entity ≤ (with_change c w).counters.entity
-entity_up w (OfEntities (AddSub row)) = omega arith
-entity_up w (OfEntities (AddPub row)) = omega arith
-entity_up w (OfEntities (AddQueryable row)) = omega arith
-entity_up w (OfEntities (AddQuerier row)) = omega arith
+entity_up w (OfEntities (AddEntity row)) = omega arith
 entity_up w (OfLiveliness change) = never_down change w.counters.entity
-entity_up w (OfMatching change) = listening_up change w.counters.entity
 entity_up w c = same w.counters.entity
 
 asked_below : (w : World) (c : Change) → Fits w c → AllByRecursion (λ (g : LivelinessGet). g.number < (with_change c w).counters.entity) (asks_by c)

@@ -1,17 +1,11 @@
 -- What accepted events make of the tables. A change says it with the copies that it needs, and it names one area, but for the
 -- close.
-use Rattle.std.specs.Prelude.{◌≡◌, ◌≤◌, ℕ, length, Bool, ◌+◌, true, false, List, [], ◌∷◌, ◌++◌, filter, not, ◌==◌, is_some, Option, Some, None, option_map, ◌≢◌, IsOk, if◌then◌else◌}
+use Rattle.std.specs.Prelude.{◌≡◌, ◌≤◌, ℕ, length, Bool, ◌+◌, true, false, List, [], ◌∷◌, is_some, Option, Some, None, ◌≢◌, IsOk, if◌then◌else◌}
 use Rattle.zs_keys.specs.Key.{undeclared}
-use Rattle.zs_sample.specs.declared.locality.Locality.{Locality}
 use Rattle.zs_tables.specs.Numbers.{NumberedKey, key_at, number_at, placed}
-use Rattle.zs_tables.specs.declared.subscriber.SubRow.{SubRow}
-use Rattle.zs_tables.specs.declared.queryable.QueryableRow.{QueryableRow}
 use Rattle.zs_world.specs.declared.declared_key.KeyHolders.{KeyHolders}
 use Rattle.zs_events.specs.declared.event.Event.{Event}
 use Rattle.zs_events.specs.declared.event.Event.TheVariants.{Key, UndeclareKey, Sub, Pub, Queryable, Querier, Undeclare, Background, Close, Net, Get, QuerierGet, Listen, CancelToken, Cancel, Tick, Reply as reply_event, Share, Finish, Token, Lsub, LivelinessGet}
-use Rattle.zs_events.specs.declared.entity_kind.EntityKind.TheVariants.{Sub as sub_kind, Pub as pub_kind, Queryable as queryable_sort, Querier as querier_sort, Listener as listener_sort, Token as token_sort, Lsub as lsub_sort}
-use Rattle.zs_events.specs.declared.entity_kind.BackgroundKind.TheVariants.{Sub as background_sub, Queryable as background_queryable, Listener as background_listener, Lsub as background_lsub}
-use Rattle.zs_events.specs.declared.key_arg.KeyArg.{KeyArg}
 use Rattle.zs_events.specs.declared.key_arg.KeyArg.TheVariants.{Number, Declared}
 use Rattle.zs_wire.specs.declared.message.Message.{Message}
 use Rattle.zs_wire.specs.declared.message.Message.TheVariants.{DeclareKeyExpr, Request as request_message, Response as response_message, ResponseFinal, DeclareToken as token_message, UndeclareToken as token_end_message, DeclareFinal, DeclareSubscriber, UndeclareSubscriber, DeclareQueryable, UndeclareQueryable}
@@ -19,12 +13,13 @@ pub use Rattle.zs_world.specs.declared.change.Change.{Change}
 use Rattle.zs_world.specs.declared.change.Change.TheVariants.{Nothing, OfKeys, OfEntities, OfNetwork, OfGets, OfValues, OfCancellation, Shut, OfLiveliness, OfMatching}
 use Rattle.zs_world.specs.declared.change.KeyChange.{KeyChange}
 use Rattle.zs_world.specs.declared.change.KeyChange.TheVariants.{Declare, Hold, Release}
-use Rattle.zs_world.specs.declared.change.EntityChange.{EntityChange}
-use Rattle.zs_world.specs.declared.change.EntityChange.TheVariants.{AddSub, EndSub, AddPub, EndPub, AddQueryable, EndQueryable, AddQuerier, EndQuerier, LeaveSub, LeaveQueryable}
+use Rattle.zs_world.specs.declared.change.EntityRow.{EntityRow}
+use Rattle.zs_world.specs.declared.change.EntityRow.TheVariants.{Sub as new_sub, Pub as new_pub, Queryable as new_queryable, Querier as new_querier, Token as new_token, Lsub as new_lsub}
+use Rattle.zs_world.specs.declared.change.EntityChange.TheVariants.{Add as AddEntity, End as EndEntity, Leave as LeaveEntity}
 use Rattle.zs_world.specs.declared.change.NetworkChange.{NetworkChange}
 use Rattle.zs_world.specs.declared.change.NetworkChange.TheVariants.{TellKey}
-use Rattle.zs_world.specs.declared.change.LivelinessChange.TheVariants.{DeclareToken, EndToken, EndLsub, LeaveLsub, ForgetToken}
-use Rattle.zs_world.specs.declared.change.MatchingChange.TheVariants.{EndListener, LeaveListener, ForgetSub, ForgetQueryable}
+use Rattle.zs_world.specs.declared.change.LivelinessChange.TheVariants.{ForgetToken}
+use Rattle.zs_world.specs.declared.change.MatchingChange.TheVariants.{ForgetSub, ForgetQueryable}
 use Rattle.zs_world.specs.declared.change.ValueChange.{ValueChange}
 use Rattle.zs_world.specs.declared.change.ValueChange.TheVariants.{HandOut, AskHere, ShareOf, GiveBack}
 use Rattle.zs_world.specs.declared.change.CancellationChange.{CancellationChange}
@@ -35,7 +30,7 @@ use Rattle.zs_wire.specs.declared.request.ConsolidationMode.TheVariants.{Auto}
 use Rattle.zs_wire.specs.declared.response.Answered.{Answered}
 use Rattle.zs_wire.specs.declared.response.Answered.TheVariants.{Reply, Err as Error}
 use Rattle.zs_wire.specs.declared.response.Response.{Response}
-use Rattle.zs_query.specs.GetTable.{Asking, with_asked, with_reply, with_final, with_local_final, at_moment, without_querier, all_ended}
+use Rattle.zs_query.specs.GetTable.{Asking, with_asked, with_reply, with_final, with_local_final, at_moment, all_ended}
 use Rattle.zs_query.specs.RequestTable.{Handing, with_handed, with_shared, with_finished}
 use Rattle.zs_query.specs.Unfinished.{value_at, finished}
 use Rattle.zs_query.specs.Asked.{waits}
@@ -48,31 +43,25 @@ use Rattle.zs_model.specs.Answers.{local_reply}
 use Rattle.zs_model.specs.Values.{met_by_get, met_by_request, get_request, network_request, last_value, lacks_values}
 use Rattle.zs_events.specs.Kinds.{Question, response_key, parent_kind_of}
 use Rattle.zs_events.specs.declared.inquiry.Inquiry.{Inquiry}
-use Rattle.zs_events.specs.declared.publication.PublisherSettings.{PublisherSettings}
 use Rattle.zs_events.specs.declared.publication.ReplyQuality.{ReplyQuality}
 use Rattle.zs_events.specs.Updates.{body_of}
 use Rattle.zs_model.specs.Questions.{row_waiting}
 use Rattle.zs_model.specs.Gets.{sample_reply}
-use Rattle.zs_model.specs.Settings.{last_entity, last_query, last_key}
+use Rattle.zs_model.specs.Settings.{last_query, last_key}
 use Rattle.zs_model.specs.Counters.{is_spent}
-use Rattle.zs_tables.specs.Ascending.{placed_by}
-use Rattle.zs_tables.specs.Groups.{AllGroups}
-use Rattle.zs_model.specs.declared.publisher.PubRow.{PubRow}
-use Rattle.zs_model.specs.declared.settings.Settings.{Settings}
-use Rattle.zs_model.specs.Subscribers.{sub_at}
-use Rattle.zs_model.specs.Publishers.{pub_on, pub_at}
-use Rattle.zs_events.specs.declared.inquiry.QuerySettings.{QuerySettings}
+use Rattle.zs_model.specs.Publishers.{pub_on}
 use Rattle.zs_model.specs.declared.querier.QuerierRow.{QuerierRow}
 use Rattle.zs_model.specs.Queriers.{querier_on, querier_at, question_of}
 use Rattle.zs_model.specs.Cancelling.{last_cancellation_token}
 use Rattle.zs_world.specs.CancellationChanges.{cancelling_after, asking_cancelled}
-use Rattle.zs_model.specs.Groups.{sub_shared, pub_shared, querier_shared, joined_by, left_found, no_groups}
+use Rattle.zs_model.specs.Groups.{no_groups}
 use Rattle.zs_model.specs.Liveliness.{shut_liveliness}
-use Rattle.zs_world.specs.LivelinessChanges.{lsub_change, asking_change, told_change, answered_change, liveliness_after, liveliness_by, liveliness_cancelled, next_behind, LivelinessFits}
+use Rattle.zs_world.specs.LivelinessChanges.{asking_change, told_change, answered_change, liveliness_after, liveliness_by, liveliness_cancelled, next_behind, LivelinessFits}
 use Rattle.zs_model.specs.Listeners.{listening}
 use Rattle.zs_world.specs.MatchingTables.{shut_matching}
-use Rattle.zs_world.specs.MatchingChanges.{listen_change, told_sub_change, told_queryable_change, next_listening, matching_after, listeners_left, MatchingFits}
-use Rattle.zs_world.specs.World.{World, Entities}
+use Rattle.zs_world.specs.MatchingChanges.{listen_change, told_sub_change, told_queryable_change, matching_after}
+use Rattle.zs_world.specs.EntityChanges.{next_entity_after, entities_after, groups_after, asking_left, liveliness_declared, matching_declared, EntitiesFit}
+use Rattle.zs_world.specs.World.{World}
 use Rattle.zs_world.specs.Keys.{key_of, wire_of, text_of}
 use Rattle.zs_world.specs.DeclaredKeys.{raised, lowered, own_left}
 
@@ -85,26 +74,10 @@ abbrev pub key_change : World → Option (List ℕ) → Change
 key_change w None = Nothing
 key_change w (Some text) = key_change_by w text (number_at text w.keys.own)
 
--- a declared subscriber
-abbrev pub sub_change : ℕ → Locality → Option (List ℕ) → Change
-sub_change id origin None = Nothing
-sub_change id origin (Some text) = OfEntities (AddSub (record { id = id; origin = origin; key = undeclared text }))
-
--- a declared publisher
-abbrev pub pub_change : ℕ → KeyArg → PublisherSettings → Option (List ℕ) → Change
-pub_change id key settings None = Nothing
-pub_change id key settings (Some text) = OfEntities (AddPub (pub_on id key settings text))
-
--- a declared queryable
-abbrev pub queryable_change : ℕ → Locality → Bool → Option (List ℕ) → Change
-queryable_change id origin complete None = Nothing
-queryable_change id origin complete (Some text) =
-    OfEntities (AddQueryable (record { id = id; origin = origin; complete = complete; key = undeclared text }))
-
--- a declared querier
-abbrev pub querier_change : ℕ → KeyArg → QuerySettings → Option (List ℕ) → Change
-querier_change id key settings None = Nothing
-querier_change id key settings (Some text) = OfEntities (AddQuerier (querier_on id key settings text))
+-- an entity that is declared on a key, by its row for the text of that
+abbrev pub added : (List ℕ → EntityRow) → Option (List ℕ) → Change
+added row None = Nothing
+added row (Some text) = OfEntities (AddEntity (row text))
 
 -- what the network tells of a number
 abbrev pub tell_change : ℕ → Option (List ℕ) → Change
@@ -171,31 +144,23 @@ abbrev pub change_for : World → Event → Change
 change_for w (Key key) = key_change w (key_of w key)
 change_for w (UndeclareKey (Number number suffix)) = OfKeys (Release number)
 change_for w (UndeclareKey (Declared text number prefix_len)) = OfKeys (Release number)
-change_for w (Sub origin key to) = sub_change w.counters.entity origin (key_of w key)
-change_for w (Pub key settings) = pub_change w.counters.entity key settings (key_of w key)
-change_for w (Queryable origin complete key) = queryable_change w.counters.entity origin complete (key_of w key)
-change_for w (Undeclare sub_kind id) = OfEntities (EndSub id)
-change_for w (Undeclare pub_kind id) = OfEntities (EndPub id)
-change_for w (Undeclare queryable_sort id) = OfEntities (EndQueryable id)
-change_for w (Undeclare querier_sort id) = OfEntities (EndQuerier id)
-change_for w (Querier key settings) = querier_change w.counters.entity key settings (key_of w key)
-change_for w (Token key) = OfLiveliness (DeclareToken w.counters.entity)
-change_for w (Undeclare token_sort id) = OfLiveliness (EndToken id)
-change_for w (Lsub history key) = lsub_change w.counters.entity history (key_of w key)
-change_for w (Undeclare lsub_sort id) = OfLiveliness (EndLsub id)
-change_for w (Background background_lsub id) = OfLiveliness (LeaveLsub id)
+change_for w (Sub origin key to) = added (λ text. new_sub (record { id = w.counters.entity; origin = origin; key = undeclared text })) (key_of w key)
+change_for w (Pub key settings) = added (λ text. new_pub (pub_on w.counters.entity key settings text)) (key_of w key)
+change_for w (Queryable origin complete key) =
+    added (λ text. new_queryable (record { id = w.counters.entity; origin = origin; complete = complete; key = undeclared text })) (key_of w key)
+change_for w (Querier key settings) = added (λ text. new_querier (querier_on w.counters.entity key settings text)) (key_of w key)
+change_for w (Listen parent id) = listen_change (listening w.entities.pubs w.entities.queriers w.counters.entity (parent_kind_of parent) id)
+change_for w (Token key) = OfEntities (AddEntity (new_token w.counters.entity))
+change_for w (Lsub history key) = added (λ text. new_lsub (record { id = w.counters.entity; history = history; key = undeclared text })) (key_of w key)
+change_for w (Undeclare kind id) = OfEntities (EndEntity kind id)
+change_for w (Background kind id) = OfEntities (LeaveEntity kind id)
 change_for w (LivelinessGet key timeout token to) = asking_change w.settings.default_timeout w.asking.moment w.counters.entity timeout token (key_of w key)
-change_for w (Background background_sub id) = OfEntities (LeaveSub id)
-change_for w (Background background_queryable id) = OfEntities (LeaveQueryable id)
 change_for w (Get key settings inquiry to) = get_change w (record { settings = settings; inquiry = inquiry; querier = None }) (key_of w key)
 change_for w (QuerierGet id inquiry to) = querier_get_change w inquiry (querier_at id w.entities.queriers)
 change_for w CancelToken = OfCancellation Draw
 change_for w (Cancel token) = OfCancellation (TakeCancellationToken token)
 change_for w (reply_event value key update quality) =
     answer_change w.settings.zid quality (body_of [] update) (value_at value w.handing.values) (key_of w key)
-change_for w (Listen parent id) = listen_change (listening w.entities.pubs w.entities.queriers w.counters.entity (parent_kind_of parent) id)
-change_for w (Undeclare listener_sort id) = OfMatching (EndListener id)
-change_for w (Background background_listener id) = OfMatching (LeaveListener id)
 change_for w (Share value) = OfValues (ShareOf value)
 change_for w (Finish value) = OfValues (GiveBack value)
 change_for w (Tick now) = OfGets (Advance now)
@@ -219,68 +184,6 @@ abbrev pub holders_after : KeyChange → List KeyHolders → List KeyHolders
 holders_after (Declare number key) rows = raised number rows
 holders_after (Hold number) rows = raised number rows
 holders_after (Release number) rows = lowered number rows
-
--- the next entity number behind a change of what the application declared
-abbrev pub next_entity_after : EntityChange → ℕ → ℕ
-next_entity_after (AddSub row) next = next + 1
-next_entity_after (AddPub row) next = next + 1
-next_entity_after (AddQueryable row) next = next + 1
-next_entity_after (AddQuerier row) next = next + 1
-next_entity_after change next = next
-
--- the subscribers
-abbrev pub subs_after : EntityChange → List SubRow → List SubRow
-subs_after (AddSub row) rows = rows ++ row ∷ []
-subs_after (EndSub id) rows = filter (λ row. not (row.id == id)) rows
-subs_after change rows = rows
-
--- the publishers
-abbrev pub pubs_after : EntityChange → List PubRow → List PubRow
-pubs_after (AddPub row) rows = rows ++ row ∷ []
-pubs_after (EndPub id) rows = filter (λ row. not (row.id == id)) rows
-pubs_after change rows = rows
-
--- the queryables
-abbrev pub queryables_after : EntityChange → List QueryableRow → List QueryableRow
-queryables_after (AddQueryable row) rows = rows ++ row ∷ []
-queryables_after (EndQueryable id) rows = filter (λ row. not (row.id == id)) rows
-queryables_after change rows = rows
-
--- the queriers
-abbrev pub queriers_after : EntityChange → List QuerierRow → List QuerierRow
-queriers_after (AddQuerier row) rows = rows ++ row ∷ []
-queriers_after (EndQuerier id) rows = filter (λ row. not (row.id == id)) rows
-queriers_after change rows = rows
-
--- the gets: those that a querier asked end with it
-abbrev pub asking_left : EntityChange → Asking → Asking
-asking_left (EndQuerier id) a = without_querier id a
-asking_left change a = a
-
--- the subscribers that were left to themselves, and the queryables
-abbrev pub left_after : EntityChange → List ℕ → List ℕ
-left_after (LeaveSub id) ids = placed_by (λ n. n) id ids
-left_after change ids = ids
-
-abbrev pub left_queryables_after : EntityChange → List ℕ → List ℕ
-left_queryables_after (LeaveQueryable id) ids = placed_by (λ n. n) id ids
-left_queryables_after change ids = ids
-
--- the groups, given what was declared before
-abbrev pub groups_after : Settings → Entities → EntityChange → AllGroups → AllGroups
-groups_after s before (AddSub row) gs = record gs { subscribers = joined_by s.aggregated_subscribers (sub_shared row) gs.subscribers }
-groups_after s before (EndSub id) gs = record gs {
-  subscribers = left_found s.aggregated_subscribers (option_map sub_shared (sub_at id before.subs)) gs.subscribers;
-}
-groups_after s before (AddPub row) gs = record gs { publishers = joined_by s.aggregated_publishers (pub_shared row) gs.publishers }
-groups_after s before (EndPub id) gs = record gs {
-  publishers = left_found s.aggregated_publishers (option_map pub_shared (pub_at id before.pubs)) gs.publishers;
-}
-groups_after s before (AddQuerier row) gs = record gs { queriers = joined_by [] (querier_shared row) gs.queriers }
-groups_after s before (EndQuerier id) gs = record gs {
-  queriers = left_found [] (option_map querier_shared (querier_at id before.queriers)) gs.queriers;
-}
-groups_after s before change gs = gs
 
 -- the numbers that the network told
 abbrev pub told_after : NetworkChange → List NumberedKey → List NumberedKey
@@ -324,17 +227,11 @@ with_change (OfKeys change) w = record w {
 }
 with_change (OfEntities change) w = record w {
   counters = record w.counters { entity = next_entity_after change w.counters.entity };
-  entities = record {
-    subs = subs_after change w.entities.subs;
-    pubs = pubs_after change w.entities.pubs;
-    queryables = queryables_after change w.entities.queryables;
-    queriers = queriers_after change w.entities.queriers;
-    left_subs = left_after change w.entities.left_subs;
-    left_queryables = left_queryables_after change w.entities.left_queryables;
-  };
+  entities = entities_after change w.entities;
   groups = groups_after w.settings w.entities change w.groups;
   asking = asking_left change w.asking;
-  matching = listeners_left change w.matching;
+  liveliness = liveliness_declared change w.liveliness;
+  matching = matching_declared change w.matching;
 }
 with_change (OfNetwork change) w = record w { keys = record w.keys { told = told_after change w.keys.told } }
 with_change (OfGets change) w = record w { asking = asking_after change w.asking; liveliness = liveliness_by change w.liveliness }
@@ -342,10 +239,7 @@ with_change (OfLiveliness change) w = record w {
   counters = record w.counters { entity = next_behind change w.counters.entity };
   liveliness = liveliness_after change w.liveliness;
 }
-with_change (OfMatching change) w = record w {
-  counters = record w.counters { entity = next_listening change w.counters.entity };
-  matching = matching_after change w.matching;
-}
+with_change (OfMatching change) w = record w { matching = matching_after change w.matching }
 with_change (OfValues change) w = record w {
   asking = asking_beside change w.handing.values w.asking;
   handing = handing_after change w.handing;
@@ -372,13 +266,6 @@ KeysFit w (Declare number key) =
 KeysFit w (Hold number) = is_some (key_at number w.keys.own) ≡ true
 KeysFit w (Release number) = is_some (key_at number w.keys.own) ≡ true
 
-abbrev pub EntitiesFit : World → EntityChange → Type 0
-EntitiesFit w (AddSub row) = (row.id ≡ w.counters.entity) × (is_spent last_entity w.counters.entity ≡ false)
-EntitiesFit w (AddPub row) = (row.id ≡ w.counters.entity) × (is_spent last_entity w.counters.entity ≡ false)
-EntitiesFit w (AddQueryable row) = (row.id ≡ w.counters.entity) × (is_spent last_entity w.counters.entity ≡ false)
-EntitiesFit w (AddQuerier row) = (row.id ≡ w.counters.entity) × (is_spent last_entity w.counters.entity ≡ false)
-EntitiesFit w change = Unit {0}
-
 abbrev pub GetsFit : World → GetChange → Type 0
 GetsFit w (Ask row) = (row.number ≡ w.asking.next) × (is_spent last_query w.asking.next ≡ false) × (row.mode ≢ Auto)
 GetsFit w (Take number reply) = IsOk reply.result
@@ -402,10 +289,9 @@ CancellationFits w (TakeCancellationToken token) = Unit {0}
 
 abbrev pub Fits : World → Change → Type 0
 Fits w (OfKeys change) = KeysFit w change
-Fits w (OfEntities change) = EntitiesFit w change
+Fits w (OfEntities change) = EntitiesFit w.counters.entity change
 Fits w (OfGets change) = GetsFit w change
 Fits w (OfLiveliness change) = LivelinessFits w.counters.entity change
 Fits w (OfValues change) = ValuesFit w change
 Fits w (OfCancellation change) = CancellationFits w change
-Fits w (OfMatching change) = MatchingFits w.counters.entity change
 Fits w change = Unit {0}

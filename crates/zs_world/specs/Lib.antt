@@ -5,6 +5,7 @@ pub mod HolderCounts
 pub mod MatchingTables
 pub mod Bounds
 pub mod EntityRows
+pub mod EntityChanges
 pub mod Changes
 pub mod LivelinessChanges
 pub mod MatchingChanges

@@ -1,7 +1,6 @@
 -- What changes of liveliness make of its tables.
-use Rattle.std.specs.Prelude.{◌≡◌, ℕ, ◌+◌, ◌==◌, min, Bool, false, not, List, filter, Option, Some, None, unwrap_or, if◌then◌else◌}
+use Rattle.std.specs.Prelude.{◌≡◌, ℕ, ◌+◌, ◌==◌, min, false, not, List, filter, Option, Some, None, unwrap_or, if◌then◌else◌}
 use Rattle.zs_keys.specs.Key.{undeclared}
-use Rattle.zs_tables.specs.Ascending.{placed_by}
 use Rattle.zs_tables.specs.Liveliness.{put_new}
 use Rattle.zs_tables.specs.LivelinessGets.{with_liveliness_get, without_liveliness_get, waiting_at, without_token}
 use Rattle.zs_tables.specs.Types.{LivelinessGet}
@@ -12,17 +11,12 @@ use Rattle.zs_world.specs.declared.change.GetChange.TheVariants.{Advance}
 use Rattle.zs_world.specs.declared.change.CancellationChange.{CancellationChange}
 use Rattle.zs_world.specs.declared.change.CancellationChange.TheVariants.{Draw, Take}
 use Rattle.zs_world.specs.declared.change.LivelinessChange.{LivelinessChange}
-use Rattle.zs_world.specs.declared.change.LivelinessChange.TheVariants.{DeclareToken, EndToken, AddLsub, EndLsub, LeaveLsub, AskTokens, EndAsking, RecordToken, ForgetToken}
+use Rattle.zs_world.specs.declared.change.LivelinessChange.TheVariants.{AskTokens, EndAsking, RecordToken, ForgetToken}
 use Rattle.zs_model.specs.Settings.{last_entity}
 use Rattle.zs_model.specs.Questions.{last_moment}
 use Rattle.zs_model.specs.Counters.{is_spent}
 use Rattle.zs_model.specs.Liveliness.{Liveliness}
 use Rattle.zs_model.specs.Tokens.{answers}
-
--- a declared subscriber
-abbrev pub lsub_change : ℕ → Bool → Option (List ℕ) → Change
-lsub_change id history None = Nothing
-lsub_change id history (Some text) = OfLiveliness (AddLsub (record { id = id; history = history; key = undeclared text }))
 
 -- a get of tokens that is asked
 abbrev pub asking_change : ℕ → ℕ → ℕ → Option ℕ → Option ℕ → Option (List ℕ) → Change
@@ -43,18 +37,11 @@ answered_change (Some number) = OfLiveliness (EndAsking number)
 
 -- the next entity number behind a change
 abbrev pub next_behind : LivelinessChange → ℕ → ℕ
-next_behind (DeclareToken id) next = next + 1
-next_behind (AddLsub row) next = next + 1
 next_behind (AskTokens row) next = next + 1
 next_behind change next = next
 
 -- the tables behind a change
 abbrev pub liveliness_after : LivelinessChange → Liveliness → Liveliness
-liveliness_after (DeclareToken id) l = record l { tokens = placed_by (λ n. n) id l.tokens }
-liveliness_after (EndToken id) l = record l { tokens = filter (λ n. not (n == id)) l.tokens }
-liveliness_after (AddLsub row) l = record l { subs = put_new (λ s. s.id) row l.subs }
-liveliness_after (EndLsub id) l = record l { subs = filter (λ s. not (s.id == id)) l.subs }
-liveliness_after (LeaveLsub id) l = record l { left = placed_by (λ n. n) id l.left }
 liveliness_after (AskTokens row) l = record l { gets = with_liveliness_get row l.gets }
 liveliness_after (EndAsking number) l = record l { gets = without_liveliness_get number l.gets }
 liveliness_after (RecordToken token) l = record l { told = put_new (λ t. t.number) token l.told }
@@ -78,7 +65,5 @@ liveliness_cancelled change l = record l { gets = asking_left change l.gets }
 
 -- what a change takes for granted, given the next entity number: a number that it draws is that one, and is there
 abbrev pub LivelinessFits : ℕ → LivelinessChange → Type 0
-LivelinessFits next (DeclareToken id) = (id ≡ next) × (is_spent last_entity next ≡ false)
-LivelinessFits next (AddLsub row) = (row.id ≡ next) × (is_spent last_entity next ≡ false)
 LivelinessFits next (AskTokens row) = (row.number ≡ next) × (is_spent last_entity next ≡ false)
 LivelinessFits next change = Unit {0}

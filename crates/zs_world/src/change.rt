@@ -5,7 +5,7 @@ ghost use Rattle.zs_world.specs.Turns.{decision_of};
 
 use crate::met::Met;
 use std::alloc::Global;
-use zs_events::{Answer, Effects, Refusal, Turn};
+use zs_events::{Answer, BackgroundKind, Effects, EntityKind, Refusal, Turn};
 use zs_keys::KeyExpr;
 use zs_model::{PubRow, QuerierRow};
 use zs_query::{GetRow, RequestRow};
@@ -26,29 +26,29 @@ pub enum KeyChange {
     Release { number: u16 },
 }
 
+/// What the application declares and can undeclare, as its table keeps it.
+#[derive(Drop)]
+pub enum EntityRow {
+    Sub(SubRow),
+    Pub(PubRow),
+    Queryable(QueryableRow),
+    Querier(QuerierRow),
+    Listener(ListenerRow),
+    /// A liveliness token, by its number.
+    Token(u32),
+    /// A subscriber to liveliness.
+    Lsub(LivelinessSub),
+}
+
 /// What an accepted event makes of what the application declared and can undeclare.
 #[derive(Drop)]
 pub enum EntityChange {
-    /// A subscriber is declared: it draws a number.
-    AddSub { row: SubRow },
-    /// A subscriber ends.
-    EndSub { id: u32 },
-    /// A publisher is declared: it draws a number.
-    AddPub { row: PubRow },
-    /// A publisher ends.
-    EndPub { id: u32 },
-    /// A queryable is declared: it draws a number.
-    AddQueryable { row: QueryableRow },
-    /// A queryable ends.
-    EndQueryable { id: u32 },
-    /// A querier is declared: it draws a number.
-    AddQuerier { row: QuerierRow },
-    /// A querier ends, and its gets with it.
-    EndQuerier { id: u32 },
-    /// A subscriber is left to itself.
-    LeaveSub { id: u32 },
-    /// A queryable is left to itself.
-    LeaveQueryable { id: u32 },
+    /// One is declared: it draws a number.
+    Add(EntityRow),
+    /// One ends. A querier's gets end with it, and the listeners to a publisher or a querier.
+    End { kind: EntityKind, id: u32 },
+    /// One is left to itself.
+    Leave { kind: BackgroundKind, id: u32 },
 }
 
 /// What an accepted event makes of what the network told.
@@ -58,19 +58,9 @@ pub enum NetworkChange {
     TellKey { number: u16, key: KeyExpr<'static> },
 }
 
-/// What an accepted event makes of liveliness.
+/// What an accepted event makes of the tokens that the network tells, and of the gets of them.
 #[derive(Drop)]
 pub enum LivelinessChange {
-    /// A token is declared: it draws a number.
-    DeclareToken { id: u32 },
-    /// A token of this session ends.
-    EndToken { id: u32 },
-    /// A subscriber to liveliness is declared: it draws a number.
-    AddLsub { row: LivelinessSub },
-    /// A subscriber to liveliness ends.
-    EndLsub { id: u32 },
-    /// A subscriber to liveliness is left to itself.
-    LeaveLsub { id: u32 },
     /// The tokens that live are asked for: that draws a number.
     AskTokens { row: LivelinessGet },
     /// A get of tokens has had all, and ends.
@@ -127,15 +117,9 @@ pub enum CancellationChange {
     Take { token: u32 },
 }
 
-/// What an accepted event makes of matching.
+/// What an accepted event makes of those whom the network tells and a listener can match.
 #[derive(Drop)]
 pub enum MatchingChange {
-    /// A listener is declared: it draws a number.
-    AddListener { row: ListenerRow },
-    /// A listener ends.
-    EndListener { id: u32 },
-    /// A listener is left to itself.
-    LeaveListener { id: u32 },
     /// The network tells a subscriber, in place of one of its number.
     TellSub { row: ToldSub },
     /// The network ends a subscriber.

@@ -3,8 +3,8 @@
 #![tactic(auto)]
 
 pub use change::{
-    CancellationChange, Change, Decision, EntityChange, GetChange, KeyChange, LivelinessChange,
-    MatchingChange, NetworkChange, ValueChange,
+    CancellationChange, Change, Decision, EntityChange, EntityRow, GetChange, KeyChange,
+    LivelinessChange, MatchingChange, NetworkChange, ValueChange,
 };
 pub use declared_key::KeyHolders;
 pub use entity::Entity;

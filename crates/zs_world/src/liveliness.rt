@@ -1,16 +1,18 @@
 //! The part of a session that knows tokens: its own, those of others, and who watches them.
 
-ghost use Rattle.std.specs.Prelude.{◌≡◌, ◌≤◌, ◌==◌, OnOk, OnErr};
+ghost use Rattle.std.specs.Prelude.{◌≡◌, ◌≤◌, ◌==◌, filter, not, OnOk, OnErr};
 ghost use Rattle.std.specs.List.{list_any};
 ghost use Rattle.zs_model.specs.Liveliness.{no_liveliness, shut_liveliness};
 ghost use Rattle.zs_world.specs.LivelinessChanges.{liveliness_after, next_behind, LivelinessFits};
+ghost use Rattle.zs_tables.specs.Ascending.{placed_by};
+ghost use Rattle.zs_tables.specs.Liveliness.{put_new};
 ghost use Rattle.zs_tables.specs.LivelinessGets.{waiting_at, without_token};
 
 use crate::change::LivelinessChange;
 use crate::id_set::IdSet;
 use std::alloc::{AllocError, Global};
 use std::marker::Model;
-use zs_tables::{LivelinessGets, LivelinessSubs, ToldTokens};
+use zs_tables::{LivelinessGets, LivelinessSub, LivelinessSubs, ToldTokens};
 
 /// What a session knows of liveliness. No call that answers want of memory has changed anything.
 #[derive(Drop)]
@@ -79,23 +81,50 @@ impl Liveliness {
         &self.gets
     }
 
+    /// A token of this session is there.
+    pub fn add_token(&mut self, id: u32) -> Result<(), AllocError>
+        ensures ok { OnOk result (self.new ≡ record self.old { tokens = placed_by (λ n. n) id self.old.tokens }) }
+        ensures err { OnErr result (self.new ≡ self.old) }
+    {
+        self.tokens.insert(id)
+    }
+
+    /// A token of this session ends.
+    pub fn remove_token(&mut self, id: u32)
+        ensures { self.new ≡ record self.old { tokens = filter (λ n. not (n == id)) self.old.tokens } }
+    {
+        self.tokens.remove(id);
+    }
+
+    /// A subscriber is there.
+    pub fn add_sub(&mut self, row: LivelinessSub) -> Result<(), AllocError>
+        ensures ok { OnOk result (self.new ≡ record self.old { subs = put_new (λ s. s.id) row self.old.subs }) }
+        ensures err { OnErr result (self.new ≡ self.old) }
+    {
+        self.subs.put(row)
+    }
+
+    /// A subscriber ends.
+    pub fn remove_sub(&mut self, id: u32)
+        ensures { self.new ≡ record self.old { subs = filter (λ row. not (row.id == id)) self.old.subs } }
+    {
+        self.subs.remove(id);
+    }
+
+    /// A subscriber is left to itself.
+    pub fn leave_sub(&mut self, id: u32) -> Result<(), AllocError>
+        ensures ok { OnOk result (self.new ≡ record self.old { left = placed_by (λ n. n) id self.old.left }) }
+        ensures err { OnErr result (self.new ≡ self.old) }
+    {
+        self.left.insert(id)
+    }
+
     /// Makes a change. At an `Err` all is as it was.
     pub fn change(&mut self, change: LivelinessChange) -> Result<(), AllocError>
         ensures ok { OnOk result (self.new ≡ liveliness_after change self.old) }
         ensures err { OnErr result (self.new ≡ self.old) }
     {
         match change {
-            LivelinessChange::DeclareToken { id } => self.tokens.insert(id),
-            LivelinessChange::EndToken { id } => {
-                self.tokens.remove(id);
-                Ok(())
-            }
-            LivelinessChange::AddLsub { row } => self.subs.put(row),
-            LivelinessChange::EndLsub { id } => {
-                self.subs.remove(id);
-                Ok(())
-            }
-            LivelinessChange::LeaveLsub { id } => self.left.insert(id),
             LivelinessChange::AskTokens { row } => self.gets.open(row),
             LivelinessChange::EndAsking { number } => {
                 self.gets.end(number);
@@ -140,13 +169,8 @@ pub fn next_behind(change: &LivelinessChange, next: u32) -> u32
     ensures up { next ≤ result }
 {
     match change {
-        LivelinessChange::DeclareToken { .. }
-        | LivelinessChange::AddLsub { .. }
-        | LivelinessChange::AskTokens { .. } => next + 1,
-        LivelinessChange::EndToken { .. }
-        | LivelinessChange::EndLsub { .. }
-        | LivelinessChange::LeaveLsub { .. }
-        | LivelinessChange::EndAsking { .. }
+        LivelinessChange::AskTokens { .. } => next + 1,
+        LivelinessChange::EndAsking { .. }
         | LivelinessChange::RecordToken { .. }
         | LivelinessChange::ForgetToken { .. } => next,
     }

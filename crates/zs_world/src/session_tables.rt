@@ -18,10 +18,10 @@ use zs_model::{PubRow, QuerierRow, Settings};
 use zs_query::{GetTable, RequestTable};
 use zs_tables::{Groups, QueryableTable, Tables};
 
-mod backgrounds;
 mod cancelling;
 mod candidates;
 mod declared_keys;
+mod entities;
 mod gets;
 mod groups;
 mod liveliness;

@@ -1,7 +1,6 @@
 //! Liveliness: tokens, the subscribers to them and the gets of them, as the application declares and asks.
 
-ghost use Rattle.std.specs.Prelude.{◌≡◌, ◌∷◌, ◌&&◌, ◌==◌, [], not, Some, None, IfOk};
-ghost use Rattle.std.specs.List.{list_any};
+ghost use Rattle.std.specs.Prelude.{◌≡◌, ◌∷◌, [], Some, None, IfOk};
 ghost use Rattle.zs_events.specs.declared.chan.Chan.{Chan};
 ghost use Rattle.zs_world.specs.Turns.{own_keys_at, open_decision};
 ghost use Rattle.zs_model.specs.Effects.{key_wire, lsub_mode, token_interest};
@@ -10,15 +9,15 @@ ghost use Rattle.zs_events.specs.declared.turn.Effect.{Effect};
 
 use super::cancelling::{is_drawn, was_cancelled};
 use std::alloc::AllocError;
-use zs_announcing::{declared_by, resolve, wire_form};
-use zs_events::{BackgroundKind, Effect, Effects, EntityKind, Event, KeyArg, Kind, Refusal};
+use zs_announcing::{declared_by, names_lsub, resolve, wire_form};
+use zs_events::{Effect, Effects, EntityKind, Event, KeyArg, Kind, Refusal};
 use zs_keys::KeyExpr;
 use zs_making::liveliness::{hand_keys, lsub_mode};
 use zs_making::wires::push_send;
 use zs_model::into_owned;
 use zs_tables::{LivelinessGet, LivelinessSub};
 use zs_wire::{InterestMode, InterestWhat, Message, WireExpr};
-use zs_world::{Change, Decision, LivelinessChange, SessionTables};
+use zs_world::{Change, Decision, EntityChange, EntityRow, LivelinessChange, SessionTables};
 
 pub(super) fn decide_token(world: &SessionTables, key: &KeyArg) -> Result<Decision, AllocError>
     ensures { IfOk result (λ made. made ≡ open_decision world.now (Event.Token key.now)) }
@@ -39,7 +38,7 @@ pub(super) fn decide_token(world: &SessionTables, key: &KeyArg) -> Result<Decisi
         interest: None,
     };
     push_send(world.alloc, &mut effects, declaration)?;
-    let change = Change::OfLiveliness(LivelinessChange::DeclareToken { id });
+    let change = Change::OfEntities(EntityChange::Add(EntityRow::Token(id)));
     Ok(Decision::accepted(Some(id), effects, change))
 }
 
@@ -56,7 +55,10 @@ pub(super) fn decide_undeclare_token(world: &SessionTables, id: u32) -> Result<D
         interest: None,
     };
     push_send(world.alloc, &mut effects, end)?;
-    let change = Change::OfLiveliness(LivelinessChange::EndToken { id });
+    let change = Change::OfEntities(EntityChange::End {
+        kind: EntityKind::Token,
+        id,
+    });
     Ok(Decision::of(effects, change))
 }
 
@@ -81,7 +83,7 @@ pub(super) fn decide_lsub(
         history,
         key: into_owned(world.alloc, resolved)?,
     };
-    let change = Change::OfLiveliness(LivelinessChange::AddLsub { row });
+    let change = Change::OfEntities(EntityChange::Add(EntityRow::Lsub(row)));
     Ok(Decision::accepted(Some(id), effects, change))
 }
 
@@ -103,18 +105,11 @@ pub(super) fn decide_undeclare_lsub(world: &SessionTables, id: u32) -> Result<De
         kind: Kind::LivelinessSubscriber,
         id,
     })?;
-    let change = Change::OfLiveliness(LivelinessChange::EndLsub { id });
+    let change = Change::OfEntities(EntityChange::End {
+        kind: EntityKind::Lsub,
+        id,
+    });
     Ok(Decision::of(effects, change))
-}
-
-pub(super) fn decide_background_lsub(world: &SessionTables, id: u32) -> Result<Decision, AllocError>
-    ensures { IfOk result (λ made. made ≡ open_decision world.now (Event.Background BackgroundKind.Lsub id)) }
-{
-    if !names_lsub(world, id) {
-        return Ok(Decision::refused(world.alloc, Refusal::NotFound));
-    }
-    let change = Change::OfLiveliness(LivelinessChange::LeaveLsub { id });
-    Ok(Decision::of(Effects::new(world.alloc), change))
 }
 
 pub(super) fn decide_liveliness_get(
@@ -193,14 +188,6 @@ fn lsub_effects(
     let keys = world.liveliness.told().met_keys(resolved)?;
     hand_keys(world.alloc, id, keys, &mut effects)?;
     Ok(effects)
-}
-
-/// Whether a subscriber to liveliness of that number can be named.
-fn names_lsub(world: &SessionTables, id: u32) -> bool
-    ensures { result
-        ≡ (list_any (λ row. row.id == id) world.now.liveliness.subs && not (list_any (λ other. other == id) world.now.liveliness.left)) }
-{
-    world.liveliness.subs().has(id) && !world.liveliness.left().contains(id)
 }
 
 /// The form that a message gives an application's key which stands for that text.

@@ -4,12 +4,13 @@ ghost use Rattle.std.specs.Prelude.{◌≡◌, Some, OnOk, OnErr};
 ghost use Rattle.zs_tables.specs.Matching.{candidates};
 ghost use Rattle.zs_world.specs.World.{present_at};
 ghost use Rattle.zs_world.specs.Changes.{with_change};
-ghost use Rattle.zs_world.specs.MatchingChanges.{MatchingFits};
+ghost use Rattle.zs_world.specs.EntityChanges.{EntitiesFit};
 
 use super::SessionTables;
 use super::candidates::{recounts_of, told_queryable_of, told_sub_of};
-use crate::change::{Change, MatchingChange};
+use crate::change::{Change, EntityChange, EntityRow, MatchingChange};
 use std::alloc::AllocError;
+use zs_events::EntityKind;
 use zs_tables::{Candidate, ListenerRow, Present, ToldQueryable, ToldSub};
 
 impl SessionTables {
@@ -25,17 +26,10 @@ impl SessionTables {
     }
 
     pub(super) fn change_matching(&mut self, change: MatchingChange) -> Result<(), AllocError>
-        requires { MatchingFits self.old.counters.entity change }
         ensures ok { OnOk result (self.new ≡ with_change (Change.OfMatching change) self.old) }
         ensures err { OnErr result (self.new ≡ self.old) }
     {
         match change {
-            MatchingChange::AddListener { row } => self.add_listener(row),
-            MatchingChange::EndListener { id } => {
-                self.matching.end(id);
-                Ok(())
-            }
-            MatchingChange::LeaveListener { id } => self.matching.leave(id),
             MatchingChange::TellSub { row } => self.tell_sub(row),
             MatchingChange::ForgetSub { number } => self.forget_sub(number),
             MatchingChange::TellQueryable { row } => self.tell_queryable(row),
@@ -44,15 +38,21 @@ impl SessionTables {
     }
 
     /// A listener with the next number is live.
-    fn add_listener(&mut self, row: ListenerRow) -> Result<(), AllocError>
-        requires { MatchingFits self.old.counters.entity (MatchingChange.AddListener row) }
-        ensures ok { OnOk result (self.new ≡ with_change (Change.OfMatching (MatchingChange.AddListener row)) self.old) }
+    pub(super) fn add_listener(&mut self, row: ListenerRow) -> Result<(), AllocError>
+        requires { EntitiesFit self.old.counters.entity (EntityChange.Add (EntityRow.Listener row)) }
+        ensures ok { OnOk result (self.new ≡ with_change (Change.OfEntities (EntityChange.Add (EntityRow.Listener row))) self.old) }
         ensures err { OnErr result (self.new ≡ self.old) }
     {
         let count = self.present().count(self.alloc, &row)?;
         self.matching.add(row, count)?;
         self.next_entity += 1;
         Ok(())
+    }
+
+    pub(super) fn end_listener(&mut self, id: u32)
+        ensures { self.new ≡ with_change (Change.OfEntities (EntityChange.End EntityKind.Listener id)) self.old }
+    {
+        self.matching.end(id);
     }
 
     fn tell_sub(&mut self, row: ToldSub) -> Result<(), AllocError>

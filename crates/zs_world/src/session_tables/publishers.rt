@@ -1,20 +1,22 @@
 //! Changes of the publishers.
 
 ghost use Rattle.std.specs.Prelude.{◌≡◌, OnOk, OnErr};
-ghost use Rattle.zs_world.specs.Changes.{EntitiesFit, with_change};
+ghost use Rattle.zs_world.specs.Changes.{with_change};
+ghost use Rattle.zs_world.specs.EntityChanges.{EntitiesFit};
 
 use super::SessionTables;
 use super::groups::{add_to_group, leave_found};
-use crate::change::{Change, EntityChange};
+use crate::change::{Change, EntityChange, EntityRow};
 use std::alloc::AllocError;
+use zs_events::EntityKind;
 use zs_model::PubRow;
 use zs_tables::GroupKind;
 
 impl SessionTables {
     /// A publisher with the next number is live.
     pub(super) fn add_pub(&mut self, row: PubRow) -> Result<(), AllocError>
-        requires { EntitiesFit self.old (EntityChange.AddPub row) }
-        ensures ok { OnOk result (self.new ≡ with_change (Change.OfEntities (EntityChange.AddPub row)) self.old) }
+        requires { EntitiesFit self.old.counters.entity (EntityChange.Add (EntityRow.Pub row)) }
+        ensures ok { OnOk result (self.new ≡ with_change (Change.OfEntities (EntityChange.Add (EntityRow.Pub row))) self.old) }
         ensures err { OnErr result (self.new ≡ self.old) }
     {
         let aggregates = &self.settings.aggregated_publishers;
@@ -31,7 +33,7 @@ impl SessionTables {
     }
 
     pub(super) fn end_pub(&mut self, id: u32)
-        ensures { self.new ≡ with_change (Change.OfEntities (EntityChange.EndPub id)) self.old }
+        ensures { self.new ≡ with_change (Change.OfEntities (EntityChange.End EntityKind.Pub id)) self.old }
     {
         let row = self.publishers.get(id);
         let aggregates = &self.settings.aggregated_publishers;

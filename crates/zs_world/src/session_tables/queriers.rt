@@ -1,20 +1,22 @@
 //! Queriers, which share a network declaration by their keys.
 
 ghost use Rattle.std.specs.Prelude.{◌≡◌, OnOk, OnErr};
-ghost use Rattle.zs_world.specs.Changes.{EntitiesFit, with_change};
+ghost use Rattle.zs_world.specs.Changes.{with_change};
+ghost use Rattle.zs_world.specs.EntityChanges.{EntitiesFit};
 
 use super::SessionTables;
 use super::groups::{add_to_group, leave_found};
-use crate::change::{Change, EntityChange};
+use crate::change::{Change, EntityChange, EntityRow};
 use std::alloc::AllocError;
+use zs_events::EntityKind;
 use zs_model::{KeyList, QuerierRow};
 use zs_tables::GroupKind;
 
 impl SessionTables {
     /// A querier with the next number is live.
     pub(super) fn add_querier(&mut self, row: QuerierRow) -> Result<(), AllocError>
-        requires { EntitiesFit self.old (EntityChange.AddQuerier row) }
-        ensures ok { OnOk result (self.new ≡ with_change (Change.OfEntities (EntityChange.AddQuerier row)) self.old) }
+        requires { EntitiesFit self.old.counters.entity (EntityChange.Add (EntityRow.Querier row)) }
+        ensures ok { OnOk result (self.new ≡ with_change (Change.OfEntities (EntityChange.Add (EntityRow.Querier row))) self.old) }
         ensures err { OnErr result (self.new ≡ self.old) }
     {
         let alone = KeyList::new();
@@ -32,7 +34,7 @@ impl SessionTables {
 
     /// A querier ends, and its gets and listeners with it.
     pub(super) fn end_querier(&mut self, id: u32)
-        ensures { self.new ≡ with_change (Change.OfEntities (EntityChange.EndQuerier id)) self.old }
+        ensures { self.new ≡ with_change (Change.OfEntities (EntityChange.End EntityKind.Querier id)) self.old }
     {
         let alone = KeyList::new();
         let row = self.queriers.get(id);

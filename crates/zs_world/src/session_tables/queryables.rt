@@ -2,12 +2,14 @@
 
 ghost use Rattle.std.specs.Prelude.{◌≡◌, ◌==◌, Some, None, OnOk, OnErr};
 ghost use Rattle.std.specs.List.{list_any};
-ghost use Rattle.zs_world.specs.Changes.{EntitiesFit, with_change};
+ghost use Rattle.zs_world.specs.Changes.{with_change};
+ghost use Rattle.zs_world.specs.EntityChanges.{EntitiesFit};
 
 use super::SessionTables;
 use super::candidates::{own_queryable_of, recounts_of};
-use crate::change::{Change, EntityChange};
+use crate::change::{Change, EntityChange, EntityRow};
 use std::alloc::AllocError;
+use zs_events::EntityKind;
 use zs_tables::{Candidate, QueryableRow};
 
 impl SessionTables {
@@ -20,8 +22,8 @@ impl SessionTables {
 
     /// A queryable with the next number is live.
     pub(super) fn add_queryable(&mut self, row: QueryableRow) -> Result<(), AllocError>
-        requires { EntitiesFit self.old (EntityChange.AddQueryable row) }
-        ensures ok { OnOk result (self.new ≡ with_change (Change.OfEntities (EntityChange.AddQueryable row)) self.old) }
+        requires { EntitiesFit self.old.counters.entity (EntityChange.Add (EntityRow.Queryable row)) }
+        ensures ok { OnOk result (self.new ≡ with_change (Change.OfEntities (EntityChange.Add (EntityRow.Queryable row))) self.old) }
         ensures err { OnErr result (self.new ≡ self.old) }
     {
         let comes = Some(Candidate::own_queryable(&row));
@@ -33,7 +35,7 @@ impl SessionTables {
     }
 
     pub(super) fn end_queryable(&mut self, id: u32) -> Result<(), AllocError>
-        ensures ok { OnOk result (self.new ≡ with_change (Change.OfEntities (EntityChange.EndQueryable id)) self.old) }
+        ensures ok { OnOk result (self.new ≡ with_change (Change.OfEntities (EntityChange.End EntityKind.Queryable id)) self.old) }
         ensures err { OnErr result (self.new ≡ self.old) }
     {
         let _ascending = self.queryables.len();

@@ -1,48 +1,25 @@
-//! Changes of the subscribers, and the dispatch of all changes of entities.
+//! Changes of the subscribers, and the close.
 
 ghost use Rattle.std.specs.Prelude.{◌≡◌, ◌≢◌, ◌<◌, ◌++◌, ◌∷◌, [], Some, None, All, OnOk, OnErr};
-ghost use Rattle.zs_world.specs.Changes.{EntitiesFit, with_change};
+ghost use Rattle.zs_world.specs.Changes.{with_change};
+ghost use Rattle.zs_world.specs.EntityChanges.{EntitiesFit};
 ghost use Rattle.zs_tables.specs.Groups.{members_of};
 ghost use Rattle.zs_model.specs.Groups.{sub_shared, share_text, joined_by};
 
 use super::SessionTables;
 use super::candidates::{own_sub_of, recounts_of};
 use super::groups::{join_group, leave_found};
-use crate::change::{Change, EntityChange};
+use crate::change::{Change, EntityChange, EntityRow};
 use std::alloc::{AllocError, Global};
+use zs_events::EntityKind;
 use zs_model::{KeyList, copy_of, has_network};
 use zs_tables::{Candidate, GroupKind, Groups, SubRow, Tables};
 
 impl SessionTables {
-    pub(super) fn change_entities(&mut self, change: EntityChange) -> Result<(), AllocError>
-        requires { EntitiesFit self.old change }
-        ensures ok { OnOk result (self.new ≡ with_change (Change.OfEntities change) self.old) }
-        ensures err { OnErr result (self.new ≡ self.old) }
-    {
-        match change {
-            EntityChange::AddSub { row } => self.add_sub(row),
-            EntityChange::EndSub { id } => self.end_sub(id),
-            EntityChange::AddPub { row } => self.add_pub(row),
-            EntityChange::EndPub { id } => {
-                self.end_pub(id);
-                Ok(())
-            }
-            EntityChange::AddQueryable { row } => self.add_queryable(row),
-            EntityChange::EndQueryable { id } => self.end_queryable(id),
-            EntityChange::AddQuerier { row } => self.add_querier(row),
-            EntityChange::EndQuerier { id } => {
-                self.end_querier(id);
-                Ok(())
-            }
-            EntityChange::LeaveSub { id } => self.leave_sub(id),
-            EntityChange::LeaveQueryable { id } => self.leave_queryable(id),
-        }
-    }
-
     /// A subscriber with the next number is live.
-    fn add_sub(&mut self, row: SubRow) -> Result<(), AllocError>
-        requires { EntitiesFit self.old (EntityChange.AddSub row) }
-        ensures ok { OnOk result (self.new ≡ with_change (Change.OfEntities (EntityChange.AddSub row)) self.old) }
+    pub(super) fn add_sub(&mut self, row: SubRow) -> Result<(), AllocError>
+        requires { EntitiesFit self.old.counters.entity (EntityChange.Add (EntityRow.Sub row)) }
+        ensures ok { OnOk result (self.new ≡ with_change (Change.OfEntities (EntityChange.Add (EntityRow.Sub row))) self.old) }
         ensures err { OnErr result (self.new ≡ self.old) }
     {
         let comes = Some(Candidate::own_sub(&row));
@@ -60,8 +37,8 @@ impl SessionTables {
         Ok(())
     }
 
-    fn end_sub(&mut self, id: u32) -> Result<(), AllocError>
-        ensures ok { OnOk result (self.new ≡ with_change (Change.OfEntities (EntityChange.EndSub id)) self.old) }
+    pub(super) fn end_sub(&mut self, id: u32) -> Result<(), AllocError>
+        ensures ok { OnOk result (self.new ≡ with_change (Change.OfEntities (EntityChange.End EntityKind.Sub id)) self.old) }
         ensures err { OnErr result (self.new ≡ self.old) }
     {
         let _ascending = self.tables.len();

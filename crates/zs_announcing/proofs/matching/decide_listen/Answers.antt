@@ -1,8 +1,9 @@
 use Rattle.std.proofs.Common.{◌≡◌, ℕ, true, false, [], ◌∷◌, None, Some, sym, ap, ◌∙◌}
 use Rattle.zs_tables.specs.Listeners.{listed}
 use Rattle.zs_events.specs.Kinds.{parent_kind_of}
-use Rattle.zs_world.specs.declared.change.Change.TheVariants.{OfMatching}
-use Rattle.zs_world.specs.declared.change.MatchingChange.TheVariants.{AddListener}
+use Rattle.zs_world.specs.declared.change.Change.TheVariants.{OfEntities}
+use Rattle.zs_world.specs.declared.change.EntityChange.TheVariants.{Add as AddEntity}
+use Rattle.zs_world.specs.declared.change.EntityRow.TheVariants.{Listener as new_listener}
 use Rattle.zs_model.specs.Settings.{last_entity}
 use Rattle.zs_model.specs.Counters.{is_spent}
 use Rattle.zs_world.specs.World.{World}
@@ -34,5 +35,5 @@ returns c =
     ap (λ (n : ℕ). listening w.entities.pubs w.entities.queriers n (parent_kind_of c.args.parent) c.args.id) (sym same) ∙ sym c.in_ok-row.ensures ∙ ap listed c.in-Some.is in
     let left : is_spent last_entity w.counters.entity ≡ false = unspent_is last_entity c.world.inside.next_entity w.counters.entity same c.if-world-lt1.false in
     c.accepted.ensures
-    ∙ (λ i. decision_of None (Some (same i)) (c.new.ensures i) (OfMatching (AddListener c.in-Some.row)))
+    ∙ (λ i. decision_of None (Some (same i)) (c.new.ensures i) (OfEntities (AddEntity (new_listener c.in-Some.row))))
     ∙ sym (listen_there w c.args.parent c.args.id c.in-Some.row there left)

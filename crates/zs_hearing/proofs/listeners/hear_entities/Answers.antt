@@ -7,22 +7,7 @@ use Rattle.zs_world.specs.Turns.{listener_effects_at}
 use Rattle.zs_world.proofs.Hearing.{quiet}
 use Rattle.zs_hearing.proofs.listeners.hear_entities.Goals as goal
 
-pub returns-in-AddPub : goal.returns-in-AddPub
-returns-in-AddPub c =
+pub returns-in-Leave : goal.returns-in-Leave
+returns-in-Leave c =
     quiet c.args.effects.now c.args.world.now.matching.listeners (present_at c.args.world.now)
-    ∙ ap (λ (change : EntityChange). c.args.effects.now ++ listener_effects_at c.args.world.now (with_change (OfEntities change) c.args.world.now)) (sym c.in-AddPub.is)
-
-pub returns-in-AddQuerier : goal.returns-in-AddQuerier
-returns-in-AddQuerier c =
-    quiet c.args.effects.now c.args.world.now.matching.listeners (present_at c.args.world.now)
-    ∙ ap (λ (change : EntityChange). c.args.effects.now ++ listener_effects_at c.args.world.now (with_change (OfEntities change) c.args.world.now)) (sym c.in-AddQuerier.is)
-
-pub returns-in-LeaveSub : goal.returns-in-LeaveSub
-returns-in-LeaveSub c =
-    quiet c.args.effects.now c.args.world.now.matching.listeners (present_at c.args.world.now)
-    ∙ ap (λ (change : EntityChange). c.args.effects.now ++ listener_effects_at c.args.world.now (with_change (OfEntities change) c.args.world.now)) (sym c.in-LeaveSub.is)
-
-pub returns-in-LeaveQueryable : goal.returns-in-LeaveQueryable
-returns-in-LeaveQueryable c =
-    quiet c.args.effects.now c.args.world.now.matching.listeners (present_at c.args.world.now)
-    ∙ ap (λ (change : EntityChange). c.args.effects.now ++ listener_effects_at c.args.world.now (with_change (OfEntities change) c.args.world.now)) (sym c.in-LeaveQueryable.is)
+    ∙ ap (λ (change : EntityChange). c.args.effects.now ++ listener_effects_at c.args.world.now (with_change (OfEntities change) c.args.world.now)) (sym c.in-Leave.is)

@@ -1,5 +1,5 @@
 use Rattle.zs_world.proofs.Counted.{below_fewer, counted_fewer}
-use Rattle.zs_world.proofs.session_tables.SessionTables.change_matching.Goals as goal
+use Rattle.zs_world.proofs.session_tables.SessionTables.end_listener.Goals as goal
 
 pub invariant_of-self : goal.invariant_of-self
 invariant_of-self c =
