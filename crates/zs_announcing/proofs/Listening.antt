@@ -22,7 +22,7 @@ use Rattle.zs_model.specs.Publishers.{is_pub, pub_at}
 use Rattle.zs_model.specs.Queriers.{is_querier, querier_at}
 use Rattle.zs_model.specs.Listeners.{on_pub, on_querier, listening}
 use Rattle.zs_model.specs.Matching.{as_number}
-use Rattle.zs_world.specs.Turns.{finds, decision_of, open_decision}
+use Rattle.zs_world.specs.Decisions.{finds, decision_of, open_decision}
 
 -- whether there is one
 abbrev is_one : List ListenerRow → Bool

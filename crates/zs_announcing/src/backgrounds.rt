@@ -3,7 +3,7 @@
 ghost use Rattle.std.specs.Prelude.{◌≡◌, ◌==◌, ◌&&◌, not, Some, IfOk};
 ghost use Rattle.std.specs.List.{list_any};
 ghost use Rattle.zs_events.specs.Kinds.{background_kind_of};
-ghost use Rattle.zs_world.specs.Turns.{finds, open_decision};
+ghost use Rattle.zs_world.specs.Decisions.{finds, open_decision};
 
 use crate::matching::names_listener;
 use crate::queryables::names_queryable;

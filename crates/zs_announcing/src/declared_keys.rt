@@ -1,7 +1,7 @@
 //! Keys are declared and given back.
 
 ghost use Rattle.std.specs.Prelude.{◌≡◌, None, IfOk};
-ghost use Rattle.zs_world.specs.Turns.{decision_of, open_decision, own_keys_at};
+ghost use Rattle.zs_world.specs.Decisions.{decision_of, open_decision, own_keys_at};
 ghost use Rattle.zs_model.specs.Sends.{return_sends};
 
 use crate::keys::{has_claim, resolve};

@@ -6,7 +6,7 @@ ghost use Rattle.zs_tables.specs.Recipients.{has_network};
 ghost use Rattle.zs_model.specs.Groups.{aggregate_of, aggregates_of, company_at, joins_first, sends_if, last_sends, leaving, declaration_by, end_by};
 ghost use Rattle.zs_model.specs.Sends.{group_wire};
 ghost use Rattle.zs_model.specs.Effects.{key_wire};
-ghost use Rattle.zs_world.specs.Turns.{own_keys_at};
+ghost use Rattle.zs_world.specs.Decisions.{own_keys_at};
 
 use crate::wires::{declared_by, wire_form};
 use std::alloc::AllocError;
@@ -50,12 +50,12 @@ pub fn joining(
 ) -> Result<Effects, AllocError>
     requires { aggregates.now ≡ aggregates_of kind world.now.settings }
     ensures { IfOk result (λ effects. effects
-        ≡ sends_if (joins_first (company_at world.now.settings world.now.groups kind) (record { id = id; told = has_network destination; text = resolved.now.text }))
+        ≡ sends_if (joins_first (company_at world.now.settings world.now.groups kind) (record { id = id; is_announced = has_network destination; text = resolved.now.text }))
         (declaration_by kind id (group_wire aggregates.now resolved.now.text (key_wire (own_keys_at world.now) resolved.now.text key.now)))) }
 {
     let mut effects = Effects::new(world.alloc);
-    let told = has_network(destination);
-    if joins_first(&world.groups, kind, aggregates, told, resolved) {
+    let is_announced = has_network(destination);
+    if joins_first(&world.groups, kind, aggregates, is_announced, resolved) {
         let wire = group_wire(world, aggregates, key, resolved)?;
         push_send(world.alloc, &mut effects, declaration_by(kind, id, wire))?;
     }
@@ -93,6 +93,6 @@ fn last_number_of<R: Entity>(
     let Some(row) = row else {
         return None;
     };
-    let told = has_network(row.destination());
-    last_number(&world.groups, kind, aggregates, told, row.key())
+    let is_announced = has_network(row.destination());
+    last_number(&world.groups, kind, aggregates, is_announced, row.key())
 }

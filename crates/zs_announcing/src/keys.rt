@@ -58,7 +58,7 @@ pub fn has_claim(world: &SessionTables, key: &KeyArg) -> bool
 
 /// Whether a number that this session declared stands for that text.
 fn stands_under(world: &SessionTables, number: u16, text: &str) -> bool
-    ensures { result ≡ is_key_of text.now (key_at number world.now.keys.own) }
+    ensures { result ≡ is_key_of text.now (key_at number world.now.keys.local_resources) }
 {
     match world.tables.key_of(Mapping::Receiver, number) {
         Some(key) => key.as_str() == text,

@@ -18,8 +18,8 @@ pub use backgrounds::{decide_background, names_lsub};
 pub use declared_keys::{decide_key, decide_undeclare_key};
 pub use keys::{KeyName, resolve, resolve_wire};
 pub use matching::{
-    decide_ended_queryable, decide_ended_sub, decide_listen, decide_status, decide_told_queryable,
-    decide_told_sub, decide_undeclare_listener,
+    decide_ended_queryable, decide_ended_sub, decide_listen, decide_remote_queryable,
+    decide_remote_subscriber, decide_status, decide_undeclare_listener,
 };
 pub use publications::{decide_incoming, decide_publish, declaration_of};
 pub use publishers::{decide_pub, decide_published, decide_undeclare_pub};

@@ -4,7 +4,7 @@ ghost use Rattle.std.specs.Prelude.{◌≡◌, ◌&&◌, ◌==◌, not, Some, If
 ghost use Rattle.std.specs.List.{list_any};
 ghost use Rattle.zs_events.specs.Kinds.{parent_kind_of};
 ghost use Rattle.zs_tables.specs.Listeners.{listed};
-ghost use Rattle.zs_world.specs.Turns.{open_decision};
+ghost use Rattle.zs_world.specs.Decisions.{open_decision};
 ghost use Rattle.zs_model.specs.Listeners.{on_pub, on_querier, listening, is_listener};
 ghost use Rattle.zs_model.specs.Matching.{as_number};
 
@@ -15,7 +15,7 @@ use std::alloc::AllocError;
 use zs_events::{Effects, EntityKind, Event, ParentKind, Refusal};
 use zs_making::matching::{as_number, on_pub, on_querier};
 use zs_model::into_owned;
-use zs_tables::{ListenerRow, ToldQueryable, ToldSub};
+use zs_tables::{ListenerRow, RemoteQueryable, RemoteSubscriber};
 use zs_wire::{Message, WireExpr};
 use zs_world::{Change, Decision, EntityChange, EntityRow, MatchingChange, SessionTables};
 
@@ -64,7 +64,7 @@ pub fn decide_undeclare_listener(world: &SessionTables, id: u32) -> Result<Decis
     Ok(Decision::of(Effects::new(world.alloc), change))
 }
 
-pub fn decide_told_sub(
+pub fn decide_remote_subscriber(
     world: &SessionTables,
     id: u32,
     wire: &WireExpr,
@@ -76,12 +76,12 @@ pub fn decide_told_sub(
         Err(refusal) => return Ok(Decision::refused(world.alloc, refusal)),
     };
     let key = into_owned(world.alloc, key)?;
-    let row = ToldSub { number: id, key };
+    let row = RemoteSubscriber { number: id, key };
     let change = Change::OfMatching(MatchingChange::TellSub { row });
     Ok(Decision::quiet(world.alloc, None, change))
 }
 
-pub fn decide_told_queryable(
+pub fn decide_remote_queryable(
     world: &SessionTables,
     id: u32,
     complete: bool,
@@ -94,7 +94,7 @@ pub fn decide_told_queryable(
         Err(refusal) => return Ok(Decision::refused(world.alloc, refusal)),
     };
     let key = into_owned(world.alloc, key)?;
-    let row = ToldQueryable {
+    let row = RemoteQueryable {
         number: id,
         complete,
         key,
@@ -106,7 +106,7 @@ pub fn decide_told_queryable(
 pub fn decide_ended_sub(world: &SessionTables, id: u32) -> Result<Decision, AllocError>
     ensures { IfOk result (λ made. made ≡ open_decision world.now (Event.Net (Message.UndeclareSubscriber id))) }
 {
-    if !world.matching.told().has_sub(id) {
+    if !world.matching.remote_entities().has_sub(id) {
         return Ok(Decision::refused(world.alloc, Refusal::Ignored));
     }
     let change = Change::OfMatching(MatchingChange::ForgetSub { number: id });
@@ -116,7 +116,7 @@ pub fn decide_ended_sub(world: &SessionTables, id: u32) -> Result<Decision, Allo
 pub fn decide_ended_queryable(world: &SessionTables, id: u32) -> Result<Decision, AllocError>
     ensures { IfOk result (λ made. made ≡ open_decision world.now (Event.Net (Message.UndeclareQueryable id))) }
 {
-    if !world.matching.told().has_queryable(id) {
+    if !world.matching.remote_entities().has_queryable(id) {
         return Ok(Decision::refused(world.alloc, Refusal::Ignored));
     }
     let change = Change::OfMatching(MatchingChange::ForgetQueryable { number: id });

@@ -13,7 +13,7 @@ ghost use Rattle.zs_model.specs.Sends.{declaration_of, prefix_declaration, push_
 ghost use Rattle.zs_model.specs.Publishers.{pub_at};
 ghost use Rattle.zs_model.specs.Effects.{publication_on, hands_for};
 ghost use Rattle.zs_model.specs.Publications.{reached};
-ghost use Rattle.zs_world.specs.Turns.{own_keys_at, publication_effects, publication_decision};
+ghost use Rattle.zs_world.specs.Decisions.{own_keys_at, publication_effects, publication_decision};
 
 use crate::keys::{KeyName, resolve, resolve_wire};
 use crate::queriers::queried;

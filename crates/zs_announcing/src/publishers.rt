@@ -1,7 +1,7 @@
 //! Publishers are declared and undeclared, and publish.
 
 ghost use Rattle.std.specs.Prelude.{◌≡◌, IfOk};
-ghost use Rattle.zs_world.specs.Turns.{open_decision, published_decision};
+ghost use Rattle.zs_world.specs.Decisions.{open_decision, published_decision};
 ghost use Rattle.std.specs.Option.{option_copied};
 ghost use Rattle.zs_model.specs.Publishers.{prefix_of, pub_at};
 

@@ -2,7 +2,7 @@
 
 ghost use Rattle.std.specs.Prelude.{◌≡◌, Some, IfOk};
 ghost use Rattle.std.specs.Option.{option_copied};
-ghost use Rattle.zs_world.specs.Turns.{open_decision};
+ghost use Rattle.zs_world.specs.Decisions.{open_decision};
 ghost use Rattle.zs_model.specs.Queriers.{querier_at, querier_declaration};
 
 use crate::groups::{joining, leaving};

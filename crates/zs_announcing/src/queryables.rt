@@ -2,7 +2,7 @@
 
 ghost use Rattle.std.specs.Prelude.{◌≡◌, ◌++◌, ◌&&◌, ◌==◌, [], not, Some, None, IfOk};
 ghost use Rattle.std.specs.List.{list_any};
-ghost use Rattle.zs_world.specs.Turns.{known_at, open_decision};
+ghost use Rattle.zs_world.specs.Decisions.{known_at, open_decision};
 ghost use Rattle.zs_model.specs.Effects.{entity_sends};
 
 use crate::keys::resolve;

@@ -2,7 +2,7 @@
 
 ghost use Rattle.std.specs.Prelude.{◌≡◌, ◌<◌, Some, IfOk, ◌&&◌, ◌==◌, not};
 ghost use Rattle.zs_events.specs.declared.chan.Chan.{Chan};
-ghost use Rattle.zs_world.specs.Turns.{open_decision};
+ghost use Rattle.zs_world.specs.Decisions.{open_decision};
 ghost use Rattle.std.specs.List.{list_any};
 ghost use Rattle.zs_model.specs.Groups.{leaving};
 ghost use Rattle.zs_model.specs.Subscribers.{is_sub};

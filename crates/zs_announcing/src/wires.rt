@@ -1,7 +1,7 @@
 //! The form that messages give a key: by its number, or whole.
 
 ghost use Rattle.std.specs.Prelude.{◌≡◌, None, Some, IfOk, IfSome, is_some, drop, ◌==◌};
-ghost use Rattle.zs_world.specs.Turns.{own_keys_at};
+ghost use Rattle.zs_world.specs.Decisions.{own_keys_at};
 ghost use Rattle.zs_model.specs.Sends.{goes_by_number, full_wire, wire_form, declared_by};
 
 use std::alloc::AllocError;

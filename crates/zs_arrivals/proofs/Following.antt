@@ -17,7 +17,7 @@ use Rattle.zs_events.specs.declared.turn.Refusal.{Refusal}
 use Rattle.zs_events.specs.Turn.{answered}
 use Rattle.zs_events.specs.Kinds.{NamedKey, Publishes, NoContent, row_of}
 use Rattle.zs_model.specs.Entry.{Entry, is_closed}
-use Rattle.zs_model.specs.Held.{named_text}
+use Rattle.zs_model.specs.HeldKeys.{named_text}
 use Rattle.zs_model.specs.Live.{live_subs, live_pubs}
 use Rattle.zs_model.specs.Causes.{refusal_of}
 use Rattle.zs_model.specs.Past.{entry_of, past_of}

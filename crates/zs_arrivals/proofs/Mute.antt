@@ -25,7 +25,7 @@ use Rattle.zs_tables.specs.MatchingLaws.{differ}
 use Rattle.zs_tables.specs.Recipients.{has_network}
 use Rattle.zs_tables.specs.LivelinessGets.{is_asking, over_at, numbers_with}
 use Rattle.zs_tables.specs.Liveliness.{met_keys, hearers}
-use Rattle.zs_tables.specs.Types.{LivelinessGet as a_liveliness_get, LivelinessSub, ToldToken}
+use Rattle.zs_tables.specs.Types.{LivelinessGet as a_liveliness_get, LivelinessSub, RemoteToken}
 use Rattle.zs_tables.specs.declared.listener.ListenerRow.{ListenerRow}
 use Rattle.zs_tables.specs.declared.queryable.QueryableRow.{QueryableRow}
 use Rattle.zs_tables.specs.declared.subscriber.SubRow.{SubRow}
@@ -43,8 +43,8 @@ use Rattle.zs_model.specs.Matching.{is_matched, turned, listener_effects}
 use Rattle.zs_model.specs.Answers.{local_reply, local_error}
 use Rattle.zs_model.specs.Questions.{request_of}
 use Rattle.zs_model.specs.Sends.{OwnKeys, wire_form, declaration_of, publication_sends, sends_of}
-use Rattle.zs_model.specs.Tokens.{answers, is_told}
-use Rattle.zs_model.specs.LivelinessEffects.{Watch, hand_token, hand_told, hand_answer, end_asking, cancelled_ends, asking_ends, token_hands, history_hands, told_hands, answer_hands, ended_text, watch_effects}
+use Rattle.zs_model.specs.Tokens.{answers, is_remote_token}
+use Rattle.zs_model.specs.LivelinessEffects.{Watch, hand_token, hand_remote_token, hand_answer, end_asking, cancelled_ends, asking_ends, token_hands, history_hands, declared_hands, answer_hands, ended_text, watch_effects}
 use Rattle.zs_model.specs.GetEffects.{hand_reply, hand_query, end_get, last_hands, request_sends, ends_effects, reply_effects, response_effects, final_effects, ended_numbers, cut_effects, told_effects, request_effects, with_gets}
 use Rattle.zs_model.specs.ValueEffects.{Answering, error_effects, replied_effects, reply_for_value, answer_effects, answer_error_effects, finish_effects, value_effects, with_values}
 use Rattle.zs_model.specs.Effects.{Known, to_gets_for, draws_of, answering, entity_sends, hands_of, ends_of, effects_on}
@@ -97,8 +97,8 @@ mute_tokens : (kind : SampleKind) (before : Bool) (text : Option (List ℕ)) (su
 mute_tokens kind before None subs = mute_none
 mute_tokens kind before (Some text) subs = mute_map (hand_token kind text) (λ n id. refl) (hearers before text subs)
 
-mute_history : (history : Bool) (number : Option ℕ) (text : Option (List ℕ)) (tokens : List ToldToken) → IsMute (history_hands history number text tokens)
-mute_history true (Some id) (Some text) tokens = mute_map (hand_told id) (λ key other. refl) (met_keys text tokens)
+mute_history : (history : Bool) (number : Option ℕ) (text : Option (List ℕ)) (tokens : List RemoteToken) → IsMute (history_hands history number text tokens)
+mute_history true (Some id) (Some text) tokens = mute_map (hand_remote_token id) (λ key other. refl) (met_keys text tokens)
 mute_history true (Some id) None tokens = mute_none
 mute_history true None text tokens = mute_none
 mute_history false number text tokens = mute_none
@@ -110,13 +110,13 @@ mute_answer (Some number) (Some text) = λ id. refl
 
 mute_watch : (watch : Watch) (number : Option ℕ) (text : Option (List ℕ)) (to : ToLiveliness) (ends : List Effect) → IsMute ends → IsMute (watch_effects watch number text to ends)
 mute_watch watch number text NoToken ends quiet = quiet
-mute_watch watch number text (Subscribes history) ends quiet = mute_history history number text watch.told
+mute_watch watch number text (Subscribes history) ends quiet = mute_history history number text watch.remote_tokens
 mute_watch watch number text (AsksTokens timeout token) ends quiet = mute_none
 mute_watch watch number text (TellsToken id interest) ends quiet =
-    mute_if (answers interest watch.gets) (answer_hands interest text) (told_hands watch id interest text) (mute_answer interest text)
-    (mute_if (is_told id watch.told) [] (token_hands put_kind (is_some interest) text watch.subs) mute_none (mute_tokens put_kind (is_some interest) text watch.subs))
+    mute_if (answers interest watch.gets) (answer_hands interest text) (declared_hands watch id interest text) (mute_answer interest text)
+    (mute_if (is_remote_token id watch.remote_tokens) [] (token_hands put_kind (is_some interest) text watch.subs) mute_none (mute_tokens put_kind (is_some interest) text watch.subs))
 mute_watch watch number text (EndsToken id interest) ends quiet =
-    mute_tokens delete_kind (is_some interest) (ended_text (find (λ t. t.number == id) watch.told) text) watch.subs
+    mute_tokens delete_kind (is_some interest) (ended_text (find (λ t. t.number == id) watch.remote_tokens) text) watch.subs
 mute_watch watch number text (EndsAnswers None) ends quiet = mute_none
 mute_watch watch number text (EndsAnswers (Some n)) ends quiet = mute_if (is_asking n watch.gets) (end_asking n ∷ []) [] (λ id. refl) mute_none
 

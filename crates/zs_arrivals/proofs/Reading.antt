@@ -18,7 +18,7 @@ use Rattle.zs_events.specs.Kinds.{NamedKey, Publishes, NoContent, OwnContent, By
 use Rattle.zs_model.specs.declared.publisher.PubRow.{PubRow}
 use Rattle.zs_model.specs.declared.settings.Settings.{Settings}
 use Rattle.zs_model.specs.Entry.{Entry, is_closed}
-use Rattle.zs_model.specs.Held.{wire_text, named_text}
+use Rattle.zs_model.specs.HeldKeys.{wire_text, named_text}
 use Rattle.zs_model.specs.Live.{live_pubs}
 use Rattle.zs_model.specs.Causes.{refusal_of}
 use Rattle.zs_model.specs.Past.{entry_of, past_of}

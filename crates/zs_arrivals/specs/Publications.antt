@@ -6,7 +6,7 @@ use Rattle.zs_events.specs.declared.event.Event.{Event}
 use Rattle.zs_events.specs.declared.turn.Refusal.{Refusal}
 use Rattle.zs_model.specs.declared.settings.Settings.{Settings}
 use Rattle.zs_model.specs.Entry.{Entry, is_closed}
-use Rattle.zs_model.specs.Held.{named_text}
+use Rattle.zs_model.specs.HeldKeys.{named_text}
 use Rattle.zs_model.specs.Live.{live_pubs}
 use Rattle.zs_model.specs.Causes.{refusal_of}
 use Rattle.zs_model.specs.Past.{past_of}

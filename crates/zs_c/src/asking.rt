@@ -85,7 +85,14 @@ pub extern "C" fn yq_cancel(
 ) -> u32
     ensures { Called (Some (Cancel token)) slot.old.handle.value slot.new.handle.value answer.old answer.new result }
 {
-    take(alloc, slot, Some(Event::Cancel { token }), answer)
+    take(
+        alloc,
+        slot,
+        Some(Event::Cancel {
+            cancellation_token: token,
+        }),
+        answer,
+    )
 }
 
 /// Answers a query with bytes on a key.

@@ -19,7 +19,7 @@ use Rattle.zs_held.specs.Messages.{turn_messages}
 use Rattle.zs_held.specs.Receipts.{ReceiptSeen}
 use Rattle.zs_model.specs.Effects.{effects}
 use Rattle.zs_cell.specs.Further.{Adds, AddsFinishes}
-use Rattle.zs_cell.specs.Steps.{Takes, Steps}
+use Rattle.zs_cell.specs.Steps.{Takes, TakesAndFinishes}
 use Rattle.zs_caller_laws.specs.Sending.{StepsSendOne}
 
 same_messages : (fx : List Effect) → flat_map sent_by fx ≡ messages_of fx
@@ -49,7 +49,7 @@ adds_all : OneMessageAtMost → (values : List ℕ) (old new : CallerSeen Receip
 adds_all law [] old new same = omega (arith, ap (λ (c : CallerSeen ReceiptSeen). c.sent) same)
 adds_all law (value ∷ values) old new (mid, (adds, rest)) = omega (arith, adds_one law (Finish value) old mid adds, adds_all law values mid new rest)
 
-steps_one : OneMessageAtMost → {old new : CallerSeen ReceiptSeen} {e : Event} {came evicts : Bool} {answer : Answer} {asked : Option Asked} (steps : Steps evicts old e came answer asked new)
+steps_one : OneMessageAtMost → {old new : CallerSeen ReceiptSeen} {e : Event} {came evicts : Bool} {answer : Answer} {asked : Option Asked} (steps : TakesAndFinishes evicts old e came answer asked new)
     → new.sent ≤ old.sent + 1 + length steps.values
 steps_one law {old} {new} steps = omega (arith, takes_one law steps.takes, adds_all law steps.values steps.taken new steps.finishes)
 

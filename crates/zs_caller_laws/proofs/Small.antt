@@ -16,7 +16,7 @@ use Rattle.zs_events.specs.Kinds.{KeyNumber, row_of}
 use Rattle.zs_model.specs.declared.settings.Settings.{Settings}
 use Rattle.zs_model.specs.Settings.{last_key}
 use Rattle.zs_model.specs.Entry.{Entry, is_closed}
-use Rattle.zs_model.specs.Held.{named_text, held_text, stands_for, answers_under, number_among, held_number, key_text}
+use Rattle.zs_model.specs.HeldKeys.{named_text, held_text, stands_for, answers_under, number_among, held_number, key_text}
 use Rattle.zs_model.specs.Live.{live_queryables, to_gets_of}
 use Rattle.zs_model.specs.Values.{met_by, lacks_values}
 use Rattle.zs_model.specs.Counters.{is_spent, next_key, next_value, lacks_number, drawn_number}

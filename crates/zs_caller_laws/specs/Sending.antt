@@ -5,10 +5,10 @@ use Rattle.zs_events.specs.declared.turn.Answer.{Answer}
 use Rattle.zs_books.specs.Callers.{CallerSeen}
 use Rattle.zs_held.specs.declared.asked.Asked.{Asked}
 use Rattle.zs_held.specs.Receipts.{ReceiptSeen}
-use Rattle.zs_cell.specs.Steps.{Takes, Steps}
+use Rattle.zs_cell.specs.Steps.{Takes, TakesAndFinishes}
 
 -- an event that a session took sends one message at most, and each query that is given back with it one more
 pub record StepsSendOne : Type 0 where
   pub event : {old new : CallerSeen ReceiptSeen} {e : Event} {came : Bool} {answer : Answer} {asked : Option Asked} → Takes old e came answer asked new → new.sent ≤ old.sent + 1
-  pub call : {old new : CallerSeen ReceiptSeen} {e : Event} {came evicts : Bool} {answer : Answer} {asked : Option Asked} (steps : Steps evicts old e came answer asked new)
+  pub call : {old new : CallerSeen ReceiptSeen} {e : Event} {came evicts : Bool} {answer : Answer} {asked : Option Asked} (steps : TakesAndFinishes evicts old e came answer asked new)
       → new.sent ≤ old.sent + 1 + length steps.values

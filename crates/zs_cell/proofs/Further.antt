@@ -18,7 +18,7 @@ use Rattle.zs_held.specs.Held.{receipt_of}
 use Rattle.zs_held.specs.Receipts.{ReceiptSeen}
 use Rattle.zs_cell.specs.declared.error.SessionError.{SessionError}
 use Rattle.zs_cell.specs.Further.{Adds, AddsFinishes, AddsSome, asks_queryables}
-use Rattle.zs_cell.specs.Steps.{AcceptsFor, IsRefusal, Steps, Stops, Takes, asked_for}
+use Rattle.zs_cell.specs.Steps.{AcceptsFor, IsRefusal, TakesAndFinishes, Stops, Takes, asked_for}
 use Rattle.zs_cell.specs.Works.{returned, returned_in}
 use Rattle.zs_cell.proofs.Stepping.{stops}
 
@@ -48,7 +48,7 @@ keeps_last {old} {new} some = all_keep some.values old new some.finishes
 
 -- the event that was taken first, and the queries that were given back behind it
 pub steps_of : {old mid new : CallerSeen ReceiptSeen} {event : Event} {came : Bool} {answer : Answer} {asked : Option Asked} (evicts asks : Bool) → asks ≡ asks_queryables event
-    → Takes old event came answer asked mid → AddsSome mid new → (evicts ≡ false → asks ≡ false → new ≡ mid) → Steps evicts old event came answer asked new
+    → Takes old event came answer asked mid → AddsSome mid new → (evicts ≡ false → asks ≡ false → new ≡ mid) → TakesAndFinishes evicts old event came answer asked new
 steps_of {mid} false false is takes some kept = record { taken = mid; takes = takes; values = []; none_come_back = λ _ _. refl; finishes = kept refl refl }
 steps_of {mid} true asks is takes some kept =
     record { taken = mid; takes = takes; values = some.values; none_come_back = λ no _. let wrong : true ≡ false = no in cc; finishes = some.finishes }
@@ -57,16 +57,16 @@ steps_of {mid} false true is takes some kept =
 
 -- an accepted event, by its answer
 pub accepts : {A E : Type 0} {old new : CallerSeen ReceiptSeen} {event : Event} {came evicts : Bool} (answer : Answer) (key : Option Key) (waits : Bool) (result : Result A E) (number : A → Option ℕ) (held : A → Bool)
-    → IfOk result (λ s. answer ≡ accepted (number s)) → IfOk result (λ s. held s ≡ waits) → Steps evicts old event came answer (asked_for answer key waits) new
+    → IfOk result (λ s. answer ≡ accepted (number s)) → IfOk result (λ s. held s ≡ waits) → TakesAndFinishes evicts old event came answer (asked_for answer key waits) new
     → IfOk result (λ s. AcceptsFor evicts old new event came (number s) key (held s))
 accepts {A} {E} {old} {new} {event} {came} {evicts} answer key waits (Done s) number held is same by =
     subst (λ (b : Bool). AcceptsFor evicts old new event came (number s) key b) (sym same)
-    (subst (λ (a : Answer). Steps evicts old event came a (asked_for a key waits) new) is by)
+    (subst (λ (a : Answer). TakesAndFinishes evicts old event came a (asked_for a key waits) new) is by)
 accepts answer key waits (Failed e) number held is same by = tt
 
 -- a refused one
 pub refuses : {A E : Type 0} {old new : CallerSeen ReceiptSeen} {event : Event} {came evicts : Bool} (answer : Answer) (key : Option Key) (waits : Bool) (result : Result A E) (why : E → SessionError)
-    → IfErr result (λ e. IsRefusal answer (why e)) → Steps evicts old event came answer (asked_for answer key waits) new → IfErr result (λ e. Stops evicts old new event came (why e))
+    → IfErr result (λ e. IsRefusal answer (why e)) → TakesAndFinishes evicts old event came answer (asked_for answer key waits) new → IfErr result (λ e. Stops evicts old new event came (why e))
 refuses answer key waits (Done s) why is by = tt
 refuses answer key waits (Failed e) why is by = stops answer key waits (why e) by is
 
@@ -86,7 +86,7 @@ none_come tag asks reports told same so none =
     ap (λ (rs : List (Handed Item _)). returned tag asks rs) same ∙ (ap (λ (b : Bool). returned tag b told) so ∙ none)
 
 -- the last receipt of a caller is that of the event that its call names
-pub last_is : {old new : CallerSeen ReceiptSeen} {event : Event} {came evicts : Bool} {answer : Answer} {asked : Option Asked} (steps : Steps evicts old event came answer asked new)
+pub last_is : {old new : CallerSeen ReceiptSeen} {event : Event} {came evicts : Bool} {answer : Answer} {asked : Option Asked} (steps : TakesAndFinishes evicts old event came answer asked new)
     → new.last ≡ Some (record (receipt_of event came steps.takes.turn (length steps.takes.took.before) old.count) { asked = asked })
 last_is {old} {new} steps = all_keep steps.values steps.taken new steps.finishes ∙ ap (λ (c : CallerSeen ReceiptSeen). c.last) steps.takes.took.caller_is
 
@@ -95,7 +95,7 @@ all_count : (values : List ℕ) (old new : CallerSeen ReceiptSeen) → AddsFinis
 all_count [] old new same = omega (arith, ap (λ (c : CallerSeen ReceiptSeen). c.count) same)
 all_count (v ∷ vs) old new (mid, (adds, rest)) = omega (arith, all_count vs mid new rest, ap (λ (c : CallerSeen ReceiptSeen). c.count) adds.caller_is)
 
-pub count_is : {old new : CallerSeen ReceiptSeen} {event : Event} {came evicts : Bool} {answer : Answer} {asked : Option Asked} (steps : Steps evicts old event came answer asked new)
+pub count_is : {old new : CallerSeen ReceiptSeen} {event : Event} {came evicts : Bool} {answer : Answer} {asked : Option Asked} (steps : TakesAndFinishes evicts old event came answer asked new)
     → new.count ≡ old.count + 1 + length steps.values
 count_is {old} {new} steps = omega (arith, all_count steps.values steps.taken new steps.finishes, ap (λ (c : CallerSeen ReceiptSeen). c.count) steps.takes.took.caller_is)
 

@@ -17,7 +17,7 @@ use Rattle.zs_held.specs.Numbers.{NumbersAreTold}
 use Rattle.zs_held.specs.Receipts.{ReceiptSeen, asked_of}
 use Rattle.zs_cell.specs.declared.error.SessionError.{SessionError}
 use Rattle.zs_cell.specs.declared.error.SessionError.TheVariants.{Refused, OtherSession, NoMemory}
-use Rattle.zs_cell.specs.Steps.{Took, Takes, Steps, Stops, IsNumbered, IsRefusal, asked_for}
+use Rattle.zs_cell.specs.Steps.{Took, Takes, TakesAndFinishes, Stops, IsNumbered, IsRefusal, asked_for}
 use Rattle.zs_cell.specs.Works.{asked_at, back_at}
 
 -- a journal has as many events as entries
@@ -76,8 +76,8 @@ numbered s h event turn told is = go turn.answer (ap (λ (t : Turn). t.answer) i
 
 -- a refused event stops, with its refusal
 pub stops : {old new : CallerSeen ReceiptSeen} {event : Event} {came evicts : Bool} (answer : Answer) (key : Option Key) (held : Bool) (why : SessionError)
-    → Steps evicts old event came answer (asked_for answer key held) new → IsRefusal answer why → Stops evicts old new event came why
-stops {old} {new} {event} {came} {evicts} answer key held (Refused refusal) by is = subst (λ (a : Answer). Steps evicts old event came a (asked_for a key held) new) is by
+    → TakesAndFinishes evicts old event came answer (asked_for answer key held) new → IsRefusal answer why → Stops evicts old new event came why
+stops {old} {new} {event} {came} {evicts} answer key held (Refused refusal) by is = subst (λ (a : Answer). TakesAndFinishes evicts old event came a (asked_for a key held) new) is by
 stops answer key held NoMemory by is = absurd is
 stops answer key held OtherSession by is = is
 

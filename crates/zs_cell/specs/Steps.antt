@@ -34,7 +34,7 @@ pub record Takes (old : CallerSeen ReceiptSeen) (event : Event) (came : Bool) (a
 
 -- and then gave back queries that came back from handlers, each by one event more: none, where the type of the handlers, which gives up
 -- items or not, gives up none, and the event asks no queryables
-pub record Steps (evicts : Bool) (old : CallerSeen ReceiptSeen) (event : Event) (came : Bool) (answer : Answer) (asked : Option Asked) (new : CallerSeen ReceiptSeen) : Type 0 where
+pub record TakesAndFinishes (evicts : Bool) (old : CallerSeen ReceiptSeen) (event : Event) (came : Bool) (answer : Answer) (asked : Option Asked) (new : CallerSeen ReceiptSeen) : Type 0 where
   pub taken : CallerSeen ReceiptSeen
   pub takes : Takes old event came answer asked taken
   pub values : List ℕ
@@ -58,11 +58,11 @@ asked_for answer key held = if was_refused answer then None else asked_of key he
 
 -- the session took the event and accepted it, with that number, and was asked for no gate
 abbrev pub Accepts : Bool → CallerSeen ReceiptSeen → CallerSeen ReceiptSeen → Event → Bool → Option ℕ → Type 0
-Accepts evicts old new event came number = Steps evicts old event came (accepted number) None new
+Accepts evicts old new event came number = TakesAndFinishes evicts old event came (accepted number) None new
 
 -- the same where it was asked for the gate of that key, if there is one, and still held it or not
 abbrev pub AcceptsFor : Bool → CallerSeen ReceiptSeen → CallerSeen ReceiptSeen → Event → Bool → Option ℕ → Option Key → Bool → Type 0
-AcceptsFor evicts old new event came number key held = Steps evicts old event came (accepted number) (asked_of key held) new
+AcceptsFor evicts old new event came number key held = TakesAndFinishes evicts old event came (accepted number) (asked_of key held) new
 
 -- the same of an event without a handler and a number, whether or not the session still held the gate
 pub record AcceptsAsking (evicts : Bool) (old new : CallerSeen ReceiptSeen) (event : Event) (key : Key) : Type 0 where
@@ -71,12 +71,12 @@ pub record AcceptsAsking (evicts : Bool) (old new : CallerSeen ReceiptSeen) (eve
 
 -- the session took the event and refused it, and was asked for no gate, or, where the call says another reason, didn't take it
 abbrev pub Stops : Bool → CallerSeen ReceiptSeen → CallerSeen ReceiptSeen → Event → Bool → SessionError → Type 0
-Stops evicts old new event came (Refused refusal) = Steps evicts old event came (refused refusal) None new
+Stops evicts old new event came (Refused refusal) = TakesAndFinishes evicts old event came (refused refusal) None new
 Stops evicts old new event came NoMemory = new ≡ old
 Stops evicts old new event came OtherSession = ⊥
 
 -- the same where the call may also be handed another session's value: then nothing was stepped either
 abbrev pub StopsOr : Bool → CallerSeen ReceiptSeen → CallerSeen ReceiptSeen → Event → Bool → SessionError → Type 0
-StopsOr evicts old new event came (Refused refusal) = Steps evicts old event came (refused refusal) None new
+StopsOr evicts old new event came (Refused refusal) = TakesAndFinishes evicts old event came (refused refusal) None new
 StopsOr evicts old new event came NoMemory = new ≡ old
 StopsOr evicts old new event came OtherSession = new ≡ old

@@ -70,7 +70,9 @@ impl<H: Handler<Item> + Drop, B: Books> SessionToken<H, B> {
         ensures ok { OnOk result (AcceptsAsking H.evicts caller.old caller.new (Cancel self.now.number) (Key.CancelToken self.now.number)) }
         ensures err { IfErr result (λ why. Stops H.evicts caller.old caller.new (Cancel self.now.number) false why) }
     {
-        let event = Event::Cancel { token: self.number };
+        let event = Event::Cancel {
+            cancellation_token: self.number,
+        };
         self.session
             .tell_and_wait(rt, event, Key::CancelToken(self.number), caller)
     }

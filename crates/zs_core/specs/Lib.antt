@@ -10,14 +10,14 @@ pub use Rattle.zs_world.specs.Changes
 pub use Rattle.zs_world.specs.LivelinessChanges
 pub use Rattle.zs_world.specs.MatchingChanges
 pub use Rattle.zs_world.specs.CancellationChanges
-pub use Rattle.zs_world.specs.Turns
+pub use Rattle.zs_world.specs.Decisions
 pub use Rattle.zs_standing.specs.Stands
 pub use Rattle.zs_standing.specs.Plans
 pub use Rattle.zs_standing.specs.Laws
 pub use Rattle.zs_model.specs.KeyList
 pub use Rattle.zs_model.specs.Settings
 pub use Rattle.zs_model.specs.Entry
-pub use Rattle.zs_model.specs.Held
+pub use Rattle.zs_model.specs.HeldKeys
 pub use Rattle.zs_model.specs.Subscribers
 pub use Rattle.zs_model.specs.Publishers
 pub use Rattle.zs_model.specs.Queryables

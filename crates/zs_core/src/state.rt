@@ -4,8 +4,8 @@ ghost use Rattle.std.specs.Prelude.{◌≡◌, [], true, IsTrue, IfOk, OnOk, OnE
 ghost use Rattle.zs_events.specs.Turn.{was_refused};
 ghost use Rattle.zs_model.specs.Settings.{is_valid};
 ghost use Rattle.zs_world.specs.Changes.{Fits, with_change};
-ghost use Rattle.zs_world.specs.Turns.{decision, with_listeners};
-ghost use Rattle.zs_standing.specs.Stands.{world_after, Steps, Previews, ClosedIs, NowIs, IsHeld, IsLive, IsTaken};
+ghost use Rattle.zs_world.specs.Decisions.{decision, with_listeners};
+ghost use Rattle.zs_standing.specs.Stands.{world_after, TakesStep, Previews, ClosedIs, NowIs, IsHeld, IsLive, IsTaken};
 ghost use Rattle.zs_standing.specs.Plans.{Plans};
 ghost use Rattle.zs_core.specs.Keeping.{KeepsGroups};
 
@@ -88,7 +88,7 @@ impl SessionState {
     /// Takes one event: gives its turn, and changes the session as the event says. What takes memory comes
     /// first, so at an `Err` the session is as it was.
     pub fn step(&mut self, event: &Event) -> Result<Turn, AllocError>
-        ensures ok { IfOk result (λ turn. Steps self.old self.new event.now turn) }
+        ensures ok { IfOk result (λ turn. TakesStep self.old self.new event.now turn) }
         ensures refused { IfOk result (λ turn. was_refused turn.answer ≡ true → self.new ≡ self.old) }
         ensures err { OnErr result (self.new ≡ self.old) }
     {

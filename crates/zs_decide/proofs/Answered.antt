@@ -22,7 +22,7 @@ use Rattle.zs_model.specs.Answers.{is_refused_on, local_reply}
 use Rattle.zs_world.specs.Changes.{replied_change}
 use Rattle.zs_model.specs.Effects.{answering}
 use Rattle.zs_model.specs.ValueEffects.{reply_for_value, error_for_value, finish_effects}
-use Rattle.zs_world.specs.Turns.{known_at, refused_if, decision_of, open_decision, finished_decision, replied_by, answered_by, answer_on, answer_decision, error_answered, error_answer_decision}
+use Rattle.zs_world.specs.Decisions.{known_at, refused_if, decision_of, open_decision, finished_decision, replied_by, answered_by, answer_on, answer_decision, error_answered, error_answer_decision}
 
 -- a value that is given back
 back_by : (w : World) (value : ℕ) (o : Option QueryValue)

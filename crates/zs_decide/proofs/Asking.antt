@@ -26,7 +26,7 @@ use Rattle.zs_model.specs.Values.{met_by, met_by_get, drawn_by, lacks_values}
 use Rattle.zs_model.specs.GetEffects.{request_effects, told_effects, with_gets}
 use Rattle.zs_world.specs.Changes.{get_change, querier_get_change}
 use Rattle.zs_model.specs.Effects.{effects_on}
-use Rattle.zs_world.specs.Turns.{refused_if, first_cause, own_keys_at, known_at, decision_of, open_decision, asked_decision, ask_decision}
+use Rattle.zs_world.specs.Decisions.{refused_if, first_cause, own_keys_at, known_at, decision_of, open_decision, asked_decision, ask_decision}
 use Rattle.zs_model.proofs.Queriers.{found_there, missing_there}
 
 -- a get that no querier asks

@@ -16,7 +16,7 @@ use Rattle.zs_world.specs.World.{World}
 use Rattle.zs_world.specs.Keys.{wire_of, resolution}
 use Rattle.zs_model.specs.Gets.{is_unmet, sample_reply}
 use Rattle.zs_model.specs.GetEffects.{reply_effects}
-use Rattle.zs_world.specs.Turns.{refused_if, decision_of, heard_reply, reply_decision_on, reply_decision}
+use Rattle.zs_world.specs.Decisions.{refused_if, decision_of, heard_reply, reply_decision_on, reply_decision}
 
 by_canonical : (gets : List OpenGet) (number : ℕ) (reply : Replied) (b : Bool) → b ≡ true
     → heard_reply gets number reply

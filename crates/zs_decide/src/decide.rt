@@ -1,7 +1,7 @@
 //! What a session makes of an event: one call for each kind.
 
 ghost use Rattle.std.specs.Prelude.{◌≡◌, None, [], true, IfOk};
-ghost use Rattle.zs_world.specs.Turns.{decision_of, decision, open_decision, closed_cause};
+ghost use Rattle.zs_world.specs.Decisions.{decision_of, decision, open_decision, closed_cause};
 ghost use Rattle.zs_model.specs.Exchanges.{is_exchange};
 
 use answers::{decide_error_to, decide_reply_to};
@@ -62,7 +62,9 @@ fn decide_open(world: &SessionTables, event: &Event) -> Result<Decision, AllocEr
         Event::Undeclare { kind, id } => decide_undeclare(world, *kind, *id),
         Event::Background { kind, id } => decide_background(world, *kind, *id),
         Event::CancelToken => decide_cancel_token(world),
-        Event::Cancel { token } => decide_cancel(world, *token),
+        Event::Cancel {
+            cancellation_token: token,
+        } => decide_cancel(world, *token),
         Event::Share { value } => decide_share(world, *value),
         Event::Finish { value } => decide_finish(world, *value),
         Event::Tick { now } => decide_tick(world, *now),

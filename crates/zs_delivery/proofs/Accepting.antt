@@ -10,7 +10,7 @@ use Rattle.zs_events.specs.Kinds.{Row, row_of}
 use Rattle.zs_core.specs.Types.{Settings}
 use Rattle.zs_events.specs.declared.turn.Refusal.{Refusal}
 use Rattle.zs_core.specs.Entry.{Entry, is_closed}
-use Rattle.zs_core.specs.Held.{wire_text}
+use Rattle.zs_core.specs.HeldKeys.{wire_text}
 use Rattle.zs_core.specs.Seen.{Sight}
 use Rattle.zs_core.specs.Causes.{holds, in_order, first_that, refusal_of}
 

@@ -23,7 +23,7 @@ use Rattle.zs_events.specs.Turn.{answered}
 use Rattle.zs_events.specs.Kinds.{incoming_content}
 use Rattle.zs_core.specs.Types.{Settings}
 use Rattle.zs_core.specs.Entry.{Entry, is_closed}
-use Rattle.zs_core.specs.Held.{wire_text}
+use Rattle.zs_core.specs.HeldKeys.{wire_text}
 use Rattle.zs_core.specs.Live.{live_subs}
 use Rattle.zs_core.specs.Causes.{refusal_of}
 use Rattle.zs_core.specs.Past.{entry_of, past_of}

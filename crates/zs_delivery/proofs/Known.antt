@@ -14,7 +14,7 @@ use Rattle.zs_events.specs.declared.event.Event.TheVariants.{Net}
 use Rattle.zs_events.specs.declared.turn.Refusal.{Refusal}
 use Rattle.zs_core.specs.Types.{Settings}
 use Rattle.zs_core.specs.Entry.{Entry, is_closed}
-use Rattle.zs_core.specs.Held.{tells_number, told_text, mapped_text, wire_text}
+use Rattle.zs_core.specs.HeldKeys.{tells_number, remote_text, mapped_text, wire_text}
 use Rattle.zs_core.specs.Causes.{refusal_of}
 use Rattle.zs_core.specs.Past.{entry_of, with_entry, past_with, past_of}
 use Rattle.zs_core.specs.Received.{of_sender, read_by, number_text, read_as}
@@ -40,14 +40,14 @@ AreSound (message ∷ before) = IsSound before message × AreSound before
 
 -- what a receiver of messages reads of a number, the past knows
 pub record Knows (past : List Entry) (before : List Message) : Type 0 where
-  pub told : (n : ℕ) (text : List ℕ) → (n == 0) ≡ false → number_text n before ≡ Some text → told_text n past ≡ Some text
+  pub told : (n : ℕ) (text : List ℕ) → (n == 0) ≡ false → number_text n before ≡ Some text → remote_text n past ≡ Some text
 
 -- so it reads what a receiver of the messages reads
 pub wire_known : (past : List Entry) (before : List Message) (wire : WireExpr) (text : List ℕ) → Knows past before → read_as before wire ≡ Some text → wire_text past wire ≡ Some text
 wire_known past before wire text knows reads = by (wire.scope == 0) refl reads
   where
     joined : (o : Option (List ℕ)) → number_text wire.scope before ≡ o → (wire.scope == 0) ≡ false → option_map (λ (t : List ℕ). t ++ encode_utf8_all wire.suffix) o ≡ Some text
-        → option_map (λ (t : List ℕ). t ++ encode_utf8_all wire.suffix) (told_text wire.scope past) ≡ Some text
+        → option_map (λ (t : List ℕ). t ++ encode_utf8_all wire.suffix) (remote_text wire.scope past) ≡ Some text
     joined (Some front) at other is = ap (option_map (λ (t : List ℕ). t ++ encode_utf8_all wire.suffix)) (knows.told wire.scope front other at) ∙ is
     joined None at other is = cc
 
@@ -63,13 +63,13 @@ wire_known past before wire text knows reads = by (wire.scope == 0) refl reads
     by false z is = mapped wire.mapping z is
 
 -- an event that tells nothing of a number leaves it as it was
-pub untold : (n : ℕ) (s : Settings) (past : List Entry) (e : Event) → tells_number n e ≡ false → told_text n (past_with s e past) ≡ told_text n past
+pub untold : (n : ℕ) (s : Settings) (past : List Entry) (e : Event) → tells_number n e ≡ false → remote_text n (past_with s e past) ≡ remote_text n past
 untold n s past e tells = go (refusal_of s past e) (is_closed past)
   where
-    go : (o : Option Refusal) (c : Bool) → told_text n (with_entry o c (entry_of s past e) past) ≡ told_text n past
+    go : (o : Option Refusal) (c : Bool) → remote_text n (with_entry o c (entry_of s past e) past) ≡ remote_text n past
     go (Some refusal) c = refl
     go None true = refl
-    go None false = ap (λ (b : Bool). if b then (entry_of s past e).text else told_text n past) tells
+    go None false = ap (λ (b : Bool). if b then (entry_of s past e).text else remote_text n past) tells
 
 -- a session that is open behind an event was open before it
 pub open_before : (s : Settings) (past : List Entry) (e : Event) → is_closed (past_with s e past) ≡ false → is_closed past ≡ false
@@ -86,16 +86,16 @@ open_before s past e unshut = go (refusal_of s past e) (is_closed past) refl uns
 
 -- behind a number that was told and accepted stands its text
 pub told_now : (s : Settings) (past : List Entry) (number : ℕ) (wire : WireExpr) (text : List ℕ) → is_closed past ≡ false → (number == 0) ≡ false
-    → wire_text past wire ≡ Some text → is_canonical text ≡ true → told_text number (past_with s (Net (DeclareKeyExpr number wire)) past) ≡ Some text
+    → wire_text past wire ≡ Some text → is_canonical text ≡ true → remote_text number (past_with s (Net (DeclareKeyExpr number wire)) past) ≡ Some text
 told_now s past number wire text unshut other named canonical =
     go (refusal_of s past (Net (DeclareKeyExpr number wire))) (key_accepted s past number wire text unshut other named canonical) (is_closed past) unshut
   where
-    own : (b : Bool) → b ≡ true → (if b then wire_text past wire else told_text number past) ≡ Some text
+    own : (b : Bool) → b ≡ true → (if b then wire_text past wire else remote_text number past) ≡ Some text
     own true is = named
     own false is = cc
 
     go : (o : Option Refusal) → o ≡ None → (c : Bool) → c ≡ false
-        → told_text number (with_entry o c (entry_of s past (Net (DeclareKeyExpr number wire))) past) ≡ Some text
+        → remote_text number (with_entry o c (entry_of s past (Net (DeclareKeyExpr number wire))) past) ≡ Some text
     go (Some refusal) is c at = cc
     go None is true at = cc
     go None is false at = own (number == number) (grind (arith, nat_tests))
@@ -107,18 +107,18 @@ knows_message s past before (DeclareKeyExpr number wire) unshut sound knows = re
   where
     go : (n : ℕ) (text : List ℕ) → (n == 0) ≡ false → (b : Bool) → (number == n) ≡ b
         → (if b then read_as before wire else number_text n before) ≡ Some text
-        → told_text n (past_with s (Net (DeclareKeyExpr number wire)) past) ≡ Some text
+        → remote_text n (past_with s (Net (DeclareKeyExpr number wire)) past) ≡ Some text
     go n text other false at is = untold n s past (Net (DeclareKeyExpr number wire)) at ∙ knows.told n text other is
     go n text other true at is =
         let same : number ≡ n = eqb-true number n at in
         let its : Some sound.text ≡ Some text = sym sound.reads ∙ is in
-        subst (λ (k : ℕ). told_text k (past_with s (Net (DeclareKeyExpr number wire)) past) ≡ Some text) same
+        subst (λ (k : ℕ). remote_text k (past_with s (Net (DeclareKeyExpr number wire)) past) ≡ Some text) same
         (told_now s past number wire sound.text unshut (subst (λ (k : ℕ). (k == 0) ≡ false) (sym same) other)
         (wire_known past before wire sound.text knows sound.reads) sound.canonical ∙ its)
 knows_message s past before (UndeclareKeyExpr number) unshut sound knows = record { told = λ n text other is. go n text other (number == n) is }
   where
     go : (n : ℕ) (text : List ℕ) → (n == 0) ≡ false → (b : Bool) → (if b then None else number_text n before) ≡ Some text
-        → told_text n (past_with s (Net (UndeclareKeyExpr number)) past) ≡ Some text
+        → remote_text n (past_with s (Net (UndeclareKeyExpr number)) past) ≡ Some text
     go n text other true is = cc
     go n text other false is = untold n s past (Net (UndeclareKeyExpr number)) refl ∙ knows.told n text other is
 knows_message s past before m unshut sound knows = record { told = λ n text other is. untold n s past (Net m) refl ∙ knows.told n text other is }

@@ -18,7 +18,7 @@ use Rattle.zs_events.specs.Kinds.{incoming_content}
 use Rattle.zs_core.specs.Types.{PubRow}
 use Rattle.zs_core.specs.Types.{Settings}
 use Rattle.zs_core.specs.Entry.{Entry, is_closed}
-use Rattle.zs_core.specs.Held.{named_text}
+use Rattle.zs_core.specs.HeldKeys.{named_text}
 use Rattle.zs_core.specs.Live.{live_pubs}
 use Rattle.zs_core.specs.Causes.{refusal_of}
 use Rattle.zs_core.specs.Past.{entry_of, with_entry, past_of}

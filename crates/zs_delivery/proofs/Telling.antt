@@ -8,17 +8,17 @@ use Rattle.zs_keys.specs.Text.{is_canonical}
 use Rattle.zs_wire.specs.declared.message.Message.{Message}
 use Rattle.zs_wire.specs.declared.message.Message.TheVariants.{DeclareSubscriber, UndeclareSubscriber, DeclareQueryable, UndeclareQueryable}
 use Rattle.zs_wire.specs.declared.wire_expr.WireExpr.{WireExpr}
-use Rattle.zs_tables.specs.declared.told_row.ToldSub.{ToldSub}
-use Rattle.zs_tables.specs.declared.told_row.ToldQueryable.{ToldQueryable}
+use Rattle.zs_tables.specs.declared.remote_row.RemoteSubscriber.{RemoteSubscriber}
+use Rattle.zs_tables.specs.declared.remote_row.RemoteQueryable.{RemoteQueryable}
 use Rattle.zs_events.specs.declared.event.Event.{Event}
 use Rattle.zs_events.specs.declared.event.Event.TheVariants.{Net}
 use Rattle.zs_events.specs.declared.turn.Refusal.{Refusal}
 use Rattle.zs_events.specs.Kinds.{ToMatching, TellsSub, TellsQueryable, Row, row_of}
 use Rattle.zs_core.specs.Types.{Settings}
 use Rattle.zs_core.specs.Entry.{Entry, is_closed}
-use Rattle.zs_core.specs.Held.{wire_text}
+use Rattle.zs_core.specs.HeldKeys.{wire_text}
 use Rattle.zs_core.specs.Live.{appended}
-use Rattle.zs_core.specs.Matching.{told_sub_row, renews_sub, told_queryable_row, renews_queryable, remote_subscribers, remote_queryables}
+use Rattle.zs_core.specs.Matching.{remote_subscriber_row, renews_sub, remote_queryable_row, renews_queryable, remote_subscribers, remote_queryables}
 use Rattle.zs_core.specs.Causes.{holds, in_order, first_that, refusal_of}
 use Rattle.zs_core.specs.Past.{entry_of, with_entry, past_with, past_of}
 use Rattle.zs_delivery.specs.Links.{given}
@@ -37,10 +37,10 @@ abbrev pub AreDeclared : List Message → Type 0
 AreDeclared [] = Unit {0}
 AreDeclared (message ∷ before) = IsDeclared before message × AreDeclared before
 
-abbrev pub sub_number : ToldSub → ℕ
+abbrev pub sub_number : RemoteSubscriber → ℕ
 sub_number row = row.number
 
-abbrev pub queryable_number : ToldQueryable → ℕ
+abbrev pub queryable_number : RemoteQueryable → ℕ
 queryable_number row = row.number
 
 -- an open session accepts a declaration whose key it can read
@@ -73,14 +73,14 @@ untold_is true is = cc
 untold_is false is = refl
 
 -- what an accepted event leaves of the rows that the network told
-abbrev pub subs_behind : ToMatching → Option (List ℕ) → List ToldSub → List ToldSub
-subs_behind to text rows = appended (filter (λ row. not (renews_sub to row)) rows) (told_sub_row to text)
+abbrev pub subs_behind : ToMatching → Option (List ℕ) → List RemoteSubscriber → List RemoteSubscriber
+subs_behind to text rows = appended (filter (λ row. not (renews_sub to row)) rows) (remote_subscriber_row to text)
 
-abbrev pub queryables_behind : ToMatching → Option (List ℕ) → List ToldQueryable → List ToldQueryable
-queryables_behind to text rows = appended (filter (λ row. not (renews_queryable to row)) rows) (told_queryable_row to text)
+abbrev pub queryables_behind : ToMatching → Option (List ℕ) → List RemoteQueryable → List RemoteQueryable
+queryables_behind to text rows = appended (filter (λ row. not (renews_queryable to row)) rows) (remote_queryable_row to text)
 
 -- rows of subscribers behind a declaration, an end, and anything else
-pub sub_declared : (number id : ℕ) (rows : List ToldSub) (o : Option (List ℕ)) (text : List ℕ) → o ≡ Some text
+pub sub_declared : (number id : ℕ) (rows : List RemoteSubscriber) (o : Option (List ℕ)) (text : List ℕ) → o ≡ Some text
     → under sub_number id (subs_behind (TellsSub number) o rows) ≡ cond (number == id) (Some (record { number = number; key = undeclared text })) (under sub_number id rows)
 sub_declared number id rows None text is = cc
 sub_declared number id rows (Some t) text is =
@@ -88,7 +88,7 @@ sub_declared number id rows (Some t) text is =
     under_renewed sub_number number id rows (record { number = number; key = undeclared t }) refl
     ∙ ap (λ (x : List ℕ). cond (number == id) (Some (record { number = number; key = undeclared x })) (under sub_number id rows)) same
 
-pub queryable_declared : (number id : ℕ) (complete : Bool) (rows : List ToldQueryable) (o : Option (List ℕ)) (text : List ℕ) → o ≡ Some text
+pub queryable_declared : (number id : ℕ) (complete : Bool) (rows : List RemoteQueryable) (o : Option (List ℕ)) (text : List ℕ) → o ≡ Some text
     → under queryable_number id (queryables_behind (TellsQueryable number complete) o rows)
     ≡ cond (number == id) (Some (record { number = number; complete = complete; key = undeclared text })) (under queryable_number id rows)
 queryable_declared number id complete rows None text is = cc
@@ -108,7 +108,7 @@ stands_in f s past e unshut accepted = go (refusal_of s past e) (is_closed past)
     go None false is at = refl
 
 -- an event that tells nothing of subscribers leaves them as they were
-pub subs_kept : (s : Settings) (past : List Entry) (e : Event) → ((text : Option (List ℕ)) (rows : List ToldSub) → subs_behind (row_of e).to_matching text rows ≡ rows)
+pub subs_kept : (s : Settings) (past : List Entry) (e : Event) → ((text : Option (List ℕ)) (rows : List RemoteSubscriber) → subs_behind (row_of e).to_matching text rows ≡ rows)
     → remote_subscribers (past_with s e past) ≡ remote_subscribers past
 subs_kept s past e kept = go (refusal_of s past e) (is_closed past)
   where
@@ -117,7 +117,7 @@ subs_kept s past e kept = go (refusal_of s past e) (is_closed past)
     go None true = refl
     go None false = kept (entry_of s past e).text (remote_subscribers past)
 
-pub queryables_kept : (s : Settings) (past : List Entry) (e : Event) → ((text : Option (List ℕ)) (rows : List ToldQueryable) → queryables_behind (row_of e).to_matching text rows ≡ rows)
+pub queryables_kept : (s : Settings) (past : List Entry) (e : Event) → ((text : Option (List ℕ)) (rows : List RemoteQueryable) → queryables_behind (row_of e).to_matching text rows ≡ rows)
     → remote_queryables (past_with s e past) ≡ remote_queryables past
 queryables_kept s past e kept = go (refusal_of s past e) (is_closed past)
   where
@@ -185,12 +185,12 @@ told_message s past before (DeclareSubscriber number wire) unshut knows readable
       subs = λ id.
           stands_in (λ (p : List Entry). under sub_number id (remote_subscribers p)) s past (Net (DeclareSubscriber number wire)) unshut accepted
           ∙ sub_declared number id (remote_subscribers past) (wire_text past wire) readable.text named
-          ∙ ap (λ (o : Option ToldSub). cond (number == id) (Some (record { number = number; key = undeclared readable.text })) o) (told.subs id)
+          ∙ ap (λ (o : Option RemoteSubscriber). cond (number == id) (Some (record { number = number; key = undeclared readable.text })) o) (told.subs id)
           ∙ ap (λ (o : Option (List ℕ)). cond (number == id) (option_map (λ (text : List ℕ). record { number = number; key = undeclared text }) o) (declared_sub id before)) (sym readable.reads);
       queryables = λ id. ap (under queryable_number id) (queryables_kept s past (Net (DeclareSubscriber number wire)) (λ text rows. all_kept queryable_number rows)) ∙ told.queryables id;
     }
 told_message s past before (UndeclareSubscriber number) unshut knows readable told = record {
-  subs = λ id. sub_ended s past number id unshut ∙ ap (λ (o : Option ToldSub). cond (number == id) None o) (told.subs id);
+  subs = λ id. sub_ended s past number id unshut ∙ ap (λ (o : Option RemoteSubscriber). cond (number == id) None o) (told.subs id);
   queryables = λ id. ap (under queryable_number id) (queryables_kept s past (Net (UndeclareSubscriber number)) (λ text rows. all_kept queryable_number rows)) ∙ told.queryables id;
 }
 told_message s past before (DeclareQueryable number complete wire) unshut knows readable told =
@@ -202,12 +202,12 @@ told_message s past before (DeclareQueryable number complete wire) unshut knows 
       queryables = λ id.
           stands_in (λ (p : List Entry). under queryable_number id (remote_queryables p)) s past (Net (DeclareQueryable number complete wire)) unshut accepted
           ∙ queryable_declared number id complete (remote_queryables past) (wire_text past wire) readable.text named
-          ∙ ap (λ (o : Option ToldQueryable). cond (number == id) (Some (record { number = number; complete = complete; key = undeclared readable.text })) o) (told.queryables id)
+          ∙ ap (λ (o : Option RemoteQueryable). cond (number == id) (Some (record { number = number; complete = complete; key = undeclared readable.text })) o) (told.queryables id)
           ∙ ap (λ (o : Option (List ℕ)). cond (number == id) (option_map (λ (text : List ℕ). record { number = number; complete = complete; key = undeclared text }) o) (declared_queryable id before)) (sym readable.reads);
     }
 told_message s past before (UndeclareQueryable number) unshut knows readable told = record {
   subs = λ id. ap (under sub_number id) (subs_kept s past (Net (UndeclareQueryable number)) (λ text rows. all_kept sub_number rows)) ∙ told.subs id;
-  queryables = λ id. queryable_ended s past number id unshut ∙ ap (λ (o : Option ToldQueryable). cond (number == id) None o) (told.queryables id);
+  queryables = λ id. queryable_ended s past number id unshut ∙ ap (λ (o : Option RemoteQueryable). cond (number == id) None o) (told.queryables id);
 }
 told_message s past before m unshut knows readable told = record {
   subs = λ id. ap (under sub_number id) (subs_kept s past (Net m) (λ text rows. all_kept sub_number rows)) ∙ told.subs id;
@@ -216,8 +216,8 @@ told_message s past before m unshut knows readable told = record {
 
 -- an event of the application tells nothing of either
 pub told_own : (s : Settings) (past : List Entry) (before : List Message) (e : Event)
-    → ((text : Option (List ℕ)) (rows : List ToldSub) → subs_behind (row_of e).to_matching text rows ≡ rows)
-    → ((text : Option (List ℕ)) (rows : List ToldQueryable) → queryables_behind (row_of e).to_matching text rows ≡ rows)
+    → ((text : Option (List ℕ)) (rows : List RemoteSubscriber) → subs_behind (row_of e).to_matching text rows ≡ rows)
+    → ((text : Option (List ℕ)) (rows : List RemoteQueryable) → queryables_behind (row_of e).to_matching text rows ≡ rows)
     → WasTold past before → WasTold (past_with s e past) before
 told_own s past before e subs queryables told = record {
   subs = λ id. ap (under sub_number id) (subs_kept s past e subs) ∙ told.subs id;

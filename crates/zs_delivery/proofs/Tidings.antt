@@ -4,8 +4,8 @@ use Rattle.std.specs.Prelude.{◌==◌, option_map, filter, None}
 use Rattle.zs_keys.specs.Key.{undeclared}
 use Rattle.zs_wire.specs.declared.message.Message.{Message}
 use Rattle.zs_wire.specs.declared.message.Message.TheVariants.{DeclareSubscriber, UndeclareSubscriber, DeclareQueryable, UndeclareQueryable}
-use Rattle.zs_tables.specs.declared.told_row.ToldSub.{ToldSub}
-use Rattle.zs_tables.specs.declared.told_row.ToldQueryable.{ToldQueryable}
+use Rattle.zs_tables.specs.declared.remote_row.RemoteSubscriber.{RemoteSubscriber}
+use Rattle.zs_tables.specs.declared.remote_row.RemoteQueryable.{RemoteQueryable}
 use Rattle.zs_core.specs.Types.{Settings}
 use Rattle.zs_core.specs.Past.{past_of}
 use Rattle.zs_core.specs.Received.{sent, sent_behind, read_as, AreSpelled, AreUtf8}
@@ -27,16 +27,16 @@ pub same_sub : (id : ℕ) (ms : List Message) → declared_sub id (filter is_eve
 same_sub id [] = refl
 same_sub id (DeclareSubscriber number wire ∷ ms) =
     ap (λ (o : Option (List ℕ)). cond (number == id) (option_map (λ (text : List ℕ). record { number = number; key = undeclared text }) o) (declared_sub id (filter is_event ms))) (same_reading ms wire)
-    ∙ ap (λ (o : Option ToldSub). cond (number == id) (option_map (λ (text : List ℕ). record { number = number; key = undeclared text }) (read_as ms wire)) o) (same_sub id ms)
-same_sub id (UndeclareSubscriber number ∷ ms) = ap (λ (o : Option ToldSub). cond (number == id) None o) (same_sub id ms)
+    ∙ ap (λ (o : Option RemoteSubscriber). cond (number == id) (option_map (λ (text : List ℕ). record { number = number; key = undeclared text }) (read_as ms wire)) o) (same_sub id ms)
+same_sub id (UndeclareSubscriber number ∷ ms) = ap (λ (o : Option RemoteSubscriber). cond (number == id) None o) (same_sub id ms)
 same_sub id (m ∷ ms) = same_sub id ms
 
 pub same_queryable : (id : ℕ) (ms : List Message) → declared_queryable id (filter is_event ms) ≡ declared_queryable id ms
 same_queryable id [] = refl
 same_queryable id (DeclareQueryable number complete wire ∷ ms) =
     ap (λ (o : Option (List ℕ)). cond (number == id) (option_map (λ (text : List ℕ). record { number = number; complete = complete; key = undeclared text }) o) (declared_queryable id (filter is_event ms))) (same_reading ms wire)
-    ∙ ap (λ (o : Option ToldQueryable). cond (number == id) (option_map (λ (text : List ℕ). record { number = number; complete = complete; key = undeclared text }) (read_as ms wire)) o) (same_queryable id ms)
-same_queryable id (UndeclareQueryable number ∷ ms) = ap (λ (o : Option ToldQueryable). cond (number == id) None o) (same_queryable id ms)
+    ∙ ap (λ (o : Option RemoteQueryable). cond (number == id) (option_map (λ (text : List ℕ). record { number = number; complete = complete; key = undeclared text }) (read_as ms wire)) o) (same_queryable id ms)
+same_queryable id (UndeclareQueryable number ∷ ms) = ap (λ (o : Option RemoteQueryable). cond (number == id) None o) (same_queryable id ms)
 same_queryable id (m ∷ ms) = same_queryable id ms
 
 module _ (forms : WireFormsAreRead) (origins : MessagesHaveOrigins) where

@@ -12,7 +12,7 @@ use Rattle.zs_events.specs.declared.key_arg.KeyArg.{KeyArg}
 use Rattle.zs_events.specs.Kinds.{NamedKey, ToGets, NoGet, Asks, AsksBy, Answers, EndsSide, Reaches, EndsQuerier, Cancels, EndsAll, row_of}
 use Rattle.zs_core.specs.Types.{Settings}
 use Rattle.zs_core.specs.Entry.{Entry}
-use Rattle.zs_core.specs.Held.{named_text}
+use Rattle.zs_core.specs.HeldKeys.{named_text}
 use Rattle.zs_core.specs.Past.{entry_of}
 use Rattle.zs_core.specs.Sends.{OwnKeys, wire_form, declaration_of, sends_of}
 use Rattle.zs_core.specs.GetEffects.{request_effects}

@@ -10,15 +10,15 @@ use Rattle.zs_wire.specs.declared.message.Message.TheVariants.{DeclareToken, Und
 use Rattle.zs_wire.specs.declared.wire_expr.WireExpr.{WireExpr}
 use Rattle.zs_tables.specs.Ascending.{placed_by}
 use Rattle.zs_tables.specs.Liveliness.{put_new}
-use Rattle.zs_tables.specs.Types.{LivelinessGet, ToldToken}
+use Rattle.zs_tables.specs.Types.{LivelinessGet, RemoteToken}
 use Rattle.zs_events.specs.declared.event.Event.{Event}
 use Rattle.zs_events.specs.declared.event.Event.TheVariants.{Net}
 use Rattle.zs_events.specs.declared.turn.Refusal.{Refusal}
 use Rattle.zs_events.specs.Kinds.{row_of}
 use Rattle.zs_core.specs.Types.{Settings}
 use Rattle.zs_core.specs.Entry.{Entry, is_closed}
-use Rattle.zs_core.specs.Held.{wire_text}
-use Rattle.zs_core.specs.Tokens.{token_told, told_behind, remote_tokens, is_told, asking_now}
+use Rattle.zs_core.specs.HeldKeys.{wire_text}
+use Rattle.zs_core.specs.Tokens.{with_remote_token, remote_tokens_behind, remote_tokens, is_remote_token, asking_now}
 use Rattle.zs_core.specs.Causes.{holds, in_order, first_that, refusal_of}
 use Rattle.zs_core.specs.Past.{entry_of, with_entry, past_with, past_of}
 use Rattle.zs_delivery.specs.Links.{given}
@@ -29,7 +29,7 @@ use Rattle.zs_delivery.proofs.Renewed.{under_without}
 use Rattle.zs_delivery.proofs.Telling.{stands_in}
 use Rattle.zs_delivery.proofs.TokensKept.{IsPlainToken, ArePlainTokens}
 
-abbrev pub token_number : ToldToken → ℕ
+abbrev pub token_number : RemoteToken → ℕ
 token_number token = token.number
 
 -- an open session accepts a declaration whose key it can read
@@ -48,12 +48,12 @@ end_causes id interest false c unshut =
     subst (λ (b : Bool). first_that (holds b (row_of (Net (UndeclareToken id None interest))) (record (sight_of None) { spared = false })) in_order ≡ None) (sym unshut) refl
 
 -- one more token stands under its number
-under_placed : (id : ℕ) (new : ToldToken) (tokens : List ToldToken)
+under_placed : (id : ℕ) (new : RemoteToken) (tokens : List RemoteToken)
     → find (λ t. t.number == id) (placed_by (λ t. t.number) new tokens) ≡ (if new.number == id then Some new else find (λ t. t.number == id) tokens)
 under_placed id new [] = grind (arith, nat_tests)
 under_placed id new (t ∷ tokens) = grind (arith, nat_tests, under_placed id new tokens)
 
-there_under : (n : ℕ) (tokens : List ToldToken) → list_any (λ t. t.number == n) tokens ≡ true → find (λ t. t.number == n) tokens ≡ None → ⊥
+there_under : (n : ℕ) (tokens : List RemoteToken) → list_any (λ t. t.number == n) tokens ≡ true → find (λ t. t.number == n) tokens ≡ None → ⊥
 there_under n [] there none = cc
 there_under n (t ∷ tokens) there none = go (t.number == n) there none (there_under n tokens)
   where
@@ -62,7 +62,7 @@ there_under n (t ∷ tokens) there none = go (t.number == n) there none (there_u
     go true there none rest = cc
     go false there none rest = rest there none
 
-under_put : (id : ℕ) (new : ToldToken) (tokens : List ToldToken) → find (λ t. t.number == new.number) tokens ≡ None
+under_put : (id : ℕ) (new : RemoteToken) (tokens : List RemoteToken) → find (λ t. t.number == new.number) tokens ≡ None
     → find (λ t. t.number == id) (put_new (λ t. t.number) new tokens) ≡ cond (new.number == id) (Some new) (find (λ t. t.number == id) tokens)
 under_put id new tokens none = go (list_any (λ t. t.number == new.number) tokens) refl
   where
@@ -71,8 +71,8 @@ under_put id new tokens none = go (list_any (λ t. t.number == new.number) token
     go true any = absurd (there_under new.number tokens any none)
     go false any = under_placed id new tokens
 
-token_added : (gets : List LivelinessGet) (number id : ℕ) (tokens : List ToldToken) (o : Option (List ℕ)) (text : List ℕ) → o ≡ Some text → find (λ t. t.number == number) tokens ≡ None
-    → find (λ t. t.number == id) (token_told gets number None o tokens) ≡ cond (number == id) (Some (told_as number text)) (find (λ t. t.number == id) tokens)
+token_added : (gets : List LivelinessGet) (number id : ℕ) (tokens : List RemoteToken) (o : Option (List ℕ)) (text : List ℕ) → o ≡ Some text → find (λ t. t.number == number) tokens ≡ None
+    → find (λ t. t.number == id) (with_remote_token gets number None o tokens) ≡ cond (number == id) (Some (told_as number text)) (find (λ t. t.number == id) tokens)
 token_added gets number id tokens None text is none = cc
 token_added gets number id tokens (Some t) text is none =
     let same : t ≡ text = cc in
@@ -81,7 +81,7 @@ token_added gets number id tokens (Some t) text is none =
 
 -- an event that tells nothing of tokens leaves them as they were
 tokens_kept : (s : Settings) (past : List Entry) (e : Event)
-    → ((gets : List LivelinessGet) (text : Option (List ℕ)) (tokens : List ToldToken) → told_behind gets (row_of e).to_liveliness text tokens ≡ tokens)
+    → ((gets : List LivelinessGet) (text : Option (List ℕ)) (tokens : List RemoteToken) → remote_tokens_behind gets (row_of e).to_liveliness text tokens ≡ tokens)
     → remote_tokens s (past_with s e past) ≡ remote_tokens s past
 tokens_kept s past e kept = go (refusal_of s past e) (is_closed past)
   where
@@ -91,7 +91,7 @@ tokens_kept s past e kept = go (refusal_of s past e) (is_closed past)
     go None false = kept (asking_now s past) (entry_of s past e).text (remote_tokens s past)
 
 -- a session was told just these tokens
-abbrev pub HasHeard : List ToldToken → List Message → Type 0
+abbrev pub HasHeard : List RemoteToken → List Message → Type 0
 HasHeard tokens messages = (id : ℕ) → find (λ t. t.number == id) tokens ≡ declared_token id messages
 
 heard_message : (s : Settings) (past : List Entry) (before : List Message) (m : Message) → is_closed past ≡ false → Knows past before → IsPlainToken before m
@@ -103,22 +103,22 @@ heard_message s past before (DeclareToken number wire None) unshut knows plain h
     token_causes number wire (is_closed past) (wire_text past wire) text unshut named plain.readable.canonical in
     stands_in (λ (p : List Entry). find (λ t. t.number == id) (remote_tokens s p)) s past (Net (DeclareToken number wire None)) unshut accepted
     ∙ token_added (asking_now s past) number id (remote_tokens s past) (wire_text past wire) text named (heard number ∙ plain.new)
-    ∙ ap (λ (o : Option ToldToken). cond (number == id) (Some (told_as number text)) o) (heard id)
+    ∙ ap (λ (o : Option RemoteToken). cond (number == id) (Some (told_as number text)) o) (heard id)
     ∙ ap (λ (o : Option (List ℕ)). cond (number == id) (option_map (λ (t : List ℕ). record { number = number; key = undeclared t }) o) (declared_token id before)) (sym plain.readable.reads)
 heard_message s past before (DeclareToken number wire (Some interest)) unshut knows plain heard = let never : ⊥ = (let asked : Some interest ≡ None = plain.asked in cc) in absurd never
 heard_message s past before (UndeclareToken number None interest) unshut knows plain heard = λ id.
     stands_in (λ (p : List Entry). find (λ t. t.number == id) (remote_tokens s p)) s past (Net (UndeclareToken number None interest)) unshut
-    (end_causes number interest (is_told number (remote_tokens s past)) (is_closed past) unshut)
+    (end_causes number interest (is_remote_token number (remote_tokens s past)) (is_closed past) unshut)
     ∙ under_without token_number number id (remote_tokens s past)
-    ∙ ap (λ (o : Option ToldToken). cond (number == id) None o) (heard id)
+    ∙ ap (λ (o : Option RemoteToken). cond (number == id) None o) (heard id)
 heard_message s past before (UndeclareToken number (Some wire) interest) unshut knows plain heard = cc
 heard_message s past before m unshut knows plain heard = λ id.
-    ap (λ (tokens : List ToldToken). find (λ t. t.number == id) tokens) (tokens_kept s past (Net m) (λ gets text tokens. refl)) ∙ heard id
+    ap (λ (tokens : List RemoteToken). find (λ t. t.number == id) tokens) (tokens_kept s past (Net m) (λ gets text tokens. refl)) ∙ heard id
 
 heard_own : (s : Settings) (past : List Entry) (before : List Message) (e : Event)
-    → ((gets : List LivelinessGet) (text : Option (List ℕ)) (tokens : List ToldToken) → told_behind gets (row_of e).to_liveliness text tokens ≡ tokens)
+    → ((gets : List LivelinessGet) (text : Option (List ℕ)) (tokens : List RemoteToken) → remote_tokens_behind gets (row_of e).to_liveliness text tokens ≡ tokens)
     → HasHeard (remote_tokens s past) before → HasHeard (remote_tokens s (past_with s e past)) before
-heard_own s past before e kept heard = λ id. ap (λ (tokens : List ToldToken). find (λ t. t.number == id) tokens) (tokens_kept s past e kept) ∙ heard id
+heard_own s past before e kept heard = λ id. ap (λ (tokens : List RemoteToken). find (λ t. t.number == id) tokens) (tokens_kept s past e kept) ∙ heard id
 
 -- so an open session was told just what came in, where that was plain
 pub heard_after : (s : Settings) (h : List Event) → is_closed (past_of s h) ≡ false → AreSound (given h) → ArePlainTokens (given h) → HasHeard (remote_tokens s (past_of s h)) (given h)

@@ -4,7 +4,7 @@ use Rattle.std.specs.Prelude.{◌==◌, option_map, filter}
 use Rattle.zs_keys.specs.Key.{undeclared}
 use Rattle.zs_wire.specs.declared.message.Message.{Message}
 use Rattle.zs_wire.specs.declared.message.Message.TheVariants.{DeclareToken, UndeclareToken, Interest}
-use Rattle.zs_tables.specs.Types.{ToldToken}
+use Rattle.zs_tables.specs.Types.{RemoteToken}
 use Rattle.zs_core.specs.Types.{Settings}
 use Rattle.zs_core.specs.Tokens.{remote_tokens}
 use Rattle.zs_core.specs.Past.{past_of}
@@ -28,8 +28,8 @@ same_token : (id : ℕ) (ms : List Message) → declared_token id (filter is_eve
 same_token id [] = refl
 same_token id (DeclareToken number wire interest ∷ ms) =
     ap (λ (o : Option (List ℕ)). cond (number == id) (option_map (λ (text : List ℕ). record { number = number; key = undeclared text }) o) (declared_token id (filter is_event ms))) (same_reading ms wire)
-    ∙ ap (λ (o : Option ToldToken). cond (number == id) (option_map (λ (text : List ℕ). record { number = number; key = undeclared text }) (read_as ms wire)) o) (same_token id ms)
-same_token id (UndeclareToken number wire interest ∷ ms) = ap (λ (o : Option ToldToken). cond (number == id) None o) (same_token id ms)
+    ∙ ap (λ (o : Option RemoteToken). cond (number == id) (option_map (λ (text : List ℕ). record { number = number; key = undeclared text }) (read_as ms wire)) o) (same_token id ms)
+same_token id (UndeclareToken number wire interest ∷ ms) = ap (λ (o : Option RemoteToken). cond (number == id) None o) (same_token id ms)
 same_token id (m ∷ ms) = same_token id ms
 
 -- what was delivered, without interests

@@ -4,7 +4,7 @@ use Rattle.zs_keys.specs.Key.{undeclared}
 use Rattle.zs_wire.specs.declared.message.Message.{Message}
 use Rattle.zs_wire.specs.declared.message.Message.TheVariants.{DeclareToken, UndeclareToken}
 use Rattle.zs_tables.specs.Ascending.{Ascend}
-use Rattle.zs_tables.specs.Types.{ToldToken}
+use Rattle.zs_tables.specs.Types.{RemoteToken}
 use Rattle.zs_events.specs.declared.event.Event.{Event}
 use Rattle.zs_events.specs.declared.event.Event.TheVariants.{Token, Undeclare}
 use Rattle.zs_events.specs.declared.entity_kind.EntityKind.TheVariants.{Token as token_kind}
@@ -18,7 +18,7 @@ use Rattle.zs_delivery.specs.Links.{AreOwn, AreSpelledLines}
 
 -- the token of a number that these messages declare, the newest first, to whoever reads them: as it was declared last, if that was not
 -- ended since
-abbrev pub declared_token : ℕ → List Message → Option ToldToken
+abbrev pub declared_token : ℕ → List Message → Option RemoteToken
 declared_token id [] = None
 declared_token id (DeclareToken number wire interest ∷ before) =
     if number == id then option_map (λ text. record { number = number; key = undeclared text }) (read_as before wire) else declared_token id before
@@ -38,12 +38,12 @@ token_now id [] = None
 token_now id (x ∷ past) = token_with id x.event x.number x.text (token_now id past)
 
 -- a token as a receiver has it
-abbrev pub told_as : ℕ → List ℕ → ToldToken
+abbrev pub told_as : ℕ → List ℕ → RemoteToken
 told_as id text = record { number = id; key = undeclared text }
 
 -- a session has of the other's tokens, each once: under each number that which the messages declare, and this is the token that the
 -- other one's accepted events declared and did not end
-pub record HasTokens (tokens : List ToldToken) (messages : List Message) (past : List Entry) : Type 0 where
+pub record HasTokens (tokens : List RemoteToken) (messages : List Message) (past : List Entry) : Type 0 where
   pub ascend : Ascend (λ token. token.number) tokens
   pub told : (id : ℕ) → find (λ token. token.number == id) tokens ≡ declared_token id messages
   pub declared : (id : ℕ) → declared_token id messages ≡ option_map (told_as id) (token_now id past)
@@ -60,6 +60,6 @@ pub record BothTellTokens (s : Settings) (a b : Side) : Type 0 where
   pub back : TellsTokens (other s) s b a
 
 -- behind every schedule
-abbrev pub ToldTokensAreDeclared : Type 0
-ToldTokensAreDeclared =
+abbrev pub RemoteTokensAreDeclared : Type 0
+RemoteTokensAreDeclared =
     (s : Settings) (h : List LinkLine) → AreSpelled s → AreOwn h → AreSpelledLines h → BothTellTokens s (linked_after s h).a (linked_after s h).b

@@ -5,8 +5,8 @@ use Rattle.zs_keys.specs.Key.{undeclared}
 use Rattle.zs_keys.specs.Text.{is_canonical}
 use Rattle.zs_wire.specs.declared.message.Message.{Message}
 use Rattle.zs_wire.specs.declared.message.Message.TheVariants.{DeclareSubscriber, UndeclareSubscriber, DeclareQueryable, UndeclareQueryable}
-use Rattle.zs_tables.specs.declared.told_row.ToldSub.{ToldSub}
-use Rattle.zs_tables.specs.declared.told_row.ToldQueryable.{ToldQueryable}
+use Rattle.zs_tables.specs.declared.remote_row.RemoteSubscriber.{RemoteSubscriber}
+use Rattle.zs_tables.specs.declared.remote_row.RemoteQueryable.{RemoteQueryable}
 use Rattle.zs_core.specs.Types.{Settings}
 use Rattle.zs_core.specs.Entry.{Entry, is_closed}
 use Rattle.zs_core.specs.Matching.{remote_subscribers, remote_queryables}
@@ -17,7 +17,7 @@ use Rattle.zs_delivery.specs.Links.{AreOwn, AreSpelledLines}
 
 -- the subscriber of a number that these messages declare, the newest first, to whoever reads them: as it was declared last, if that was
 -- not ended since
-abbrev pub declared_sub : ℕ → List Message → Option ToldSub
+abbrev pub declared_sub : ℕ → List Message → Option RemoteSubscriber
 declared_sub id [] = None
 declared_sub id (DeclareSubscriber number wire ∷ before) =
     if number == id then option_map (λ text. record { number = number; key = undeclared text }) (read_as before wire) else declared_sub id before
@@ -25,7 +25,7 @@ declared_sub id (UndeclareSubscriber number ∷ before) = if number == id then N
 declared_sub id (message ∷ before) = declared_sub id before
 
 -- and the queryable
-abbrev pub declared_queryable : ℕ → List Message → Option ToldQueryable
+abbrev pub declared_queryable : ℕ → List Message → Option RemoteQueryable
 declared_queryable id [] = None
 declared_queryable id (DeclareQueryable number complete wire ∷ before) =
     if number == id then option_map (λ text. record { number = number; complete = complete; key = undeclared text }) (read_as before wire)

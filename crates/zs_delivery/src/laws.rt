@@ -3,7 +3,7 @@
 ghost use Rattle.zs_delivery.specs.Links.{LinksAreInOrder};
 ghost use Rattle.zs_delivery.specs.Delivery.{DeliveredAreHanded};
 ghost use Rattle.zs_delivery.specs.Told.{ToldAreDeclared};
-ghost use Rattle.zs_delivery.specs.Tokens.{ToldTokensAreDeclared};
+ghost use Rattle.zs_delivery.specs.Tokens.{RemoteTokensAreDeclared};
 
 use zs_laws::{
     messages_have_origins, sent_keys_are_spelled, spelled_texts_are_utf8, wire_forms_are_read,
@@ -43,8 +43,8 @@ pub fn told_are_declared()
 /// And it was told of exactly those liveliness tokens that the side declared to the network and did not end, each once, in
 /// ascending order of their numbers: those that the side's accepted events declared and no later one ended. No token is told as
 /// the answer to an interest, since a session answers none.
-pub fn told_tokens_are_declared()
-    ensures { ToldTokensAreDeclared }
+pub fn remote_tokens_are_declared()
+    ensures { RemoteTokensAreDeclared }
 {
     wire_forms_are_read();
     messages_have_origins();

@@ -2,7 +2,7 @@
 #![tactic(auto)]
 
 pub use laws::{
-    delivered_are_handed, links_are_in_order, told_are_declared, told_tokens_are_declared,
+    delivered_are_handed, links_are_in_order, remote_tokens_are_declared, told_are_declared,
 };
 pub use side::LinkSide;
 

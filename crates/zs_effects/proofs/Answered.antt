@@ -21,7 +21,7 @@ use Rattle.zs_tables.specs.LivelinessGets.{is_asking, is_over, over_at, numbers_
 use Rattle.zs_tables.specs.MatchingLaws.{differ}
 use Rattle.zs_tables.specs.Recipients.{has_network}
 use Rattle.zs_tables.specs.declared.listener.ListenerRow.{ListenerRow}
-use Rattle.zs_tables.specs.Types.{LivelinessGet as TokensGet, LivelinessSub, ToldToken}
+use Rattle.zs_tables.specs.Types.{LivelinessGet as TokensGet, LivelinessSub, RemoteToken}
 use Rattle.zs_tables.specs.declared.subscriber.SubRow.{SubRow}
 use Rattle.zs_query.specs.declared.open_get.OpenGet.{OpenGet}
 use Rattle.zs_query.specs.declared.outcome.Outcome.{Outcome}
@@ -55,10 +55,10 @@ use Rattle.zs_model.specs.Causes.{refusal_of}
 use Rattle.zs_model.specs.Entry.{Entry, is_closed}
 use Rattle.zs_model.specs.GetEffects.{hand_reply, hand_query, end_get, last_hands, reply_effects, response_effects, final_effects, ends_effects, ended_numbers, cut_effects, ask_effects, asked_effects, request_effects, told_effects, with_gets}
 use Rattle.zs_model.specs.Gets.{sample_reply}
-use Rattle.zs_model.specs.Held.{named_text}
+use Rattle.zs_model.specs.HeldKeys.{named_text}
 use Rattle.zs_model.specs.Listeners.{is_listener, listener_ends}
 use Rattle.zs_model.specs.Live.{live_listeners}
-use Rattle.zs_model.specs.LivelinessEffects.{Watch, hand_token, hand_told, hand_answer, token_reply, end_asking, cancelled_ends, asking_ends, token_hands, history_hands, told_hands, answer_hands, ended_text, watch_effects}
+use Rattle.zs_model.specs.LivelinessEffects.{Watch, hand_token, hand_remote_token, hand_answer, token_reply, end_asking, cancelled_ends, asking_ends, token_hands, history_hands, declared_hands, answer_hands, ended_text, watch_effects}
 use Rattle.zs_model.specs.Matching.{is_matched, turned, listener_effects}
 use Rattle.zs_model.specs.Past.{past_of, entry_of}
 use Rattle.zs_model.specs.Publications.{Publication, sample_on, allows}
@@ -66,7 +66,7 @@ use Rattle.zs_model.specs.Publishers.{resolved}
 use Rattle.zs_model.specs.Queriers.{querier_at, question_of, asks_of}
 use Rattle.zs_model.specs.Questions.{request_of}
 use Rattle.zs_model.specs.Sends.{full_wire, wire_form, declaration_of, sends_of}
-use Rattle.zs_model.specs.Tokens.{answers, is_told, asking_now}
+use Rattle.zs_model.specs.Tokens.{answers, is_remote_token, asking_now}
 use Rattle.zs_model.specs.Values.{drawn_by}
 use Rattle.zs_model.specs.ValueEffects.{Answering, requested_effects, replied_effects, answer_effects, answer_error_effects, finish_effects}
 use Rattle.zs_model.specs.Effects.{Known, known_of, answering, draws_of, entity_sends, hands_of, hands_for, publication_on, ends_of, effects_on, effects_behind}
@@ -122,14 +122,14 @@ module _ (n : ℕ) where
   tokens_quiet kind before None subs = tt
   tokens_quiet kind before (Some text) subs = mapped (hand_token kind text) (λ id. refl) (hearers before text subs)
 
-  history_quiet : (history : Bool) (number : Option ℕ) (text : Option (List ℕ)) (tokens : List ToldToken) → AllByRecursion Quiet (history_hands history number text tokens)
-  history_quiet true (Some id) (Some text) tokens = mapped (hand_told id) (λ key. refl) (met_keys text tokens)
+  history_quiet : (history : Bool) (number : Option ℕ) (text : Option (List ℕ)) (tokens : List RemoteToken) → AllByRecursion Quiet (history_hands history number text tokens)
+  history_quiet true (Some id) (Some text) tokens = mapped (hand_remote_token id) (λ key. refl) (met_keys text tokens)
   history_quiet true (Some id) None tokens = tt
   history_quiet true None text tokens = tt
   history_quiet false number text tokens = tt
 
-  told_quiet : (watch : Watch) (id : ℕ) (interest : Option ℕ) (text : Option (List ℕ)) → AllByRecursion Quiet (told_hands watch id interest text)
-  told_quiet watch id interest text = go (is_told id watch.told)
+  told_quiet : (watch : Watch) (id : ℕ) (interest : Option ℕ) (text : Option (List ℕ)) → AllByRecursion Quiet (declared_hands watch id interest text)
+  told_quiet watch id interest text = go (is_remote_token id watch.remote_tokens)
     where
       go : (b : Bool) → AllByRecursion Quiet (if b then [] else token_hands put_kind (is_some interest) text watch.subs)
       go true = tt
@@ -142,10 +142,10 @@ module _ (n : ℕ) where
   watch_quiet : (watch : Watch) (number : Option ℕ) (text : Option (List ℕ)) (to : ToLiveliness) (ends : List Effect) → TellsNone to → AllByRecursion Quiet ends
       → AllByRecursion Quiet (watch_effects watch number text to ends)
   watch_quiet watch number text NoToken ends is all = all
-  watch_quiet watch number text (Subscribes history) ends is all = history_quiet history number text watch.told
+  watch_quiet watch number text (Subscribes history) ends is all = history_quiet history number text watch.remote_tokens
   watch_quiet watch number text (AsksTokens timeout token) ends is all = tt
   watch_quiet watch number text (TellsToken id interest) ends is all = absurd is
-  watch_quiet watch number text (EndsToken id interest) ends is all = tokens_quiet delete_kind (is_some interest) (ended_text (find (λ t. t.number == id) watch.told) text) watch.subs
+  watch_quiet watch number text (EndsToken id interest) ends is all = tokens_quiet delete_kind (is_some interest) (ended_text (find (λ t. t.number == id) watch.remote_tokens) text) watch.subs
   watch_quiet watch number text (EndsAnswers None) ends is all = tt
   watch_quiet watch number text (EndsAnswers (Some m)) ends is all = if_quiet (is_asking m watch.gets) (end_asking m) refl
 
@@ -313,26 +313,26 @@ module _ (n : ℕ) where
 
   -- an answer
   answered_due : (watch : Watch) (id : ℕ) (interest : Option ℕ) (text : Option (List ℕ)) (live : Bool) → is_asking n watch.gets ≡ live
-      → answered_to n (if answers interest watch.gets then answer_hands interest text else told_hands watch id interest text) ≡ (if live then answer_for n (TellsToken id interest) text ++ [] else [])
-  answered_due watch id None text true is = none (told_hands watch id None text) (told_quiet watch id None text)
-  answered_due watch id None text false is = none (told_hands watch id None text) (told_quiet watch id None text)
+      → answered_to n (if answers interest watch.gets then answer_hands interest text else declared_hands watch id interest text) ≡ (if live then answer_for n (TellsToken id interest) text ++ [] else [])
+  answered_due watch id None text true is = none (declared_hands watch id None text) (told_quiet watch id None text)
+  answered_due watch id None text false is = none (declared_hands watch id None text) (told_quiet watch id None text)
   answered_due watch id (Some m) None live is = go (is_asking m watch.gets) live
     where
-      go : (b live : Bool) → answered_to n (if b then [] else told_hands watch id (Some m) None) ≡ (if live then [] else [])
+      go : (b live : Bool) → answered_to n (if b then [] else declared_hands watch id (Some m) None) ≡ (if live then [] else [])
       go true true = refl
       go true false = refl
-      go false true = none (told_hands watch id (Some m) None) (told_quiet watch id (Some m) None)
-      go false false = none (told_hands watch id (Some m) None) (told_quiet watch id (Some m) None)
+      go false true = none (declared_hands watch id (Some m) None) (told_quiet watch id (Some m) None)
+      go false false = none (declared_hands watch id (Some m) None) (told_quiet watch id (Some m) None)
   answered_due watch id (Some m) (Some text) live is = go (is_asking m watch.gets) refl (m == n) refl live is
     where
-      told : answered_to n (told_hands watch id (Some m) (Some text)) ≡ []
-      told = none (told_hands watch id (Some m) (Some text)) (told_quiet watch id (Some m) (Some text))
+      told : answered_to n (declared_hands watch id (Some m) (Some text)) ≡ []
+      told = none (declared_hands watch id (Some m) (Some text)) (told_quiet watch id (Some m) (Some text))
 
       clash : (b live : Bool) → is_asking m watch.gets ≡ b → (m == n) ≡ true → is_asking n watch.gets ≡ live → b ≡ live
       clash b live is_m same is_n = sym is_m ∙ ap (λ (k : ℕ). is_asking k watch.gets) (eqb-true m n same) ∙ is_n
 
       go : (b : Bool) → is_asking m watch.gets ≡ b → (t : Bool) → (m == n) ≡ t → (live : Bool) → is_asking n watch.gets ≡ live
-          → answered_to n (if b then hand_answer (token_reply text) m ∷ [] else told_hands watch id (Some m) (Some text)) ≡ (if live then (if t then token_reply text ∷ [] else []) ++ [] else [])
+          → answered_to n (if b then hand_answer (token_reply text) m ∷ [] else declared_hands watch id (Some m) (Some text)) ≡ (if live then (if t then token_reply text ∷ [] else []) ++ [] else [])
       go true is_m true same true is_n = rw same refl
       go true is_m true same false is_n = let no : true ≡ false = clash true false is_m same is_n in cc
       go true is_m false same true is_n = rw same refl

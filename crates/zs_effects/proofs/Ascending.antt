@@ -20,7 +20,7 @@ use Rattle.zs_tables.specs.LivelinessGets.{is_asking, is_over, over_at, is_own, 
 use Rattle.zs_tables.specs.MatchingLaws.{differ}
 use Rattle.zs_tables.specs.Recipients.{has_session, has_network}
 use Rattle.zs_tables.specs.declared.listener.ListenerRow.{ListenerRow}
-use Rattle.zs_tables.specs.Types.{LivelinessGet as TokensGet, LivelinessSub, ToldToken}
+use Rattle.zs_tables.specs.Types.{LivelinessGet as TokensGet, LivelinessSub, RemoteToken}
 use Rattle.zs_tables.specs.declared.queryable.QueryableRow.{QueryableRow}
 use Rattle.zs_tables.specs.declared.subscriber.SubRow.{SubRow}
 use Rattle.zs_query.specs.declared.open_get.OpenGet.{OpenGet}
@@ -55,10 +55,10 @@ use Rattle.zs_model.specs.Causes.{refusal_of}
 use Rattle.zs_model.specs.Entry.{Entry, is_closed}
 use Rattle.zs_model.specs.GetEffects.{hand_reply, hand_query, end_get, last_hands, reply_effects, response_effects, final_effects, ends_effects, ended_numbers, cut_effects, ask_effects, asked_effects, request_effects, told_effects, with_gets}
 use Rattle.zs_model.specs.Gets.{sample_reply}
-use Rattle.zs_model.specs.Held.{named_text}
+use Rattle.zs_model.specs.HeldKeys.{named_text}
 use Rattle.zs_model.specs.Listeners.{is_listener, listener_ends}
 use Rattle.zs_model.specs.Live.{live_listeners}
-use Rattle.zs_model.specs.LivelinessEffects.{Watch, hand_token, hand_told, hand_answer, end_asking, cancelled_ends, asking_ends, lsub_ends, token_hands, history_hands, told_hands, answer_hands, ended_text, watch_effects}
+use Rattle.zs_model.specs.LivelinessEffects.{Watch, hand_token, hand_remote_token, hand_answer, end_asking, cancelled_ends, asking_ends, lsub_ends, token_hands, history_hands, declared_hands, answer_hands, ended_text, watch_effects}
 use Rattle.zs_model.specs.Matching.{is_matched, turned, listener_effects}
 use Rattle.zs_model.specs.Past.{past_of, entry_of}
 use Rattle.zs_model.specs.Publications.{Publication, sample_on, allows}
@@ -68,7 +68,7 @@ use Rattle.zs_model.specs.Queryables.{queryable_ends}
 use Rattle.zs_model.specs.Questions.{request_of}
 use Rattle.zs_model.specs.Sends.{full_wire, wire_form, declaration_of, sends_of}
 use Rattle.zs_model.specs.Subscribers.{sub_ends}
-use Rattle.zs_model.specs.Tokens.{answers, is_told}
+use Rattle.zs_model.specs.Tokens.{answers, is_remote_token}
 use Rattle.zs_model.specs.Values.{wants_complete, met_by_get, met_by_request, get_request, network_request, drawn_by}
 use Rattle.zs_model.specs.ValueEffects.{Answering, requested_effects, replied_effects, answer_effects, answer_error_effects, finish_effects}
 use Rattle.zs_model.specs.Effects.{Known, known_of, answering, draws_of, entity_sends, hands_of, hands_for, publication_on, ends_of, effects_on, effects_behind}
@@ -119,9 +119,9 @@ tokens_rising kind before (Some text) subs up =
     (mapped 1 (λ (id : ℕ). id) (hand_token kind text) (record { here = λ id. refl; whose = λ id. refl; next = λ id. omega arith }) (hearers before text subs)
     (ascend_map (λ (id : ℕ). id) (λ (row : LivelinessSub). row.id) (filter (hears before text) subs) (ascend_filter (λ (row : LivelinessSub). row.id) (hears before text) subs up)))
 
-history_rising : (history : Bool) (number : Option ℕ) (text : Option (List ℕ)) (tokens : List ToldToken) → AreRising 1 7 (history_hands history number text tokens)
+history_rising : (history : Bool) (number : Option ℕ) (text : Option (List ℕ)) (tokens : List RemoteToken) → AreRising 1 7 (history_hands history number text tokens)
 history_rising true (Some id) (Some text) tokens =
-    wider 1 1 1 7 _ (omega arith) (omega arith) (still 1 id (hand_told id) (record { here = λ key. refl; whose = λ key. refl; next = λ key. refl }) (met_keys text tokens))
+    wider 1 1 1 7 _ (omega arith) (omega arith) (still 1 id (hand_remote_token id) (record { here = λ key. refl; whose = λ key. refl; next = λ key. refl }) (met_keys text tokens))
 history_rising true (Some id) None tokens = none_rising 1 7
 history_rising true None text tokens = none_rising 1 7
 history_rising false number text tokens = none_rising 1 7
@@ -131,8 +131,8 @@ answer_rising (Some n) (Some text) = wider 2 2 1 7 _ (omega arith) (omega arith)
 answer_rising (Some n) None = none_rising 1 7
 answer_rising None text = none_rising 1 7
 
-told_rising : (watch : Watch) (id : ℕ) (interest : Option ℕ) (text : Option (List ℕ)) → Ascend (λ (row : LivelinessSub). row.id) watch.subs → AreRising 1 7 (told_hands watch id interest text)
-told_rising watch id interest text up = go (is_told id watch.told)
+told_rising : (watch : Watch) (id : ℕ) (interest : Option ℕ) (text : Option (List ℕ)) → Ascend (λ (row : LivelinessSub). row.id) watch.subs → AreRising 1 7 (declared_hands watch id interest text)
+told_rising watch id interest text up = go (is_remote_token id watch.remote_tokens)
   where
     go : (b : Bool) → AreRising 1 7 (if b then [] else token_hands put_kind (is_some interest) text watch.subs)
     go true = none_rising 1 7
@@ -141,14 +141,14 @@ told_rising watch id interest text up = go (is_told id watch.told)
 watch_rising : (watch : Watch) (number : Option ℕ) (text : Option (List ℕ)) (to : ToLiveliness) (ends : List Effect) → Ascend (λ (row : LivelinessSub). row.id) watch.subs → AreRising 3 5 ends
     → AreRising 1 7 (watch_effects watch number text to ends)
 watch_rising watch number text NoToken ends up r = wider 3 5 1 7 ends (omega arith) (omega arith) r
-watch_rising watch number text (Subscribes history) ends up r = history_rising history number text watch.told
+watch_rising watch number text (Subscribes history) ends up r = history_rising history number text watch.remote_tokens
 watch_rising watch number text (AsksTokens timeout token) ends up r = none_rising 1 7
 watch_rising watch number text (TellsToken id interest) ends up r = go (answers interest watch.gets)
   where
-    go : (b : Bool) → AreRising 1 7 (if b then answer_hands interest text else told_hands watch id interest text)
+    go : (b : Bool) → AreRising 1 7 (if b then answer_hands interest text else declared_hands watch id interest text)
     go true = answer_rising interest text
     go false = told_rising watch id interest text up
-watch_rising watch number text (EndsToken id interest) ends up r = tokens_rising delete_kind (is_some interest) (ended_text (find (λ t. t.number == id) watch.told) text) watch.subs up
+watch_rising watch number text (EndsToken id interest) ends up r = tokens_rising delete_kind (is_some interest) (ended_text (find (λ t. t.number == id) watch.remote_tokens) text) watch.subs up
 watch_rising watch number text (EndsAnswers None) ends up r = none_rising 1 7
 watch_rising watch number text (EndsAnswers (Some n)) ends up r = wider 7 7 1 7 _ (omega arith) (omega arith) (if_one 7 (is_asking n watch.gets) (end_asking n) refl)
 
@@ -363,7 +363,7 @@ all_rising known number text (Undeclare querier_sort id) st =
 all_rising known number text (Cancel token) st =
     wider 6 7 0 7 (cut_effects (CancelledBy token) known.gets ++ cancelled_ends token known.watch.gets) (omega arith) (omega arith)
     (gets_rising (ended_numbers (CancelledBy token) known.gets) (numbers_with token known.watch.gets) (numbers_up (λ g. is_end g.row (CancelledBy token)) known.gets st.gets)
-    (tokens_up (λ g. is_own token g.token) known.watch.gets st.asking))
+    (tokens_up (λ g. is_own token g.cancellation_token) known.watch.gets st.asking))
 all_rising known number text (Tick moment) st =
     moment_rising (ends_at moment known.gets) (over_at moment known.watch.gets) (ends_up moment known.gets st.gets) (tokens_up (is_over moment) known.watch.gets st.asking)
 all_rising known number text Close st =

@@ -22,7 +22,7 @@ use Rattle.zs_model.specs.Causes.{refusal_of}
 use Rattle.zs_model.specs.Counters.{draws_entity, next_entity}
 use Rattle.zs_model.specs.Entry.{Entry, is_closed}
 use Rattle.zs_model.specs.Gets.{moment_of}
-use Rattle.zs_model.specs.Held.{named_text}
+use Rattle.zs_model.specs.HeldKeys.{named_text}
 use Rattle.zs_model.specs.Listeners.{on_pub, on_querier, listening, ends_listener}
 use Rattle.zs_model.specs.Live.{appended, live_pubs, live_queriers, live_listeners}
 use Rattle.zs_model.specs.Past.{past_of, entry_of, with_entry}

@@ -14,7 +14,7 @@ use Rattle.zs_events.specs.Kinds.{ToGets, Reaches, ToLiveliness, TellsToken, row
 use Rattle.zs_model.specs.declared.settings.Settings.{Settings}
 use Rattle.zs_model.specs.Causes.{refusal_of}
 use Rattle.zs_model.specs.Entry.{is_closed}
-use Rattle.zs_model.specs.Held.{named_text}
+use Rattle.zs_model.specs.HeldKeys.{named_text}
 use Rattle.zs_model.specs.LivelinessEffects.{token_reply}
 use Rattle.zs_model.specs.Past.{past_of}
 use Rattle.zs_model.specs.Tokens.{asking_now}

@@ -74,7 +74,9 @@ pub fn append_event(out: &mut String, event: &Event) -> Result<bool, AllocError>
             &[Shown::Background(*kind), Shown::Number(*id)],
         ),
         Event::CancelToken => append_line(out, "ctoken", &[]),
-        Event::Cancel { token } => append_line(out, "cancel", &[Shown::Number(*token)]),
+        Event::Cancel {
+            cancellation_token: token,
+        } => append_line(out, "cancel", &[Shown::Number(*token)]),
         Event::Share { value } => append_line(out, "share", &[Shown::Number(*value)]),
         Event::Finish { value } => append_line(out, "finish", &[Shown::Number(*value)]),
         Event::Tick { now } => append_line(out, "tick", &[Shown::Moment(*now)]),

@@ -92,7 +92,7 @@ pub enum Event {
     CancelToken,
     /// The application cancels what was given that token: its open gets end, and nothing more is handed to them.
     Cancel {
-        token: u32,
+        cancellation_token: u32,
     },
     /// The application asks for values of a key.
     Get {
@@ -185,7 +185,9 @@ impl Drop for Event {
             }
             Event::PublishBy { id: _, update } => drop(update),
             Event::CancelToken => {}
-            Event::Cancel { token: _ } => {}
+            Event::Cancel {
+                cancellation_token: _,
+            } => {}
             Event::Get {
                 key,
                 settings: _,

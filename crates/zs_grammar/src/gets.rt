@@ -21,7 +21,9 @@ pub(crate) fn parse_cancel(fields: &mut Fields<'_>) -> Option<Event>
     ensures { result ≡ cancel_of fields.old }
 {
     let token = fields.id()?;
-    fields.finish(Event::Cancel { token })
+    fields.finish(Event::Cancel {
+        cancellation_token: token,
+    })
 }
 
 /// `get LOC SELECTOR` and its options

@@ -11,10 +11,10 @@ use Rattle.zs_events.specs.declared.key_arg.KeyArg.{KeyArg}
 use Rattle.zs_events.specs.declared.key_arg.KeyArg.TheVariants.{Text}
 use Rattle.zs_model.specs.declared.settings.Settings.{Settings}
 use Rattle.zs_model.specs.Entry.{Entry}
-use Rattle.zs_model.specs.Held.{named_text}
+use Rattle.zs_model.specs.HeldKeys.{named_text}
 use Rattle.zs_model.specs.Past.{entry_of}
 use Rattle.zs_model.specs.Matching.{listener_effects}
-use Rattle.zs_model.specs.LivelinessEffects.{history_hands, told_hands, ended_hands}
+use Rattle.zs_model.specs.LivelinessEffects.{history_hands, declared_hands, ended_hands}
 use Rattle.zs_group_laws.specs.Groups.{hearing}
 use Rattle.zs_model.specs.Effects.{Known, known_of, effects_on, effects_behind}
 use Rattle.zs_members.specs.Members.{Member}
@@ -49,7 +49,7 @@ end_behind s past n id view =
 
 -- what the other side tells of a token
 told_on : (known : Known) (n : ℕ) (wire : WireExpr) (number : Option ℕ) (text : Option (List ℕ)) (id : ℕ) (view : List Member)
-    → heard id (effects_on known number text (Net (DeclareToken n wire None))) view ≡ heard id (told_hands known.watch n None text) view
+    → heard id (effects_on known number text (Net (DeclareToken n wire None))) view ≡ heard id (declared_hands known.watch n None text) view
 told_on known n wire number None id view = refl
 told_on known n wire number (Some text) id view = refl
 
@@ -59,7 +59,7 @@ ended_on known n interest number None id view = refl
 ended_on known n interest number (Some text) id view = refl
 
 pub told_behind_hands : (s : Settings) (past : List Entry) (n : ℕ) (wire : WireExpr) (id : ℕ) (view : List Member)
-    → heard id (effects_behind s past (Net (DeclareToken n wire None))) view ≡ heard id (told_hands (known_of s past).watch n None (named_text past (Net (DeclareToken n wire None)))) view
+    → heard id (effects_behind s past (Net (DeclareToken n wire None))) view ≡ heard id (declared_hands (known_of s past).watch n None (named_text past (Net (DeclareToken n wire None)))) view
 told_behind_hands s past n wire id view =
     let e = Net (DeclareToken n wire None) in
     heard_behind s past e id view ∙ told_on (known_of s past) n wire (entry_of s past e).number (named_text past e) id view
@@ -72,8 +72,8 @@ ended_behind_hands s past n interest id view =
     heard_behind s past e id view ∙ ended_on (known_of s past) n interest (entry_of s past e).number (named_text past e) id view
 
 -- where nothing was told yet, a new subscriber hears nothing
-hearing_on : (known : Known) (history : Bool) (key : KeyArg) (number : Option ℕ) (text : Option (List ℕ)) (id : ℕ) → known.watch.told ≡ []
-    → heard id (effects_on known number text (Lsub history key)) [] ≡ heard id (history_hands history number text known.watch.told) []
+hearing_on : (known : Known) (history : Bool) (key : KeyArg) (number : Option ℕ) (text : Option (List ℕ)) (id : ℕ) → known.watch.remote_tokens ≡ []
+    → heard id (effects_on known number text (Lsub history key)) [] ≡ heard id (history_hands history number text known.watch.remote_tokens) []
 hearing_on known history key None None id none = refl
 hearing_on known history key None (Some text) id none = refl
 hearing_on known history key (Some number) None id none = refl

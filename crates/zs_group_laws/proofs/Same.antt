@@ -4,32 +4,32 @@ use Rattle.std.specs.Prelude.{◌==◌, nat_lt, find}
 use Rattle.std.specs.List.{AllByRecursion}
 use Rattle.std.proofs.lemmas.Bool.Decides.{nat_tests}
 use Rattle.zs_tables.specs.Ascending.{Ascend}
-use Rattle.zs_tables.specs.Types.{ToldToken}
+use Rattle.zs_tables.specs.Types.{RemoteToken}
 
-abbrev token_number : ToldToken → ℕ
+abbrev token_number : RemoteToken → ℕ
 token_number t = t.number
 
-abbrev pub under : ℕ → List ToldToken → Option ToldToken
-under n tokens = find (λ (t : ToldToken). t.number == n) tokens
+abbrev pub under : ℕ → List RemoteToken → Option RemoteToken
+under n tokens = find (λ (t : RemoteToken). t.number == n) tokens
 
 -- nothing stands below the first number
-below_none : (n : ℕ) (tokens : List ToldToken) → AllByRecursion (λ later. n < later.number) tokens → under n tokens ≡ None
+below_none : (n : ℕ) (tokens : List RemoteToken) → AllByRecursion (λ later. n < later.number) tokens → under n tokens ≡ None
 below_none n [] all = refl
 below_none n (t ∷ tokens) all =
     let other : (t.number == n) ≡ false = grind (arith, nat_tests, all.0) in
     ap (λ (b : Bool). cond b (Some t) (under n tokens)) other ∙ below_none n tokens all.1
 
-below_more : (m n : ℕ) (tokens : List ToldToken) → m < n → AllByRecursion (λ later. n < later.number) tokens → AllByRecursion (λ later. m < later.number) tokens
+below_more : (m n : ℕ) (tokens : List RemoteToken) → m < n → AllByRecursion (λ later. n < later.number) tokens → AllByRecursion (λ later. m < later.number) tokens
 below_more m n [] less all = tt
 below_more m n (t ∷ tokens) less all = (omega (arith, less, all.0), below_more m n tokens less all.1)
 
-itself : (t : ToldToken) (tokens : List ToldToken) → under t.number (t ∷ tokens) ≡ Some t
+itself : (t : RemoteToken) (tokens : List RemoteToken) → under t.number (t ∷ tokens) ≡ Some t
 itself t tokens =
     let same : (t.number == t.number) ≡ true = grind (arith, nat_tests) in
     ap (λ (b : Bool). cond b (Some t) (under t.number tokens)) same
 
 -- the first ones have the same number
-not_below : (x y : ToldToken) (xs ys : List ToldToken) → AllByRecursion (λ later. y.number < later.number) ys
+not_below : (x y : RemoteToken) (xs ys : List RemoteToken) → AllByRecursion (λ later. y.number < later.number) ys
     → ((n : ℕ) → under n (x ∷ xs) ≡ under n (y ∷ ys)) → nat_lt x.number y.number ≡ true → ⊥
 not_below x y xs ys up same less =
     let before : x.number < y.number = grind (arith, nat_tests, less) in
@@ -37,7 +37,7 @@ not_below x y xs ys up same less =
     let never : Some x ≡ None = sym (itself x xs) ∙ same x.number ∙ none in
     cc
 
-rest_same : (x : ToldToken) (xs ys : List ToldToken) → AllByRecursion (λ later. x.number < later.number) xs → AllByRecursion (λ later. x.number < later.number) ys
+rest_same : (x : RemoteToken) (xs ys : List RemoteToken) → AllByRecursion (λ later. x.number < later.number) xs → AllByRecursion (λ later. x.number < later.number) ys
     → ((n : ℕ) → under n (x ∷ xs) ≡ under n (x ∷ ys)) → (n : ℕ) → under n xs ≡ under n ys
 rest_same x xs ys up up' same n = go (x.number == n) refl (same n)
   where
@@ -47,7 +47,7 @@ rest_same x xs ys up up' same n = go (x.number == n) refl (same n)
         subst (λ (k : ℕ). under k xs ≡ under k ys) number (below_none x.number xs up ∙ sym (below_none x.number ys up'))
     go false is both = both
 
-pub same_tokens : (xs ys : List ToldToken) → Ascend (λ t. t.number) xs → Ascend (λ t. t.number) ys → ((n : ℕ) → under n xs ≡ under n ys) → xs ≡ ys
+pub same_tokens : (xs ys : List RemoteToken) → Ascend (λ t. t.number) xs → Ascend (λ t. t.number) ys → ((n : ℕ) → under n xs ≡ under n ys) → xs ≡ ys
 same_tokens [] [] up up' same = refl
 same_tokens [] (y ∷ ys) up up' same = let never : None ≡ Some y = same y.number ∙ itself y ys in cc
 same_tokens (x ∷ xs) [] up up' same = let never : Some x ≡ None = sym (itself x xs) ∙ same x.number in cc
@@ -55,10 +55,10 @@ same_tokens (x ∷ xs) (y ∷ ys) up up' same = go (nat_lt x.number y.number) (n
   where
     equal : (((n : ℕ) → under n xs ≡ under n ys) → xs ≡ ys) → x ≡ y → x ∷ xs ≡ y ∷ ys
     equal later is =
-        let ups : AllByRecursion (λ later. x.number < later.number) ys = subst (λ (k : ℕ). AllByRecursion (λ (later : ToldToken). k < later.number) ys) (sym (ap token_number is)) up'.0 in
+        let ups : AllByRecursion (λ later. x.number < later.number) ys = subst (λ (k : ℕ). AllByRecursion (λ (later : RemoteToken). k < later.number) ys) (sym (ap token_number is)) up'.0 in
         let rest : (n : ℕ) → under n xs ≡ under n ys =
-        rest_same x xs ys up.0 ups (subst (λ (t : ToldToken). (n : ℕ) → under n (x ∷ xs) ≡ under n (t ∷ ys)) (sym is) same) in
-        ap (λ (t : ToldToken). t ∷ xs) is ∙ ap (λ (more : List ToldToken). y ∷ more) (later rest)
+        rest_same x xs ys up.0 ups (subst (λ (t : RemoteToken). (n : ℕ) → under n (x ∷ xs) ≡ under n (t ∷ ys)) (sym is) same) in
+        ap (λ (t : RemoteToken). t ∷ xs) is ∙ ap (λ (more : List RemoteToken). y ∷ more) (later rest)
 
     first : x.number ≡ y.number → x ≡ y
     first number =

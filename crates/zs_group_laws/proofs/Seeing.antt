@@ -3,7 +3,7 @@ use Rattle.std.proofs.Common.{◌≡◌, ℕ, ◌+◌, true, false, List, [], �
 use Rattle.std.specs.Prelude.{codes}
 use Rattle.std.specs.Str.{chars, all_scalars}
 use Rattle.std.proofs.lemmas.Str.{scalars-chars, IsUtf8-from_ascii}
-use Rattle.zs_tables.specs.Types.{ToldToken}
+use Rattle.zs_tables.specs.Types.{RemoteToken}
 use Rattle.zs_events.specs.declared.event.Event.{Event}
 use Rattle.zs_events.specs.declared.event.Event.TheVariants.{Token, Undeclare}
 use Rattle.zs_model.specs.declared.settings.Settings.{Settings}
@@ -11,10 +11,10 @@ use Rattle.zs_model.specs.Past.{past_of}
 use Rattle.zs_model.specs.Tokens.{remote_tokens}
 use Rattle.zs_delivery.specs.Linked.{Side, LinkLine, Take, Deliver, other, linked_after}
 use Rattle.zs_delivery.specs.Links.{is_net, AreOwn, AreSpelledLines}
-use Rattle.zs_delivery.specs.Tokens.{TellsTokens, BothTellTokens, ToldTokensAreDeclared}
+use Rattle.zs_delivery.specs.Tokens.{TellsTokens, BothTellTokens, RemoteTokensAreDeclared}
 use Rattle.zs_members.proofs.Counting.{same_counts}
 use Rattle.zs_group_lines.specs.Membership.{view_of}
-use Rattle.zs_group_laws.specs.Groups.{kept, IsMemberEvent, AreMemberLines, first_links, held_count, told_count, as_told, HoldsMembers, SeesAll, SeesMembers, SidesSeeMembers}
+use Rattle.zs_group_laws.specs.Groups.{kept, IsMemberEvent, AreMemberLines, first_links, held_count, remote_token_count, as_told, HoldsMembers, SeesAll, SeesMembers, SidesSeeMembers}
 use Rattle.zs_group_laws.proofs.Starting.{ascii}
 use Rattle.zs_group_laws.proofs.Viewing.{IsView, view_held, counts_held}
 use Rattle.zs_group_laws.proofs.Same.{same_tokens}
@@ -43,7 +43,7 @@ sees_all : (s t : Settings) (side opposite : Side) → SideStands s side → Sid
 sees_all s t side opposite one two tells idle name =
     let mine = (kept s side.history).tokens in
     sees s side one name
-    ∙ ap (λ (tokens : List ToldToken). held_count name mine + told_count name tokens) (told_held t s opposite side two one tells idle)
+    ∙ ap (λ (tokens : List RemoteToken). held_count name mine + remote_token_count name tokens) (told_held t s opposite side two one tells idle)
     ∙ ap (λ (n : ℕ). held_count name mine + n) (sym (held_told name (kept t opposite.history).tokens))
 
 turned : (m n : ℕ) → m + n ≡ n + m
@@ -78,7 +78,7 @@ spelled_lines : (lines : List LinkLine) → all_scalars (chars (codes "group/*")
 spelled_lines [] scalar spelled = (scalar, (scalar, tt))
 spelled_lines (line ∷ lines) scalar spelled = (spelled.0, spelled_lines lines scalar spelled.1)
 
-pub both_see : ToldTokensAreDeclared → SidesSeeMembers
+pub both_see : RemoteTokensAreDeclared → SidesSeeMembers
 both_see told s lines aggregates first second fine spelled =
     let w = linked_after s (lines ++ first_links) in
     let both : BothStand s w.a w.b = both_stand s lines first second fine in

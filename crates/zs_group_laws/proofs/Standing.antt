@@ -17,7 +17,7 @@ use Rattle.zs_events.specs.declared.turn.Turn.{Turn}
 use Rattle.zs_events.specs.Turn.{answered}
 use Rattle.zs_model.specs.declared.settings.Settings.{Settings}
 use Rattle.zs_model.specs.Entry.{Entry, is_closed}
-use Rattle.zs_model.specs.Held.{named_text}
+use Rattle.zs_model.specs.HeldKeys.{named_text}
 use Rattle.zs_model.specs.Live.{drew_as, ends_as, live_lsubs}
 use Rattle.zs_model.proofs.Entities.{message_none}
 use Rattle.zs_model.specs.Causes.{refusal_of}

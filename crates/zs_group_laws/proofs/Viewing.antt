@@ -2,7 +2,7 @@
 use Rattle.std.proofs.Common.{◌≡◌, ℕ, ◌+◌, ◌-◌, Bool, true, false, List, [], ◌∷◌, Option, Some, None, refl, ◌∙◌, ap, arith, cond}
 use Rattle.std.specs.Prelude.{bytes_eq, encode_utf8_all}
 use Rattle.zs_wire.specs.declared.sample_kind.SampleKind.TheVariants.{Put, Delete}
-use Rattle.zs_members.specs.Members.{Member, Ascend, AreThere, count_of, changed}
+use Rattle.zs_members.specs.Members.{Member, NamesAscend, AreThere, count_of, changed}
 use Rattle.zs_members.specs.Names.{name_in}
 use Rattle.zs_members.proofs.Counting.{ascend_raised, there_raised, count_raised, ascend_lowered, there_lowered, count_lowered}
 use Rattle.zs_group_lines.specs.declared.tokens.Token.{Token}
@@ -11,7 +11,7 @@ use Rattle.zs_group_laws.specs.Groups.{stands_for, one_if, held_count}
 
 -- a view as it always is
 pub record IsView (view : List Member) : Type 0 where
-  pub ascend : Ascend view
+  pub ascend : NamesAscend view
   pub there : AreThere view
 
 pub view_raised : (o : Option (List ℕ)) (view : List Member) → IsView view → IsView (raised_in o view)
@@ -27,11 +27,11 @@ pub put_raises : (o : Option (List ℕ)) (view : List Member) → changed o Put 
 put_raises None view = refl
 put_raises (Some name) view = refl
 
-pub counts_raised : (q : List ℕ) (o : Option (List ℕ)) (view : List Member) → Ascend view → count_of q (raised_in o view) ≡ one_if (stands_for q o) (count_of q view)
+pub counts_raised : (q : List ℕ) (o : Option (List ℕ)) (view : List Member) → NamesAscend view → count_of q (raised_in o view) ≡ one_if (stands_for q o) (count_of q view)
 counts_raised q None view ascend = refl
 counts_raised q (Some name) view ascend = count_raised q name view ascend
 
-pub counts_lowered : (q : List ℕ) (o : Option (List ℕ)) (view : List Member) (left : ℕ) → Ascend view → count_of q view ≡ one_if (stands_for q o) left
+pub counts_lowered : (q : List ℕ) (o : Option (List ℕ)) (view : List Member) (left : ℕ) → NamesAscend view → count_of q view ≡ one_if (stands_for q o) left
     → count_of q (changed o Delete view) ≡ left
 counts_lowered q None view left ascend is = is
 counts_lowered q (Some name) view left ascend is = count_lowered q name view ascend ∙ go (bytes_eq q name) is

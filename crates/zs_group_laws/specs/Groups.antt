@@ -4,7 +4,7 @@ use Rattle.std.specs.List.{AllByRecursion}
 use Rattle.std.specs.Str.{chars}
 use Rattle.zs_keys.specs.Key.{undeclared}
 use Rattle.zs_tables.specs.Ascending.{Ascend}
-use Rattle.zs_tables.specs.Types.{LivelinessSub, ToldToken}
+use Rattle.zs_tables.specs.Types.{LivelinessSub, RemoteToken}
 use Rattle.zs_events.specs.declared.entity_kind.EntityKind.{EntityKind}
 use Rattle.zs_events.specs.declared.entity_kind.EntityKind.TheVariants.{Token as token_kind}
 use Rattle.zs_events.specs.declared.event.Event.{Event}
@@ -98,20 +98,20 @@ held_count name [] = 0
 held_count name (token ∷ tokens) = one_if (stands_for name (name_in (encode_utf8_all token.key))) (held_count name tokens)
 
 -- and how many of those that it was told and that were not ended
-abbrev pub told_count : List ℕ → List ToldToken → ℕ
-told_count name [] = 0
-told_count name (token ∷ tokens) = one_if (stands_for name (name_in token.key.text)) (told_count name tokens)
+abbrev pub remote_token_count : List ℕ → List RemoteToken → ℕ
+remote_token_count name [] = 0
+remote_token_count name (token ∷ tokens) = one_if (stands_for name (name_in token.key.text)) (remote_token_count name tokens)
 
 -- a side sees of each name as many as it holds and as it was told
 abbrev pub SeesMembers : Settings → Side → Type 0
 SeesMembers s side =
-    (name : List ℕ) → count_of name (view_of (kept s side.history)) ≡ held_count name (kept s side.history).tokens + told_count name (remote_tokens s (past_of s side.history))
+    (name : List ℕ) → count_of name (view_of (kept s side.history)) ≡ held_count name (kept s side.history).tokens + remote_token_count name (remote_tokens s (past_of s side.history))
 
 -- a token that a side holds, as the other is told of it
-abbrev pub told_of : Token → ToldToken
+abbrev pub told_of : Token → RemoteToken
 told_of token = told_as token.id (encode_utf8_all token.key)
 
-abbrev pub as_told : List Token → List ToldToken
+abbrev pub as_told : List Token → List RemoteToken
 as_told tokens = map told_of tokens
 
 -- the tokens that a side holds are those that its accepted events declared and did not end: under each number that one, and they ascend

@@ -2,7 +2,7 @@
 
 ghost use Rattle.zs_group_laws.specs.Groups.{DefaultSessionsStart, SidesSeeMembers};
 
-use zs_delivery::told_tokens_are_declared;
+use zs_delivery::remote_tokens_are_declared;
 
 /// Behind every schedule of joins, leaves and deliveries, the tokens that a side holds are those that its accepted events declared
 /// and did not end. It sees of each name as many as it holds tokens itself and as it was told tokens of the other side that were
@@ -10,7 +10,7 @@ use zs_delivery::told_tokens_are_declared;
 pub fn sides_see_members()
     ensures { SidesSeeMembers }
 {
-    told_tokens_are_declared();
+    remote_tokens_are_declared();
 }
 
 /// Sessions of the default settings accept the first declaration: so the law above says something of them.

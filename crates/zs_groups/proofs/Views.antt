@@ -14,7 +14,7 @@ use Rattle.zs_delivery.specs.Linked.{LinkLine, other, linked_after}
 use Rattle.zs_members.specs.Members.{count_of}
 use Rattle.zs_group_lines.specs.declared.membership.Membership.{Membership}
 use Rattle.zs_group_lines.specs.Membership.{noted, view_of}
-use Rattle.zs_group_laws.specs.Groups.{turn_behind, kept as kept_behind, held_count, told_count, HoldsDeclared, BothSee, SidesSeeMembers}
+use Rattle.zs_group_laws.specs.Groups.{turn_behind, kept as kept_behind, held_count, remote_token_count, HoldsDeclared, BothSee, SidesSeeMembers}
 use Rattle.zs_groups.specs.Told.{kept, membership_at, first_links}
 use Rattle.zs_groups.specs.Language.{links_behind, group_language}
 use Rattle.zs_groups.specs.Laws.{ShowsMembers, HoldsMembers, ShowsAll, BothShow, ViewsShowMembers}
@@ -48,10 +48,10 @@ behind_links s links both = record {
   where
     go : (side : LinkSide) → ShowsMembers s links side
     go A name =
-        subst (λ (m : Membership). count_of name (view_of m) ≡ held_count name m.tokens + told_count name (remote_tokens s (past_of s (linked_after s links).a.history)))
+        subst (λ (m : Membership). count_of name (view_of m) ≡ held_count name m.tokens + remote_token_count name (remote_tokens s (past_of s (linked_after s links).a.history)))
         (same_kept s (linked_after s links).a.history) (both.of_a name)
     go B name =
-        subst (λ (m : Membership). count_of name (view_of m) ≡ held_count name m.tokens + told_count name (remote_tokens (other s) (past_of (other s) (linked_after s links).b.history)))
+        subst (λ (m : Membership). count_of name (view_of m) ≡ held_count name m.tokens + remote_token_count name (remote_tokens (other s) (past_of (other s) (linked_after s links).b.history)))
         (same_kept (other s) (linked_after s links).b.history) (both.of_b name)
 
     hold : (side : LinkSide) → HoldsMembers s links side

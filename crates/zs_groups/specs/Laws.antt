@@ -11,7 +11,7 @@ use Rattle.zs_delivery.specs.declared.side.LinkSide.TheVariants.{A, B}
 use Rattle.zs_delivery.specs.Linked.{LinkLine, other, linked_after}
 use Rattle.zs_members.specs.Members.{count_of}
 use Rattle.zs_group_lines.specs.Membership.{view_of}
-use Rattle.zs_group_laws.specs.Groups.{HoldsDeclared, Starts, held_count, told_count}
+use Rattle.zs_group_laws.specs.Groups.{HoldsDeclared, Starts, held_count, remote_token_count}
 use Rattle.zs_groups.specs.Told.{settings_of, side_of, opposite, membership_at, waiting_at}
 use Rattle.zs_groups.specs.Language.{group_language, links_behind}
 
@@ -19,7 +19,7 @@ use Rattle.zs_groups.specs.Language.{group_language, links_behind}
 abbrev pub ShowsMembers : Settings → List LinkLine → LinkSide → Type 0
 ShowsMembers s links side =
     (name : List ℕ) → count_of name (view_of (membership_at s side links))
-    ≡ held_count name (membership_at s side links).tokens + told_count name (remote_tokens (settings_of side s) (past_of (settings_of side s) (side_of side (linked_after s links)).history))
+    ≡ held_count name (membership_at s side links).tokens + remote_token_count name (remote_tokens (settings_of side s) (past_of (settings_of side s) (side_of side (linked_after s links)).history))
 
 -- the tokens that it holds are those that its accepted events declared and did not end
 abbrev pub HoldsMembers : Settings → List LinkLine → LinkSide → Type 0

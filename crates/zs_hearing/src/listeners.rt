@@ -1,8 +1,8 @@
 //! What listeners hear of a change.
 
 ghost use Rattle.std.specs.Prelude.{◌≡◌, ◌++◌, ◌∷◌, [], ◌==◌, map, filter, OnOk};
-ghost use Rattle.zs_tables.specs.Matching.{own_sub, own_queryable, told_sub, told_queryable, seen_if, recounts, is_heard};
-ghost use Rattle.zs_world.specs.Turns.{listener_effects_at};
+ghost use Rattle.zs_tables.specs.Matching.{own_sub, own_queryable, remote_subscriber, remote_queryable, seen_if, recounts, is_heard};
+ghost use Rattle.zs_world.specs.Decisions.{listener_effects_at};
 ghost use Rattle.zs_world.specs.Changes.{Fits, with_change};
 ghost use Rattle.zs_world.specs.EntityChanges.{EntitiesFit};
 ghost use Rattle.zs_world.specs.MatchingTables.{heard_effect};
@@ -12,11 +12,12 @@ ghost use Rattle.zs_tables.specs.Ascending.{Ascend};
 use std::alloc::AllocError;
 use zs_events::{Effect, Effects, EntityKind, Kind};
 use zs_tables::{
-    Candidate, ListenerRow, ListenerTable, QueryableRow, Recount, SubRow, ToldQueryable, ToldSub,
+    Candidate, ListenerRow, ListenerTable, QueryableRow, Recount, RemoteQueryable,
+    RemoteSubscriber, SubRow,
 };
 use zs_world::{
     Change, EntityChange, EntityRow, MatchingChange, SessionTables, own_queryable_of, own_sub_of,
-    told_queryable_of, told_sub_of,
+    remote_queryable_of, remote_subscriber_of,
 };
 
 /// What a change means to listeners: those that it ends are called no more, and those hear of it for which it changes
@@ -106,11 +107,11 @@ fn hear_matching(
     ensures { OnOk result (effects.new ≡ effects.old ++ listener_effects_at world.now (with_change (Change.OfMatching change.now) world.now)) }
 {
     match change {
-        MatchingChange::TellSub { row } => hear_told_sub(world, row, effects),
-        MatchingChange::ForgetSub { number } => hear_told_sub_end(world, *number, effects),
-        MatchingChange::TellQueryable { row } => hear_told_queryable(world, row, effects),
+        MatchingChange::TellSub { row } => hear_remote_subscriber(world, row, effects),
+        MatchingChange::ForgetSub { number } => hear_remote_subscriber_end(world, *number, effects),
+        MatchingChange::TellQueryable { row } => hear_remote_queryable(world, row, effects),
         MatchingChange::ForgetQueryable { number } => {
-            hear_told_queryable_end(world, *number, effects)
+            hear_remote_queryable_end(world, *number, effects)
         }
     }
 }
@@ -211,22 +212,22 @@ fn hear_listener_end(
 }
 
 /// The network tells a subscriber, in place of the one of its number.
-fn hear_told_sub(
+fn hear_remote_subscriber(
     world: &SessionTables,
-    row: &ToldSub,
+    row: &RemoteSubscriber,
     effects: &mut Effects,
 ) -> Result<(), AllocError>
     ensures { OnOk result (effects.new ≡ effects.old
         ++ listener_effects_at world.now (with_change (Change.OfMatching (MatchingChange.TellSub row.now)) world.now)) }
 {
-    let _ascending = world.matching.told().sub_count();
-    let goes = told_sub_of(world.matching.told(), row.number);
-    let comes = Some(Candidate::told_sub(row));
+    let _ascending = world.matching.remote_entities().sub_count();
+    let goes = remote_subscriber_of(world.matching.remote_entities(), row.number);
+    let comes = Some(Candidate::remote_subscriber(row));
     push_heard(world.matching.listeners(), goes, comes, effects)
 }
 
 /// The network ends a subscriber.
-fn hear_told_sub_end(
+fn hear_remote_subscriber_end(
     world: &SessionTables,
     number: u32,
     effects: &mut Effects,
@@ -234,28 +235,28 @@ fn hear_told_sub_end(
     ensures { OnOk result (effects.new ≡ effects.old
         ++ listener_effects_at world.now (with_change (Change.OfMatching (MatchingChange.ForgetSub number)) world.now)) }
 {
-    let _ascending = world.matching.told().sub_count();
-    let goes = told_sub_of(world.matching.told(), number);
+    let _ascending = world.matching.remote_entities().sub_count();
+    let goes = remote_subscriber_of(world.matching.remote_entities(), number);
     push_heard(world.matching.listeners(), goes, None, effects)
 }
 
 /// The network tells a queryable, in place of the one of its number.
-fn hear_told_queryable(
+fn hear_remote_queryable(
     world: &SessionTables,
-    row: &ToldQueryable,
+    row: &RemoteQueryable,
     effects: &mut Effects,
 ) -> Result<(), AllocError>
     ensures { OnOk result (effects.new ≡ effects.old
         ++ listener_effects_at world.now (with_change (Change.OfMatching (MatchingChange.TellQueryable row.now)) world.now)) }
 {
-    let _ascending = world.matching.told().queryable_count();
-    let goes = told_queryable_of(world.matching.told(), row.number);
-    let comes = Some(Candidate::told_queryable(row));
+    let _ascending = world.matching.remote_entities().queryable_count();
+    let goes = remote_queryable_of(world.matching.remote_entities(), row.number);
+    let comes = Some(Candidate::remote_queryable(row));
     push_heard(world.matching.listeners(), goes, comes, effects)
 }
 
 /// The network ends a queryable.
-fn hear_told_queryable_end(
+fn hear_remote_queryable_end(
     world: &SessionTables,
     number: u32,
     effects: &mut Effects,
@@ -263,8 +264,8 @@ fn hear_told_queryable_end(
     ensures { OnOk result (effects.new ≡ effects.old
         ++ listener_effects_at world.now (with_change (Change.OfMatching (MatchingChange.ForgetQueryable number)) world.now)) }
 {
-    let _ascending = world.matching.told().queryable_count();
-    let goes = told_queryable_of(world.matching.told(), number);
+    let _ascending = world.matching.remote_entities().queryable_count();
+    let goes = remote_queryable_of(world.matching.remote_entities(), number);
     push_heard(world.matching.listeners(), goes, None, effects)
 }
 

@@ -12,7 +12,7 @@ use Rattle.zs_wire.specs.declared.sample_kind.SampleKind.TheVariants.{Put as put
 use Rattle.zs_query.proofs.Ascending.{all_append, all_filter}
 use Rattle.zs_tables.specs.Liveliness.{met_keys, hears, hearers}
 use Rattle.zs_tables.specs.LivelinessGets.{is_asking}
-use Rattle.zs_tables.specs.Types.{LivelinessGet as TokensGet, LivelinessSub, ToldToken}
+use Rattle.zs_tables.specs.Types.{LivelinessGet as TokensGet, LivelinessSub, RemoteToken}
 use Rattle.zs_tables.specs.declared.queryable.QueryableRow.{QueryableRow}
 use Rattle.zs_tables.specs.declared.subscriber.SubRow.{SubRow}
 use Rattle.zs_tables.proofs.Ascending.{all_map}
@@ -29,8 +29,8 @@ use Rattle.zs_model.specs.Subscribers.{sub_ends}
 use Rattle.zs_model.specs.Publishers.{resolved}
 use Rattle.zs_model.specs.Queryables.{queryable_ends}
 use Rattle.zs_model.specs.Sends.{sends_of}
-use Rattle.zs_model.specs.Tokens.{answers, is_told}
-use Rattle.zs_model.specs.LivelinessEffects.{Watch, token_sample, hand_token, hand_told, token_reply, end_asking, lsub_ends, token_hands, history_hands, told_hands, answer_hands, ended_text, watch_effects}
+use Rattle.zs_model.specs.Tokens.{answers, is_remote_token}
+use Rattle.zs_model.specs.LivelinessEffects.{Watch, token_sample, hand_token, hand_remote_token, token_reply, end_asking, lsub_ends, token_hands, history_hands, declared_hands, answer_hands, ended_text, watch_effects}
 use Rattle.zs_model.specs.Effects.{Known, entity_sends, publication_on, hands_for, hands_of, ends_of}
 use Rattle.zs_laws.proofs.Sends.{entity_cases, sends_cases}
 
@@ -99,11 +99,11 @@ tokens_around P kind before (Some text) subs all =
     all_map R P (hand_token kind text) (λ id holds. holds (token_sample kind text)) (hearers before text subs)
     (all_map Q R (λ (row : LivelinessSub). row.id) (λ row holds. holds) kept (all_filter Q (hears before text) subs all))
 
-history_around : (P : Effect → Type 0) (history : Bool) (number : Option ℕ) (text : Option (List ℕ)) (tokens : List ToldToken)
+history_around : (P : Effect → Type 0) (history : Bool) (number : Option ℕ) (text : Option (List ℕ)) (tokens : List RemoteToken)
     → ((id : ℕ) → number ≡ Some id → (sample : SampleFields) → P (Hand (sample_for LivelinessSubscriber id sample))) → AllByRecursion P (history_hands history number text tokens)
 history_around P true (Some id) (Some text) tokens at = go (met_keys text tokens)
   where
-    go : (keys : List a_key) → AllByRecursion P (map (hand_told id) keys)
+    go : (keys : List a_key) → AllByRecursion P (map (hand_remote_token id) keys)
     go [] = tt
     go (key ∷ keys) = (at id refl (token_sample put_kind key.text), go keys)
 history_around P true (Some id) None tokens at = tt
@@ -120,8 +120,8 @@ any_holds f Q R at (x ∷ xs) all any = go (f x) refl any (any_holds f Q R at xs
     go false is any ih = ih any
 
 told_around : (P : Effect → Type 0) (watch : Watch) (id : ℕ) (interest : Option ℕ) (text : Option (List ℕ))
-    → AllByRecursion (λ (row : LivelinessSub). (sample : SampleFields) → P (Hand (sample_for LivelinessSubscriber row.id sample))) watch.subs → AllByRecursion P (told_hands watch id interest text)
-told_around P watch id interest text all = go (is_told id watch.told)
+    → AllByRecursion (λ (row : LivelinessSub). (sample : SampleFields) → P (Hand (sample_for LivelinessSubscriber row.id sample))) watch.subs → AllByRecursion P (declared_hands watch id interest text)
+told_around P watch id interest text all = go (is_remote_token id watch.remote_tokens)
   where
     go : (b : Bool) → AllByRecursion P (if b then [] else token_hands put_kind (is_some interest) text watch.subs)
     go true = tt
@@ -140,15 +140,15 @@ answer_around P gets None text is all = tt
 watch_around : (P : Effect → Type 0) (known : Known) (e : Event) (number : Option ℕ) (text : Option (List ℕ)) (to : ToLiveliness) → (row_of e).to_liveliness ≡ to → (ends : List Effect) → Around known e number P → AllByRecursion P ends
     → AllByRecursion P (watch_effects known.watch number text to ends)
 watch_around P known e number text NoToken same ends by all = all
-watch_around P known e number text (Subscribes history) same ends by all = history_around P history number text known.watch.told (by.own history same)
+watch_around P known e number text (Subscribes history) same ends by all = history_around P history number text known.watch.remote_tokens (by.own history same)
 watch_around P known e number text (AsksTokens timeout token) same ends by all = tt
 watch_around P known e number text (TellsToken id interest) same ends by all = go (answers interest known.watch.gets) refl
   where
-    go : (b : Bool) → answers interest known.watch.gets ≡ b → AllByRecursion P (if b then answer_hands interest text else told_hands known.watch id interest text)
+    go : (b : Bool) → answers interest known.watch.gets ≡ b → AllByRecursion P (if b then answer_hands interest text else declared_hands known.watch id interest text)
     go true is = answer_around P known.watch.gets interest text is by.asking
     go false is = told_around P known.watch id interest text by.lsub
 watch_around P known e number text (EndsToken id interest) same ends by all =
-    tokens_around P delete_kind (is_some interest) (ended_text (find (λ t. t.number == id) known.watch.told) text) known.watch.subs by.lsub
+    tokens_around P delete_kind (is_some interest) (ended_text (find (λ t. t.number == id) known.watch.remote_tokens) text) known.watch.subs by.lsub
 watch_around P known e number text (EndsAnswers None) same ends by all = tt
 watch_around P known e number text (EndsAnswers (Some n)) same ends by all = go (is_asking n known.watch.gets) refl
   where

@@ -42,7 +42,7 @@ use Rattle.zs_model.specs.GetEffects.{asked_effects, request_effects}
 use Rattle.zs_model.specs.ValueEffects.{Answering, value_effects}
 use Rattle.zs_model.specs.Effects.{Known, to_gets_for, draws_of, answering, key_wire, entity_sends, effects}
 use Rattle.zs_world.specs.Changes.{change_for, added, with_change}
-use Rattle.zs_world.specs.Turns.{text_for, number_for, known_at, decision}
+use Rattle.zs_world.specs.Decisions.{text_for, number_for, known_at, decision}
 use Rattle.zs_standing.specs.Stands.{world_of, world_after}
 use Rattle.zs_model.specs.Received.{messages_of, sent_behind, sent, read_as, spoken_by, spoken_text, AreReadAs, AreSpelled, AreUtf8}
 use Rattle.zs_model.specs.Covered.{subscription_text, covers, IsCovered}

@@ -22,7 +22,7 @@ use Rattle.zs_model.specs.Values.{met_by_get, met_by_request, get_request, netwo
 use Rattle.zs_world.specs.Changes.{with_change}
 use Rattle.zs_model.specs.Finals.{is_last_of, ends_request, times_ended, is_asked_still, is_over}
 use Rattle.zs_model.specs.Live.{to_gets_of}
-use Rattle.zs_world.specs.Turns.{to_gets_at}
+use Rattle.zs_world.specs.Decisions.{to_gets_at}
 use Rattle.zs_standing.specs.Stands.{world_after}
 use Rattle.zs_standing.proofs.Saying.{IsMade}
 use Rattle.zs_model.proofs.Values.{handing_next}

@@ -49,7 +49,7 @@ use Rattle.zs_model.specs.Sends.{full_wire, wire_form, declaration_of}
 use Rattle.zs_model.specs.Values.{met_by_get, get_request, drawn_by}
 use Rattle.zs_model.specs.ValueEffects.{Answering, requested_effects, replied_effects, error_effects, answer_effects, answer_error_effects, finish_effects}
 use Rattle.zs_model.specs.Effects.{answering, draws_of, effects_on}
-use Rattle.zs_world.specs.Turns.{to_gets_at, known_at}
+use Rattle.zs_world.specs.Decisions.{to_gets_at, known_at}
 use Rattle.zs_model.proofs.Gets.{asking_by, IsAskedUnder}
 use Rattle.zs_laws.specs.Ended.{get_ended, picked, begun}
 use Rattle.zs_laws.proofs.Around.{others_of}
@@ -334,7 +334,7 @@ ends_lost w (Cancel token) number text fit =
     ∙ ap (λ (ns : List ℕ). picked get_ended (cut_effects (CancelledBy token) w.asking.gets) ++ ns) (asking_picked (numbers_with token w.liveliness.gets))
     ∙ append-nil (picked get_ended (cut_effects (CancelledBy token) w.asking.gets))
     ∙ ends_picked (ended_numbers (CancelledBy token) w.asking.gets)
-    ∙ left_lost (λ g. names token g.row.token) w.asking.gets fit.ascend
+    ∙ left_lost (λ g. names token g.row.cancellation_token) w.asking.gets fit.ascend
 ends_lost w (Tick moment) number text fit =
     moment_ends (ends_at moment w.asking.gets) (over_at moment w.liveliness.gets) ∙ due_numbers moment w.asking.gets ∙ left_lost (is_due moment) w.asking.gets fit.ascend
 ends_lost w Close number text fit =

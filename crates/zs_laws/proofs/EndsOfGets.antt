@@ -42,7 +42,7 @@ use Rattle.zs_model.specs.Listeners.{is_listener, listener_ends}
 use Rattle.zs_model.specs.Matching.{turned}
 use Rattle.zs_model.specs.Questions.{row_waiting}
 use Rattle.zs_model.specs.Values.{met_by_get}
-use Rattle.zs_world.specs.Turns.{text_for, to_gets_at, number_for, decision, with_listeners, listener_effects_at}
+use Rattle.zs_world.specs.Decisions.{text_for, to_gets_at, number_for, decision, with_listeners, listener_effects_at}
 use Rattle.zs_standing.specs.Stands.{lives, world_of, world_after}
 use Rattle.zs_model.specs.Effects.{effects, turn_of}
 use Rattle.zs_standing.proofs.Changes.{made}
@@ -176,7 +176,7 @@ news_missing (ReplyTo number reply) n gets none = same_there number (replied rep
 news_missing (FinalOf number side) n gets none = after_missing (final_outcome side (get_at number gets)) side number n gets none
 news_missing (AtMoment moment) n gets none = filtered (λ g. not (is_due moment g)) n gets none
 news_missing (QuerierEnds id) n gets none = filtered (λ g. not (names id g.row.querier)) n gets none
-news_missing (CancelledBy token) n gets none = filtered (λ g. not (names token g.row.token)) n gets none
+news_missing (CancelledBy token) n gets none = filtered (λ g. not (names token g.row.cancellation_token)) n gets none
 news_missing AllEnd n gets none = refl
 
 asked_missing : (default zid : ℕ) (rows : List QueryableRow) (values : List QueryValue) (to : ToGets) (does : ToValues) (text : Option (List ℕ)) (a : Asking) (n : ℕ)

@@ -25,7 +25,7 @@ use Rattle.zs_model.specs.Causes.{refusal_of}
 use Rattle.zs_model.specs.Counters.{draws_entity, next_entity}
 use Rattle.zs_model.specs.Entry.{Entry, is_closed}
 use Rattle.zs_model.specs.Gets.{moment_of}
-use Rattle.zs_model.specs.Held.{named_text}
+use Rattle.zs_model.specs.HeldKeys.{named_text}
 use Rattle.zs_model.specs.Listeners.{is_listener, listener_ends}
 use Rattle.zs_model.specs.Live.{live_listeners}
 use Rattle.zs_model.specs.Matching.{is_matched, turned, listener_effects}

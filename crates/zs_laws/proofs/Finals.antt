@@ -29,7 +29,7 @@ use Rattle.zs_model.specs.ValueEffects.{value_effects, requested_effects, finish
 use Rattle.zs_model.specs.Answers.{local_reply, local_error, response_by, quality_of}
 use Rattle.zs_model.specs.Received.{messages_of}
 use Rattle.zs_model.specs.Finals.{finals_among, unmet_final, last_final, finals_by, finals_due}
-use Rattle.zs_world.specs.Turns.{known_at, own_keys_at, text_for, number_for, effects_of, cause, closed_cause, open_cause, decision_of, open_decision, decision}
+use Rattle.zs_world.specs.Decisions.{known_at, own_keys_at, text_for, number_for, effects_of, cause, closed_cause, open_cause, decision_of, open_decision, decision}
 use Rattle.zs_standing.specs.Stands.{world_after}
 use Rattle.zs_standing.proofs.Stands.{standing, same_text, same_cause}
 use Rattle.zs_laws.proofs.SentMessages.{same_messages, no_messages_in_queries, no_messages_in_reply, no_messages_in_error, no_messages_in_final, told_beside, asked_by, answered_by, told_by_event, all_messages}

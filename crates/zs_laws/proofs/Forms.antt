@@ -17,7 +17,7 @@ use Rattle.zs_events.specs.declared.event.Event.{Event}
 use Rattle.zs_events.specs.Kinds.{row_of}
 use Rattle.zs_model.specs.declared.settings.Settings.{Settings}
 use Rattle.zs_model.specs.Entry.{Entry}
-use Rattle.zs_model.specs.Held.{named_text}
+use Rattle.zs_model.specs.HeldKeys.{named_text}
 use Rattle.zs_model.specs.Past.{past_of, entry_of}
 use Rattle.zs_model.specs.Values.{values_now}
 use Rattle.zs_model.specs.Groups.{aggregate_of, aggregates_of, declaration_by}

@@ -18,7 +18,7 @@ use Rattle.zs_events.specs.Turn.{answered}
 use Rattle.zs_events.specs.Kinds.{Draws, EntityNumber, QueryNumber, CancellationNumber, ToGets, NoGet, Asks, ToValues, Requested, SharesValue, GivesBack, row_of}
 use Rattle.zs_model.specs.declared.settings.Settings.{Settings}
 use Rattle.zs_model.specs.Entry.{Entry, is_closed}
-use Rattle.zs_model.specs.Held.{named_text}
+use Rattle.zs_model.specs.HeldKeys.{named_text}
 use Rattle.zs_model.specs.Live.{live_queryables, to_gets_of}
 use Rattle.zs_model.specs.Counters.{draws_entity, draws_query, next_entity, next_query, drawn_number}
 use Rattle.zs_model.specs.Cancelling.{draws_cancellation_token, next_cancellation_token}

@@ -29,7 +29,7 @@ use Rattle.zs_events.specs.Kinds.{row_of}
 use Rattle.zs_model.specs.Causes.{refusal_of}
 use Rattle.zs_model.specs.Entry.{Entry, is_closed}
 use Rattle.zs_model.specs.Gets.{asked, open_now}
-use Rattle.zs_model.specs.Held.{named_text}
+use Rattle.zs_model.specs.HeldKeys.{named_text}
 use Rattle.zs_model.specs.Listeners.{is_listener, listener_ends}
 use Rattle.zs_model.specs.Live.{live_listeners, to_gets_of}
 use Rattle.zs_model.specs.Matching.{is_matched, turned, listener_effects}

@@ -24,9 +24,9 @@ use Rattle.zs_model.specs.Answers.{local_error}
 use Rattle.zs_model.specs.Causes.{has_cause, in_order, past_sight, refusal_of, is_net}
 use Rattle.zs_model.specs.Entry.{Entry, is_closed}
 use Rattle.zs_model.specs.Gets.{asked, open_now, error_reply, is_idle, is_idle_response}
-use Rattle.zs_model.specs.Held.{named_text}
+use Rattle.zs_model.specs.HeldKeys.{named_text}
 use Rattle.zs_model.specs.Live.{live_queriers, to_gets_of}
-use Rattle.zs_model.specs.Matching.{remote_subscribers, remote_queryables, is_untold}
+use Rattle.zs_model.specs.Matching.{remote_subscribers, remote_queryables, ends_unknown}
 use Rattle.zs_model.specs.Past.{past_of, entry_of}
 use Rattle.zs_model.specs.Queriers.{querier_at, asks_of, to_gets_by}
 use Rattle.zs_model.specs.Tokens.{is_pointless}
@@ -117,7 +117,7 @@ last_of false false c none = none
 not_idle : (s : Settings) (past : List Entry) (e : Event) → is_closed past ≡ false → refusal_of s past e ≡ None → is_idle (open_now s past) (row_of e).to_gets (named_text past e) ≡ false
 not_idle s past e shut accepted =
     let cause : (if is_closed past then is_net (row_of e).says else (past_sight s past e).idle) ≡ false = (none_holds (has_cause s past e) in_order accepted).1.1.1.1.1.1.1.1.0 in
-    last_of (is_pointless (row_of e).to_liveliness) (is_untold (remote_subscribers past) (remote_queryables past) (row_of e).to_matching) (is_idle (open_now s past) (row_of e).to_gets (named_text past e))
+    last_of (is_pointless (row_of e).to_liveliness) (ends_unknown (remote_subscribers past) (remote_queryables past) (row_of e).to_matching) (is_idle (open_now s past) (row_of e).to_gets (named_text past e))
     (sym (ap (λ (b : Bool). if b then is_net (row_of e).says else (past_sight s past e).idle) shut) ∙ cause)
 
 pub others_are_handed_nothing : OthersAreHandedNothing

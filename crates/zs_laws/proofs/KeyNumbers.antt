@@ -7,7 +7,7 @@ use Rattle.zs_model.specs.declared.settings.Settings.{Settings}
 use Rattle.zs_world.specs.World.{World}
 use Rattle.zs_events.specs.Kinds.{KeyNumber}
 use Rattle.zs_model.specs.Entry.{Entry, is_closed}
-use Rattle.zs_model.specs.Held.{times_declared, is_held, held_text, held_number, stands_for, key_text}
+use Rattle.zs_model.specs.HeldKeys.{times_declared, is_held, held_text, held_number, stands_for, key_text}
 use Rattle.zs_model.specs.Counters.{next_key, drawn_number}
 use Rattle.zs_standing.proofs.DeclaredKeys.{held_is}
 use Rattle.zs_standing.proofs.Numbers.{number_at-known}
@@ -31,8 +31,8 @@ answers_new s w past n key st unshut answer free = by_text (key_text past key) a
     by_number : (text : List ℕ) (o : Option ℕ) → held_number text past ≡ o → Some (unwrap_or o (next_key s past)) ≡ Some n → times_declared n past ≡ 0
     by_number text (Some m) found answer =
         let same : m ≡ n = cc in
-        let known : is_some (key_at n w.keys.own) ≡ true =
-        ap (λ (i : ℕ). is_some (key_at i w.keys.own)) (sym same) ∙ number_at-known text w.keys.own m (number_is w past text st.known ∙ found) in
+        let known : is_some (key_at n w.keys.local_resources) ≡ true =
+        ap (λ (i : ℕ). is_some (key_at i w.keys.local_resources)) (sym same) ∙ number_at-known text w.keys.local_resources m (number_is w past text st.known ∙ found) in
         let no : true ≡ false = sym known ∙ st.known.tied n ∙ held_is w past n st.known ∙ free in cc
     by_number text None found answer = let same : next_key s past ≡ n = cc in st.known.unused n (omega (arith, same, st.key))
 

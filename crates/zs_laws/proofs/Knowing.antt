@@ -30,7 +30,7 @@ use Rattle.zs_model.specs.Heard.{told_to, last_of, last_told}
 use Rattle.zs_model.specs.Past.{past_of}
 use Rattle.zs_world.specs.Changes.{with_change, change_for, Fits}
 use Rattle.zs_model.specs.Effects.{effects}
-use Rattle.zs_world.specs.Turns.{number_for, text_for, known_at, effects_of, decision, listener_effects_at, with_listeners}
+use Rattle.zs_world.specs.Decisions.{number_for, text_for, known_at, effects_of, decision, listener_effects_at, with_listeners}
 use Rattle.zs_standing.specs.Stands.{world_after}
 use Rattle.zs_standing.proofs.Decisions.{cases}
 use Rattle.zs_standing.proofs.Changes.{made}

@@ -202,7 +202,7 @@ all_near n known (Undeclare querier_sort id) number text near =
 all_near n known (Cancel token) number text near =
     all_append (IsBelow n) (cut_effects (CancelledBy token) known.gets) (cancelled_ends token known.watch.gets) (ends_near n (ended_numbers (CancelledBy token) known.gets))
     (asking_near n (numbers_with token known.watch.gets)
-    (numbers_near n (filter (λ g. is_own token g.token) known.watch.gets) (all_filter (λ (g : TokensGet). g.number < n) (λ g. is_own token g.token) known.watch.gets near.asking)))
+    (numbers_near n (filter (λ g. is_own token g.cancellation_token) known.watch.gets) (all_filter (λ (g : TokensGet). g.number < n) (λ g. is_own token g.cancellation_token) known.watch.gets near.asking)))
 all_near n known (Tick moment) number text near =
     let ends = ends_at moment known.gets in
     let over = over_at moment known.watch.gets in

@@ -30,7 +30,7 @@ use Rattle.zs_model.specs.Causes.{has_cause, in_order, past_sight, refusal_of}
 use Rattle.zs_model.specs.Seen.{is_unheld, is_not_found}
 use Rattle.zs_model.specs.Counters.{draws_entity, next_entity}
 use Rattle.zs_model.specs.Entry.{Entry, is_closed}
-use Rattle.zs_model.specs.Held.{named_text}
+use Rattle.zs_model.specs.HeldKeys.{named_text}
 use Rattle.zs_model.specs.Listeners.{is_listener, listener_ends}
 use Rattle.zs_model.specs.Live.{declared, is_live, was_left, live_subs, live_queryables, live_lsubs, live_listeners, names_some}
 use Rattle.zs_model.specs.Liveliness.{lsub_row}

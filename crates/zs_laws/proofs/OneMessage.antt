@@ -18,7 +18,7 @@ use Rattle.zs_model.specs.Entry.{Entry}
 use Rattle.zs_model.specs.Past.{past_of}
 use Rattle.zs_model.specs.Sends.{OwnKeys, wire_form, declaration_of, sends_of}
 use Rattle.zs_model.specs.Effects.{to_gets_for, draws_of, answering, effects}
-use Rattle.zs_world.specs.Turns.{text_for, number_for, own_keys_at, known_at}
+use Rattle.zs_world.specs.Decisions.{text_for, number_for, own_keys_at, known_at}
 use Rattle.zs_standing.specs.Stands.{world_after}
 use Rattle.zs_model.specs.Received.{messages_of}
 use Rattle.zs_standing.proofs.Decisions.{cases}

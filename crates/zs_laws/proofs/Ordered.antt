@@ -18,7 +18,7 @@ use Rattle.zs_tables.specs.LivelinessGets.{is_asking, over_at, numbers_with}
 use Rattle.zs_tables.specs.MatchingLaws.{differ}
 use Rattle.zs_tables.specs.Recipients.{has_network}
 use Rattle.zs_tables.specs.declared.listener.ListenerRow.{ListenerRow}
-use Rattle.zs_tables.specs.Types.{LivelinessGet as TokensGet, LivelinessSub, ToldToken}
+use Rattle.zs_tables.specs.Types.{LivelinessGet as TokensGet, LivelinessSub, RemoteToken}
 use Rattle.zs_tables.specs.declared.queryable.QueryableRow.{QueryableRow}
 use Rattle.zs_tables.specs.declared.subscriber.SubRow.{SubRow}
 use Rattle.zs_query.specs.declared.open_get.OpenGet.{OpenGet}
@@ -49,10 +49,10 @@ use Rattle.zs_model.specs.Causes.{refusal_of}
 use Rattle.zs_model.specs.Entry.{Entry, is_closed}
 use Rattle.zs_model.specs.GetEffects.{hand_reply, hand_query, end_get, last_hands, reply_effects, response_effects, final_effects, ends_effects, ended_numbers, cut_effects, ask_effects, asked_effects, request_effects, told_effects, with_gets}
 use Rattle.zs_model.specs.Gets.{sample_reply}
-use Rattle.zs_model.specs.Held.{named_text}
+use Rattle.zs_model.specs.HeldKeys.{named_text}
 use Rattle.zs_model.specs.Listeners.{is_listener, listener_ends}
 use Rattle.zs_model.specs.Live.{live_listeners}
-use Rattle.zs_model.specs.LivelinessEffects.{Watch, hand_token, hand_told, hand_answer, end_asking, cancelled_ends, asking_ends, lsub_ends, token_hands, history_hands, told_hands, answer_hands, ended_text, watch_effects}
+use Rattle.zs_model.specs.LivelinessEffects.{Watch, hand_token, hand_remote_token, hand_answer, end_asking, cancelled_ends, asking_ends, lsub_ends, token_hands, history_hands, declared_hands, answer_hands, ended_text, watch_effects}
 use Rattle.zs_model.specs.Matching.{is_matched, turned, listener_effects}
 use Rattle.zs_model.specs.Past.{past_of, entry_of}
 use Rattle.zs_model.specs.Publications.{Publication, sample_on, allows}
@@ -62,7 +62,7 @@ use Rattle.zs_model.specs.Queryables.{queryable_ends}
 use Rattle.zs_model.specs.Questions.{request_of}
 use Rattle.zs_model.specs.Sends.{full_wire, wire_form, declaration_of, sends_of}
 use Rattle.zs_model.specs.Subscribers.{sub_ends}
-use Rattle.zs_model.specs.Tokens.{answers, is_told}
+use Rattle.zs_model.specs.Tokens.{answers, is_remote_token}
 use Rattle.zs_model.specs.Values.{drawn_by}
 use Rattle.zs_model.specs.ValueEffects.{Answering, requested_effects, replied_effects, answer_effects, answer_error_effects, finish_effects}
 use Rattle.zs_model.specs.Effects.{Known, known_of, answering, draws_of, entity_sends, hands_of, hands_for, publication_on, ends_of, effects_on, effects_behind}
@@ -155,8 +155,8 @@ tokens_within : (kind : SampleKind) (before : Bool) (text : Option (List ℕ)) (
 tokens_within kind before None subs = none_within 1 7
 tokens_within kind before (Some text) subs = wider 1 1 1 7 _ (omega arith) (omega arith) (mapped 1 (hand_token kind text) (λ id. refl) (hearers before text subs))
 
-history_within : (history : Bool) (number : Option ℕ) (text : Option (List ℕ)) (tokens : List ToldToken) → AreWithin 1 7 (history_hands history number text tokens)
-history_within true (Some id) (Some text) tokens = wider 1 1 1 7 _ (omega arith) (omega arith) (mapped 1 (hand_told id) (λ key. refl) (met_keys text tokens))
+history_within : (history : Bool) (number : Option ℕ) (text : Option (List ℕ)) (tokens : List RemoteToken) → AreWithin 1 7 (history_hands history number text tokens)
+history_within true (Some id) (Some text) tokens = wider 1 1 1 7 _ (omega arith) (omega arith) (mapped 1 (hand_remote_token id) (λ key. refl) (met_keys text tokens))
 history_within true (Some id) None tokens = none_within 1 7
 history_within true None text tokens = none_within 1 7
 history_within false number text tokens = none_within 1 7
@@ -166,8 +166,8 @@ answer_within (Some n) (Some text) = wider 2 2 1 7 _ (omega arith) (omega arith)
 answer_within (Some n) None = none_within 1 7
 answer_within None text = none_within 1 7
 
-told_within : (watch : Watch) (id : ℕ) (interest : Option ℕ) (text : Option (List ℕ)) → AreWithin 1 7 (told_hands watch id interest text)
-told_within watch id interest text = go (is_told id watch.told)
+told_within : (watch : Watch) (id : ℕ) (interest : Option ℕ) (text : Option (List ℕ)) → AreWithin 1 7 (declared_hands watch id interest text)
+told_within watch id interest text = go (is_remote_token id watch.remote_tokens)
   where
     go : (b : Bool) → AreWithin 1 7 (if b then [] else token_hands put_kind (is_some interest) text watch.subs)
     go true = none_within 1 7
@@ -175,14 +175,14 @@ told_within watch id interest text = go (is_told id watch.told)
 
 watch_within : (watch : Watch) (number : Option ℕ) (text : Option (List ℕ)) (to : ToLiveliness) (ends : List Effect) → AreWithin 3 5 ends → AreWithin 1 7 (watch_effects watch number text to ends)
 watch_within watch number text NoToken ends within = wider 3 5 1 7 ends (omega arith) (omega arith) within
-watch_within watch number text (Subscribes history) ends within = history_within history number text watch.told
+watch_within watch number text (Subscribes history) ends within = history_within history number text watch.remote_tokens
 watch_within watch number text (AsksTokens timeout token) ends within = none_within 1 7
 watch_within watch number text (TellsToken id interest) ends within = go (answers interest watch.gets)
   where
-    go : (b : Bool) → AreWithin 1 7 (if b then answer_hands interest text else told_hands watch id interest text)
+    go : (b : Bool) → AreWithin 1 7 (if b then answer_hands interest text else declared_hands watch id interest text)
     go true = answer_within interest text
     go false = told_within watch id interest text
-watch_within watch number text (EndsToken id interest) ends within = tokens_within delete_kind (is_some interest) (ended_text (find (λ t. t.number == id) watch.told) text) watch.subs
+watch_within watch number text (EndsToken id interest) ends within = tokens_within delete_kind (is_some interest) (ended_text (find (λ t. t.number == id) watch.remote_tokens) text) watch.subs
 watch_within watch number text (EndsAnswers None) ends within = none_within 1 7
 watch_within watch number text (EndsAnswers (Some n)) ends within = wider 7 7 1 7 _ (omega arith) (omega arith) (if_one 7 (is_asking n watch.gets) (end_asking n) refl)
 

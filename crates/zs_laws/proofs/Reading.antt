@@ -38,7 +38,7 @@ use Rattle.zs_world.specs.World.{World}
 use Rattle.zs_model.specs.Groups.{aggregate_of, share_text}
 use Rattle.zs_model.specs.Sends.{has_front, goes_by_number, full_wire, number_wire, wire_form, declared_by, declaration_of, group_wire, push_with, sends_of}
 use Rattle.zs_model.specs.Effects.{to_gets_for, draws_of, answering, key_wire, entity_sends}
-use Rattle.zs_world.specs.Turns.{own_keys_at, known_at}
+use Rattle.zs_world.specs.Decisions.{own_keys_at, known_at}
 use Rattle.zs_model.specs.Received.{messages_of, sent_behind, number_text, read_as, spoken_by, AreReadAs, AreSpelled}
 use Rattle.zs_laws.proofs.SentMessages.{messages_append, told_beside, no_messages_in_reply, no_messages_in_final, no_messages_in_queries, no_messages_in_error, value_cases, asked_by, answered_by, told_by_event}
 use Rattle.zs_laws.proofs.Sends.{Announced, ASubscriber, APublisher, announcement, aggregates_for, announced_wire, Retracted, OfSubscriber, retraction, announced, entity_cases, sends_alone, sends_cases}
@@ -46,8 +46,8 @@ use Rattle.zs_events.specs.declared.turn.Effect.{Effect}
 
 -- what a receiver of these messages knows of numbers is what the table has, and its texts are UTF-8
 pub record IsTold (w : World) (before : List Message) : Type 0 where
-  pub numbers : (n : ℕ) → number_text n before ≡ option_map (λ (key : a_key). key.text) (key_at n w.keys.own)
-  pub spelled : (n : ℕ) (key : a_key) → key_at n w.keys.own ≡ Some key → IsUtf8 key.text
+  pub numbers : (n : ℕ) → number_text n before ≡ option_map (λ (key : a_key). key.text) (key_at n w.keys.local_resources)
+  pub spelled : (n : ℕ) (key : a_key) → key_at n w.keys.local_resources ≡ Some key → IsUtf8 key.text
 
 -- a text that begins with a front is the front and what stands behind it
 pub front_and_rest : (text front : List ℕ) → starts_with (λ a b. a == b) text front ≡ true → text ≡ front ++ drop (length front) text
@@ -61,9 +61,9 @@ full_read text before utf8 = ap (λ (t : List ℕ). Some t) (encodes-chars text 
 pub number_read : (w : World) (text : List ℕ) (d : Declared) (before : List Message) → IsTold w before → IsUtf8 text → goes_by_number (own_keys_at w) text d ≡ true
     → read_as before (number_wire text d) ≡ Some text
 number_read w text d before told utf8 goes =
-    by (d.tag == w.settings.tag) (d.number == 0) refl (key_at d.number w.keys.own) refl goes
+    by (d.tag == w.settings.tag) (d.number == 0) refl (key_at d.number w.keys.local_resources) refl goes
   where
-    held : (key : a_key) → key_at d.number w.keys.own ≡ Some key → (n : Bool) → length key.text ≡ d.prefix_len → starts_with (λ a b. a == b) text key.text ≡ true
+    held : (key : a_key) → key_at d.number w.keys.local_resources ≡ Some key → (n : Bool) → length key.text ≡ d.prefix_len → starts_with (λ a b. a == b) text key.text ≡ true
         → (if false then Some (encode_utf8_all (chars (drop d.prefix_len text))) else option_map (λ (t : List ℕ). t ++ encode_utf8_all (chars (drop d.prefix_len text))) (number_text d.number before)) ≡ Some text
     held key at n long starts =
         let knows : number_text d.number before ≡ Some key.text = told.numbers d.number ∙ ap (option_map (λ (key : a_key). key.text)) at in
@@ -77,14 +77,14 @@ number_read w text d before told utf8 goes =
         ap (option_map (λ (t : List ℕ). t ++ encode_utf8_all (chars (drop d.prefix_len text)))) knows
         ∙ ap (λ (t : List ℕ). Some (key.text ++ t)) rest ∙ ap (λ (t : List ℕ). Some t) (sym split)
 
-    by_front : (key : a_key) → key_at d.number w.keys.own ≡ Some key → (l s : Bool) → (length key.text == d.prefix_len) ≡ l → starts_with (λ a b. a == b) text key.text ≡ s
+    by_front : (key : a_key) → key_at d.number w.keys.local_resources ≡ Some key → (l s : Bool) → (length key.text == d.prefix_len) ≡ l → starts_with (λ a b. a == b) text key.text ≡ s
         → (l && s) ≡ true
         → (if false then Some (encode_utf8_all (chars (drop d.prefix_len text))) else option_map (λ (t : List ℕ). t ++ encode_utf8_all (chars (drop d.prefix_len text))) (number_text d.number before)) ≡ Some text
     by_front key at true true long starts both = held key at true (eqb-true (length key.text) d.prefix_len long) starts
     by_front key at true false long starts both = cc
     by_front key at false s long starts both = cc
 
-    by : (t n : Bool) → (d.number == 0) ≡ n → (o : Option a_key) → key_at d.number w.keys.own ≡ o
+    by : (t n : Bool) → (d.number == 0) ≡ n → (o : Option a_key) → key_at d.number w.keys.local_resources ≡ o
         → (t && not n && has_front text d.prefix_len (option_map (λ (key : a_key). key.text) o)) ≡ true
         → (if n then Some (encode_utf8_all (chars (drop d.prefix_len text))) else option_map (λ (t : List ℕ). t ++ encode_utf8_all (chars (drop d.prefix_len text))) (number_text d.number before)) ≡ Some text
     by true false z (Some key) at goes = by_front key at (length key.text == d.prefix_len) (starts_with (λ a b. a == b) text key.text) refl refl goes

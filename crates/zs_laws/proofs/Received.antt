@@ -9,10 +9,10 @@ use Rattle.zs_model.specs.Values.{handing_of}
 use Rattle.zs_model.specs.declared.settings.Settings.{Settings}
 use Rattle.zs_world.specs.declared.change.Decision.{Decision}
 use Rattle.zs_model.specs.Entry.{Entry}
-use Rattle.zs_model.specs.Held.{named_text}
+use Rattle.zs_model.specs.HeldKeys.{named_text}
 use Rattle.zs_model.specs.Past.{past_of}
 use Rattle.zs_model.specs.Effects.{effects}
-use Rattle.zs_world.specs.Turns.{text_for, number_for, decision}
+use Rattle.zs_world.specs.Decisions.{text_for, number_for, decision}
 use Rattle.zs_standing.specs.Stands.{world_after}
 use Rattle.zs_model.specs.Received.{messages_of, sent, spoken_by, spoken_text, AreReadAs, AreSpelled, AreUtf8}
 use Rattle.zs_standing.proofs.Decisions.{cases}

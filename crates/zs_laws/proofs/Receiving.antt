@@ -21,7 +21,7 @@ use Rattle.zs_events.specs.Kinds.{told_on}
 use Rattle.zs_model.specs.declared.settings.Settings.{Settings}
 use Rattle.zs_model.specs.Entry.{Entry, is_closed}
 use Rattle.zs_model.specs.Groups.{share_text}
-use Rattle.zs_model.specs.Held.{tells_number, told_text, mapped_text, wire_text}
+use Rattle.zs_model.specs.HeldKeys.{tells_number, remote_text, mapped_text, wire_text}
 use Rattle.zs_model.specs.Causes.{holds, in_order, first_that, refusal_of}
 use Rattle.zs_model.specs.Past.{entry_of, with_entry, past_of}
 use Rattle.zs_model.specs.Effects.{effects}
@@ -76,7 +76,7 @@ sound_back (m ∷ ms) sound = sound_back ms sound
 
 -- what a past knows of the numbers that messages tell
 abbrev pub Knows : List Message → List Entry → Type 0
-Knows before past = (n : ℕ) (text : List ℕ) → (n == 0) ≡ false → number_text n before ≡ Some text → told_text n past ≡ Some text
+Knows before past = (n : ℕ) (text : List ℕ) → (n == 0) ≡ false → number_text n before ≡ Some text → remote_text n past ≡ Some text
 
 reads : (before : List Message) (past : List Entry) → Knows before past → (wire : WireExpr) (text : List ℕ) → read_as before wire ≡ Some text → wire_text past wire ≡ Some text
 reads before past knows wire text is = go (wire.scope == 0) refl wire.mapping (number_text wire.scope before) refl is
@@ -110,13 +110,13 @@ still_open t e g = go (refusal_of t (past_of t g) e) (is_closed (past_of t g)) r
     go None true shut unshut = unshut
     go None false shut unshut = shut
 
-told_same : (n : ℕ) (t : Settings) (e : Event) (g : List Event) → tells_number n e ≡ false → told_text n (past_of t (e ∷ g)) ≡ told_text n (past_of t g)
+told_same : (n : ℕ) (t : Settings) (e : Event) (g : List Event) → tells_number n e ≡ false → remote_text n (past_of t (e ∷ g)) ≡ remote_text n (past_of t g)
 told_same n t e g untold = go (refusal_of t (past_of t g) e) (is_closed (past_of t g))
   where
-    go : (o : Option Refusal) (b : Bool) → told_text n (with_entry o b (entry_of t (past_of t g) e) (past_of t g)) ≡ told_text n (past_of t g)
+    go : (o : Option Refusal) (b : Bool) → remote_text n (with_entry o b (entry_of t (past_of t g) e) (past_of t g)) ≡ remote_text n (past_of t g)
     go (Some refusal) b = refl
     go None true = refl
-    go None false = ap (λ (b : Bool). if b then (entry_of t (past_of t g) e).text else told_text n (past_of t g)) untold
+    go None false = ap (λ (b : Bool). if b then (entry_of t (past_of t g) e).text else remote_text n (past_of t g)) untold
 
 -- a declaration of a number makes it known
 declared : (t : Settings) (g : List Event) (number : ℕ) (wire : WireExpr) → IsReadable (given g) wire → is_closed (past_of t g) ≡ false → Knows (given g) (past_of t g)
@@ -129,13 +129,13 @@ declared t g number wire readable unshut ih n text some is = go (number == n) re
     at : wire_text (past_of t g) wire ≡ Some readable.text
     at = reads (given g) (past_of t g) ih wire readable.text readable.reads
 
-    go : (b : Bool) → (number == n) ≡ b → (if b then read_as (given g) wire else number_text n (given g)) ≡ Some text → told_text n (past_of t (e ∷ g)) ≡ Some text
+    go : (b : Bool) → (number == n) ≡ b → (if b then read_as (given g) wire else number_text n (given g)) ≡ Some text → remote_text n (past_of t (e ∷ g)) ≡ Some text
     go true same is =
         let its : number ≡ n = eqb-true number n same in
         let taken : refusal_of t (past_of t g) e ≡ None = accepts t (past_of t g) number wire readable.text unshut (ap (λ (k : ℕ). k == 0) its ∙ some) at readable.canonical in
-        let behind : told_text n (past_of t (e ∷ g)) ≡ told_text n (entry_of t (past_of t g) e ∷ past_of t g) =
-        λ i. told_text n (with_entry (taken i) (unshut i) (entry_of t (past_of t g) e) (past_of t g)) in
-        behind ∙ ap (λ (b : Bool). if b then wire_text (past_of t g) wire else told_text n (past_of t g)) same ∙ at ∙ sym readable.reads ∙ is
+        let behind : remote_text n (past_of t (e ∷ g)) ≡ remote_text n (entry_of t (past_of t g) e ∷ past_of t g) =
+        λ i. remote_text n (with_entry (taken i) (unshut i) (entry_of t (past_of t g) e) (past_of t g)) in
+        behind ∙ ap (λ (b : Bool). if b then wire_text (past_of t g) wire else remote_text n (past_of t g)) same ∙ at ∙ sym readable.reads ∙ is
     go false other is = told_same n t e g other ∙ ih n text some is
 
 -- so an open session knows what it was told
@@ -149,10 +149,10 @@ known t (Net (UndeclareKeyExpr number) ∷ g) sound unshut =
     λ n text some is. ended t g number n text ih some is
   where
     ended : (t : Settings) (g : List Event) (number n : ℕ) (text : List ℕ) → Knows (given g) (past_of t g) → (n == 0) ≡ false → (if number == n then None else number_text n (given g)) ≡ Some text
-        → told_text n (past_of t (Net (UndeclareKeyExpr number) ∷ g)) ≡ Some text
+        → remote_text n (past_of t (Net (UndeclareKeyExpr number) ∷ g)) ≡ Some text
     ended t g number n text ih some is = go (number == n) is
       where
-        go : (b : Bool) → (if b then None else number_text n (given g)) ≡ Some text → told_text n (past_of t (Net (UndeclareKeyExpr number) ∷ g)) ≡ Some text
+        go : (b : Bool) → (if b then None else number_text n (given g)) ≡ Some text → remote_text n (past_of t (Net (UndeclareKeyExpr number) ∷ g)) ≡ Some text
         go true is = cc
         go false is = told_same n t (Net (UndeclareKeyExpr number)) g refl ∙ ih n text some is
 known t (e ∷ g) sound unshut =

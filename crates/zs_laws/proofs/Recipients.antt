@@ -7,7 +7,7 @@ use Rattle.zs_tables.specs.Numbers.{key_at}
 use Rattle.zs_tables.specs.Recipients.{matches}
 use Rattle.zs_world.specs.Keys.{numbers_for}
 use Rattle.zs_model.specs.Past.{past_of}
-use Rattle.zs_model.specs.Held.{mapped_text}
+use Rattle.zs_model.specs.HeldKeys.{mapped_text}
 use Rattle.zs_standing.specs.Stands.{world_after}
 use Rattle.zs_standing.specs.Laws.{ListsAreTests}
 use Rattle.zs_standing.proofs.Keys.{mapped_is}

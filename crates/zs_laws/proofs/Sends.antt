@@ -125,12 +125,12 @@ pub entity_cases : (P : List Effect → Type 0) → P [] → (known : Known) (e 
     → ((what : Retracted) (id : ℕ) → retracted e ≡ Some what → P (Send (retraction what id) ∷ []))
     → P (entity_sends known e number text)
 entity_cases P none known (Sub origin key to) (Some id) (Some text) told ended =
-    sent_if P none (joins_first (known.company Subscribers) (record { id = id; told = has_network origin; text = text })) _ (told ASubscriber id text key refl refl)
+    sent_if P none (joins_first (known.company Subscribers) (record { id = id; is_announced = has_network origin; text = text })) _ (told ASubscriber id text key refl refl)
 entity_cases P none known (Pub key settings) (Some id) (Some text) told ended =
-    sent_if P none (joins_first (known.company Publishers) (record { id = id; told = has_network settings.destination; text = text })) _ (told APublisher id text key refl refl)
+    sent_if P none (joins_first (known.company Publishers) (record { id = id; is_announced = has_network settings.destination; text = text })) _ (told APublisher id text key refl refl)
 entity_cases P none known (Queryable origin complete key) (Some id) (Some text) told ended = sent_if P none (has_network origin) _ (told (AQueryable complete) id text key refl refl)
 entity_cases P none known (Querier key settings) (Some id) (Some text) told ended =
-    sent_if P none (joins_first (known.company Queriers) (record { id = id; told = has_network settings.destination; text = text })) _ (told AQuerier id text key refl refl)
+    sent_if P none (joins_first (known.company Queriers) (record { id = id; is_announced = has_network settings.destination; text = text })) _ (told AQuerier id text key refl refl)
 entity_cases P none known (Token key) number text told ended = sent_declared P none token_declaration known.keys number text key (λ id t is. told AToken id t key refl is)
 entity_cases P none known (Lsub history key) number text told ended =
     sent_declared P none (token_interest (lsub_mode history)) known.keys number text key (λ id t is. told (AnInterest (lsub_mode history)) id t key refl is)

@@ -33,7 +33,7 @@ use Rattle.zs_events.specs.Turn.{answered}
 use Rattle.zs_events.specs.Kinds.{NamedKey, OwnKey, QuerierKey, Publishes, NoContent, OwnContent, ByPublisher, Question, ToGets, NoGet, Asks, AsksBy, Answers, EndsSide, Reaches, EndsQuerier, Cancels, EndsAll, AnswersError, ToLiveliness, EndsToken, row_of}
 use Rattle.zs_model.specs.declared.settings.Settings.{Settings}
 use Rattle.zs_model.specs.Entry.{Entry, is_closed}
-use Rattle.zs_model.specs.Held.{named_text}
+use Rattle.zs_model.specs.HeldKeys.{named_text}
 use Rattle.zs_model.specs.Live.{live_listeners}
 use Rattle.zs_model.specs.Listeners.{is_listener, listener_ends}
 use Rattle.zs_model.specs.Matching.{is_matched, turned, listener_effects}

@@ -21,9 +21,9 @@ use Rattle.zs_wire.specs.declared.sample_kind.SampleKind.{SampleKind}
 use Rattle.zs_wire.specs.declared.sample_kind.SampleKind.TheVariants.{Put as put_kind, Delete as delete_kind}
 use Rattle.zs_tables.specs.Liveliness.{met_keys, hearers}
 use Rattle.zs_tables.specs.LivelinessGets.{is_asking, over_at, numbers_with}
-use Rattle.zs_tables.specs.Types.{LivelinessSub, LivelinessGet as AskingGet, ToldToken}
-use Rattle.zs_model.specs.Tokens.{answers, is_told}
-use Rattle.zs_model.specs.LivelinessEffects.{Watch, hand_token, hand_told, hand_answer, end_asking, cancelled_ends, asking_ends, lsub_ends, token_hands, history_hands, answer_hands, told_hands, ended_text, watch_effects}
+use Rattle.zs_tables.specs.Types.{LivelinessSub, LivelinessGet as AskingGet, RemoteToken}
+use Rattle.zs_model.specs.Tokens.{answers, is_remote_token}
+use Rattle.zs_model.specs.LivelinessEffects.{Watch, hand_token, hand_remote_token, hand_answer, end_asking, cancelled_ends, asking_ends, lsub_ends, token_hands, history_hands, answer_hands, declared_hands, ended_text, watch_effects}
 use Rattle.zs_sample.specs.Reply.{Replied}
 use Rattle.zs_wire.specs.declared.response.Answered.{Answered}
 use Rattle.zs_wire.specs.declared.response.Answered.TheVariants.{Reply, Err as Error}
@@ -51,7 +51,7 @@ use Rattle.zs_model.specs.Queriers.{querier_at, asks_of}
 use Rattle.zs_query.specs.Asked.{QuerierEnds, CancelledBy}
 use Rattle.zs_model.specs.Sends.{full_wire, wire_form, declaration_of, sends_of}
 use Rattle.zs_model.specs.Effects.{Known, to_gets_for, draws_of, answering, entity_sends, publication_on, hands_of, hands_for, ends_of, effects_on, turn_of}
-use Rattle.zs_world.specs.Turns.{text_for, number_for, known_at, effects_of, decision, listener_effects_at}
+use Rattle.zs_world.specs.Decisions.{text_for, number_for, known_at, effects_of, decision, listener_effects_at}
 use Rattle.zs_world.specs.Changes.{with_change}
 use Rattle.zs_model.specs.Entry.{Entry}
 use Rattle.zs_model.specs.declared.settings.Settings.{Settings}
@@ -118,10 +118,10 @@ no_messages_in_tokens kind before (Some text) subs = go (hearers before text sub
     go [] = refl
     go (id ∷ ids) = go ids
 
-pub no_messages_in_history : (history : Bool) (number : Option ℕ) (text : Option (List ℕ)) (tokens : List ToldToken) → messages_of (history_hands history number text tokens) ≡ []
+pub no_messages_in_history : (history : Bool) (number : Option ℕ) (text : Option (List ℕ)) (tokens : List RemoteToken) → messages_of (history_hands history number text tokens) ≡ []
 no_messages_in_history true (Some id) (Some text) tokens = go (met_keys text tokens)
   where
-    go : (keys : List a_key) → messages_of (map (hand_told id) keys) ≡ []
+    go : (keys : List a_key) → messages_of (map (hand_remote_token id) keys) ≡ []
     go [] = refl
     go (key ∷ keys) = go keys
 no_messages_in_history true (Some id) None tokens = refl
@@ -133,8 +133,8 @@ no_messages_in_answer None text = refl
 no_messages_in_answer (Some number) None = refl
 no_messages_in_answer (Some number) (Some text) = refl
 
-pub no_messages_in_told : (watch : Watch) (id : ℕ) (interest : Option ℕ) (text : Option (List ℕ)) → messages_of (told_hands watch id interest text) ≡ []
-no_messages_in_told watch id interest text = go (is_told id watch.told)
+pub no_messages_in_told : (watch : Watch) (id : ℕ) (interest : Option ℕ) (text : Option (List ℕ)) → messages_of (declared_hands watch id interest text) ≡ []
+no_messages_in_told watch id interest text = go (is_remote_token id watch.remote_tokens)
   where
     go : (b : Bool) → messages_of (if b then [] else token_hands put_kind (is_some interest) text watch.subs) ≡ []
     go true = refl
@@ -142,15 +142,15 @@ no_messages_in_told watch id interest text = go (is_told id watch.told)
 
 pub no_watch_messages : (watch : Watch) (number : Option ℕ) (text : Option (List ℕ)) (to : ToLiveliness) (ends : List Effect) → messages_of ends ≡ [] → messages_of (watch_effects watch number text to ends) ≡ []
 no_watch_messages watch number text NoToken ends none = none
-no_watch_messages watch number text (Subscribes history) ends none = no_messages_in_history history number text watch.told
+no_watch_messages watch number text (Subscribes history) ends none = no_messages_in_history history number text watch.remote_tokens
 no_watch_messages watch number text (AsksTokens timeout token) ends none = refl
 no_watch_messages watch number text (TellsToken id interest) ends none = go (answers interest watch.gets)
   where
-    go : (b : Bool) → messages_of (if b then answer_hands interest text else told_hands watch id interest text) ≡ []
+    go : (b : Bool) → messages_of (if b then answer_hands interest text else declared_hands watch id interest text) ≡ []
     go true = no_messages_in_answer interest text
     go false = no_messages_in_told watch id interest text
 no_watch_messages watch number text (EndsToken id interest) ends none =
-    no_messages_in_tokens delete_kind (is_some interest) (ended_text (find (λ t. t.number == id) watch.told) text) watch.subs
+    no_messages_in_tokens delete_kind (is_some interest) (ended_text (find (λ t. t.number == id) watch.remote_tokens) text) watch.subs
 no_watch_messages watch number text (EndsAnswers None) ends none = refl
 no_watch_messages watch number text (EndsAnswers (Some n)) ends none = go (is_asking n watch.gets)
   where

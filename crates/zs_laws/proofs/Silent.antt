@@ -22,7 +22,7 @@ use Rattle.zs_query.specs.Unfinished.{value_at, finished}
 use Rattle.zs_tables.specs.Recipients.{has_network}
 use Rattle.zs_tables.specs.LivelinessGets.{is_asking, over_at, numbers_with}
 use Rattle.zs_tables.specs.Liveliness.{met_keys, hearers}
-use Rattle.zs_tables.specs.Types.{LivelinessGet as a_liveliness_get, LivelinessSub, ToldToken}
+use Rattle.zs_tables.specs.Types.{LivelinessGet as a_liveliness_get, LivelinessSub, RemoteToken}
 use Rattle.zs_tables.specs.declared.queryable.QueryableRow.{QueryableRow}
 use Rattle.zs_tables.specs.declared.subscriber.SubRow.{SubRow}
 use Rattle.zs_events.specs.declared.event.Event.{Event}
@@ -39,8 +39,8 @@ use Rattle.zs_model.specs.Publications.{allows, sample_on}
 use Rattle.zs_model.specs.Publishers.{resolved}
 use Rattle.zs_model.specs.Questions.{request_of}
 use Rattle.zs_model.specs.Sends.{OwnKeys, wire_form, declaration_of, sends_of}
-use Rattle.zs_model.specs.Tokens.{answers, is_told}
-use Rattle.zs_model.specs.LivelinessEffects.{Watch, hand_token, hand_told, hand_answer, end_asking, cancelled_ends, asking_ends, token_hands, history_hands, told_hands, answer_hands, ended_text, watch_effects}
+use Rattle.zs_model.specs.Tokens.{answers, is_remote_token}
+use Rattle.zs_model.specs.LivelinessEffects.{Watch, hand_token, hand_remote_token, hand_answer, end_asking, cancelled_ends, asking_ends, token_hands, history_hands, declared_hands, answer_hands, ended_text, watch_effects}
 use Rattle.zs_model.specs.GetEffects.{hand_reply, hand_query, end_get, last_hands, request_sends, ends_effects, reply_effects, response_effects, final_effects, ended_numbers, cut_effects, told_effects, request_effects, with_gets}
 use Rattle.zs_model.specs.ValueEffects.{Answering, error_effects, replied_effects, reply_for_value, answer_effects, answer_error_effects, finish_effects, value_effects, with_values}
 use Rattle.zs_model.specs.Effects.{Known, to_gets_for, draws_of, answering, entity_sends, publication_on, hands_for, hands_of, ends_of, effects_on}
@@ -108,8 +108,8 @@ silent_tokens : (kind : SampleKind) (before : Bool) (text : Option (List ℕ)) (
 silent_tokens kind before None subs = silent_none
 silent_tokens kind before (Some text) subs = silent_map (hand_token kind text) (λ n id. refl) (hearers before text subs)
 
-silent_history : (history : Bool) (number : Option ℕ) (text : Option (List ℕ)) (tokens : List ToldToken) → IsSilent (history_hands history number text tokens)
-silent_history true (Some id) (Some text) tokens = silent_map (hand_told id) (λ key other. refl) (met_keys text tokens)
+silent_history : (history : Bool) (number : Option ℕ) (text : Option (List ℕ)) (tokens : List RemoteToken) → IsSilent (history_hands history number text tokens)
+silent_history true (Some id) (Some text) tokens = silent_map (hand_remote_token id) (λ key other. refl) (met_keys text tokens)
 silent_history true (Some id) None tokens = silent_none
 silent_history true None text tokens = silent_none
 silent_history false number text tokens = silent_none
@@ -121,13 +121,13 @@ silent_answer (Some number) (Some text) = λ id. refl
 
 silent_watch : (watch : Watch) (number : Option ℕ) (text : Option (List ℕ)) (to : ToLiveliness) (ends : List Effect) → IsSilent ends → IsSilent (watch_effects watch number text to ends)
 silent_watch watch number text NoToken ends quiet = quiet
-silent_watch watch number text (Subscribes history) ends quiet = silent_history history number text watch.told
+silent_watch watch number text (Subscribes history) ends quiet = silent_history history number text watch.remote_tokens
 silent_watch watch number text (AsksTokens timeout token) ends quiet = silent_none
 silent_watch watch number text (TellsToken id interest) ends quiet =
-    silent_if (answers interest watch.gets) (answer_hands interest text) (told_hands watch id interest text) (silent_answer interest text)
-    (silent_if (is_told id watch.told) [] (token_hands put_kind (is_some interest) text watch.subs) silent_none (silent_tokens put_kind (is_some interest) text watch.subs))
+    silent_if (answers interest watch.gets) (answer_hands interest text) (declared_hands watch id interest text) (silent_answer interest text)
+    (silent_if (is_remote_token id watch.remote_tokens) [] (token_hands put_kind (is_some interest) text watch.subs) silent_none (silent_tokens put_kind (is_some interest) text watch.subs))
 silent_watch watch number text (EndsToken id interest) ends quiet =
-    silent_tokens delete_kind (is_some interest) (ended_text (find (λ t. t.number == id) watch.told) text) watch.subs
+    silent_tokens delete_kind (is_some interest) (ended_text (find (λ t. t.number == id) watch.remote_tokens) text) watch.subs
 silent_watch watch number text (EndsAnswers None) ends quiet = silent_none
 silent_watch watch number text (EndsAnswers (Some n)) ends quiet = silent_if (is_asking n watch.gets) (end_asking n ∷ []) [] (λ id. refl) silent_none
 

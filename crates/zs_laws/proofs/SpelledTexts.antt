@@ -16,7 +16,7 @@ use Rattle.zs_model.specs.Entry.{Entry}
 use Rattle.zs_model.specs.Past.{past_of}
 use Rattle.zs_model.specs.Values.{met_by_get, met_by_request, get_request, network_request}
 use Rattle.zs_model.specs.Received.{spoken_by, AreUtf8}
-use Rattle.zs_world.specs.Turns.{to_gets_at}
+use Rattle.zs_world.specs.Decisions.{to_gets_at}
 use Rattle.zs_standing.specs.Stands.{world_after}
 use Rattle.zs_model.proofs.Values.{handing_next}
 use Rattle.zs_standing.proofs.Steps.{along}

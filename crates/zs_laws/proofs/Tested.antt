@@ -6,7 +6,7 @@ use Rattle.std.specs.Option.{IfSome}
 use Rattle.zs_keys.specs.Text.{is_canonical}
 use Rattle.zs_wire.specs.declared.message.Message.TheVariants.{Request as request_message}
 use Rattle.zs_tables.specs.declared.queryable.QueryableRow.{QueryableRow}
-use Rattle.zs_tables.specs.Types.{ToldToken}
+use Rattle.zs_tables.specs.Types.{RemoteToken}
 use Rattle.zs_query.specs.Types.{QueryValue, RequestRow}
 use Rattle.zs_query.specs.Unfinished.{value_at, values_from}
 use Rattle.zs_query.specs.RequestTable.{Handing, with_handed, with_share}
@@ -20,7 +20,7 @@ use Rattle.zs_model.specs.declared.settings.Settings.{Settings}
 use Rattle.zs_model.specs.declared.querier.QuerierRow.{QuerierRow}
 use Rattle.zs_world.specs.World.{World}
 use Rattle.zs_model.specs.Entry.{Entry, is_closed}
-use Rattle.zs_model.specs.Held.{named_text}
+use Rattle.zs_model.specs.HeldKeys.{named_text}
 use Rattle.zs_model.specs.Past.{past_of, entry_of, with_entry}
 use Rattle.zs_model.specs.Causes.{has_cause, in_order, first_that, refusal_of}
 use Rattle.zs_model.specs.Seen.{is_bad}
@@ -107,7 +107,7 @@ none_holds test (r ∷ rs) none = go (test r) refl none (none_holds test rs)
     go true is none ih = cc
     go false is none ih = (is, ih none)
 
-unspared : (tokens : List ToldToken) (to : ToLiveliness) → ends_token to ≡ false → is_spared tokens to ≡ false
+unspared : (tokens : List RemoteToken) (to : ToLiveliness) → ends_token to ≡ false → is_spared tokens to ≡ false
 unspared tokens (EndsToken id interest) other = cc
 unspared tokens to other = refl
 

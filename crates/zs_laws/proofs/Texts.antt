@@ -20,7 +20,7 @@ use Rattle.zs_model.specs.declared.settings.Settings.{Settings}
 use Rattle.zs_model.specs.declared.publisher.PubRow.{PubRow}
 use Rattle.zs_model.specs.declared.querier.QuerierRow.{QuerierRow}
 use Rattle.zs_model.specs.Entry.{Entry, is_closed}
-use Rattle.zs_model.specs.Held.{declares_number, tells_number, is_held, drawn_text, held_text, key_text, told_text, mapped_text, wire_text, text_named, named_text}
+use Rattle.zs_model.specs.HeldKeys.{declares_number, tells_number, is_held, drawn_text, held_text, key_text, remote_text, mapped_text, wire_text, text_named, named_text}
 use Rattle.zs_model.specs.Live.{appended, declared, is_live, live_pubs, live_queriers}
 use Rattle.zs_model.specs.Publishers.{pub_row, pub_at}
 use Rattle.zs_model.specs.Queriers.{querier_row, querier_at}
@@ -86,11 +86,11 @@ held_utf8 n past all = go (is_held n past)
     go true = drawn_utf8 n past all
     go false = tt
 
-told_utf8 : (n : ℕ) (past : List Entry) → AreUtf8 past → IfSome (told_text n past) IsUtf8
+told_utf8 : (n : ℕ) (past : List Entry) → AreUtf8 past → IfSome (remote_text n past) IsUtf8
 told_utf8 n [] all = tt
 told_utf8 n (x ∷ past) all = go (tells_number n x.event) (told_utf8 n past all.1)
   where
-    go : (b : Bool) → IfSome (told_text n past) IsUtf8 → IfSome (if b then x.text else told_text n past) IsUtf8
+    go : (b : Bool) → IfSome (remote_text n past) IsUtf8 → IfSome (if b then x.text else remote_text n past) IsUtf8
     go true utf8 = all.0
     go false utf8 = utf8
 

@@ -6,16 +6,16 @@ use Rattle.std.specs.Option.{option_or}
 use Rattle.std.proofs.lemmas.Bool.{eqb-true}
 use Rattle.zs_keys.specs.Key.{undeclared}
 use Rattle.zs_tables.specs.Ascending.{placed_by}
-use Rattle.zs_tables.specs.Types.{LivelinessGet, ToldToken}
+use Rattle.zs_tables.specs.Types.{LivelinessGet, RemoteToken}
 use Rattle.zs_events.specs.declared.event.Event.{Event}
 use Rattle.zs_events.specs.Kinds.{ToLiveliness, NoToken, Subscribes, AsksTokens, TellsToken, EndsToken, EndsAnswers, row_of}
 use Rattle.zs_model.specs.declared.settings.Settings.{Settings}
 use Rattle.zs_model.specs.Entry.{Entry}
-use Rattle.zs_model.specs.Tokens.{answers, asking_now, is_told, told_behind, remote_tokens, text_behind, token_text}
+use Rattle.zs_model.specs.Tokens.{answers, asking_now, is_remote_token, remote_tokens_behind, remote_tokens, text_behind, token_text}
 use Rattle.zs_laws.specs.Plain.{tells_token, ends_token_of, ends_token, token_unended, unended_text, TokensAreUnended}
 
 -- one more among rows, whether or not one had its number
-placed_known : (new : ToldToken) (n : ℕ) (tokens : List ToldToken) → is_told n (placed_by (λ t. t.number) new tokens) ≡ ((new.number == n) || is_told n tokens)
+placed_known : (new : RemoteToken) (n : ℕ) (tokens : List RemoteToken) → is_remote_token n (placed_by (λ t. t.number) new tokens) ≡ ((new.number == n) || is_remote_token n tokens)
 placed_known new n [] = refl
 placed_known new n (t ∷ tokens) = go (t.number == new.number) refl (nat_lt new.number t.number) (placed_known new n tokens)
   where
@@ -30,24 +30,24 @@ placed_known new n (t ∷ tokens) = go (t.number == new.number) refl (nat_lt new
     twice false true c same = refl
     twice false false c same = refl
 
-    go : (b : Bool) → (t.number == new.number) ≡ b → (l : Bool) → is_told n (placed_by (λ r. r.number) new tokens) ≡ ((new.number == n) || is_told n tokens)
-        → is_told n (if b then new ∷ tokens else if l then new ∷ t ∷ tokens else t ∷ placed_by (λ r. r.number) new tokens) ≡ ((new.number == n) || ((t.number == n) || is_told n tokens))
-    go true is l ih = twice (t.number == n) (new.number == n) (is_told n tokens) (ap (λ (m : ℕ). m == n) (eqb-true t.number new.number is))
+    go : (b : Bool) → (t.number == new.number) ≡ b → (l : Bool) → is_remote_token n (placed_by (λ r. r.number) new tokens) ≡ ((new.number == n) || is_remote_token n tokens)
+        → is_remote_token n (if b then new ∷ tokens else if l then new ∷ t ∷ tokens else t ∷ placed_by (λ r. r.number) new tokens) ≡ ((new.number == n) || ((t.number == n) || is_remote_token n tokens))
+    go true is l ih = twice (t.number == n) (new.number == n) (is_remote_token n tokens) (ap (λ (m : ℕ). m == n) (eqb-true t.number new.number is))
     go false is true ih = refl
-    go false is false ih = ap (λ (b : Bool). (t.number == n) || b) ih ∙ turn (t.number == n) (new.number == n) (is_told n tokens)
+    go false is false ih = ap (λ (b : Bool). (t.number == n) || b) ih ∙ turn (t.number == n) (new.number == n) (is_remote_token n tokens)
 
 -- one that is known stays as it is
-put_known : (new : ToldToken) (n : ℕ) (tokens : List ToldToken)
-    → is_told n (if is_told new.number tokens then tokens else placed_by (λ t. t.number) new tokens) ≡ ((new.number == n) || is_told n tokens)
-put_known new n tokens = go (is_told new.number tokens) refl (new.number == n) refl
+put_known : (new : RemoteToken) (n : ℕ) (tokens : List RemoteToken)
+    → is_remote_token n (if is_remote_token new.number tokens then tokens else placed_by (λ t. t.number) new tokens) ≡ ((new.number == n) || is_remote_token n tokens)
+put_known new n tokens = go (is_remote_token new.number tokens) refl (new.number == n) refl
   where
-    go : (b : Bool) → is_told new.number tokens ≡ b → (e : Bool) → (new.number == n) ≡ e → is_told n (if b then tokens else placed_by (λ t. t.number) new tokens) ≡ ((new.number == n) || is_told n tokens)
-    go true is true same = rw same (ap (λ (m : ℕ). is_told m tokens) (sym (eqb-true new.number n same)) ∙ is)
+    go : (b : Bool) → is_remote_token new.number tokens ≡ b → (e : Bool) → (new.number == n) ≡ e → is_remote_token n (if b then tokens else placed_by (λ t. t.number) new tokens) ≡ ((new.number == n) || is_remote_token n tokens)
+    go true is true same = rw same (ap (λ (m : ℕ). is_remote_token m tokens) (sym (eqb-true new.number n same)) ∙ is)
     go true is false same = rw same refl
     go false is e same = placed_known new n tokens
 
 -- those of another number stay
-others_known : (id n : ℕ) (tokens : List ToldToken) → is_told n (filter (λ t. not (t.number == id)) tokens) ≡ (not (id == n) && is_told n tokens)
+others_known : (id n : ℕ) (tokens : List RemoteToken) → is_remote_token n (filter (λ t. not (t.number == id)) tokens) ≡ (not (id == n) && is_remote_token n tokens)
 others_known id n [] = go (id == n)
   where
     go : (b : Bool) → false ≡ (not b && false)
@@ -55,8 +55,8 @@ others_known id n [] = go (id == n)
     go false = refl
 others_known id n (t ∷ tokens) = go (t.number == id) refl (t.number == n) refl (id == n) refl (others_known id n tokens)
   where
-    go : (b : Bool) → (t.number == id) ≡ b → (c : Bool) → (t.number == n) ≡ c → (e : Bool) → (id == n) ≡ e → is_told n (filter (λ r. not (r.number == id)) tokens) ≡ (not e && is_told n tokens)
-        → is_told n (if not b then t ∷ filter (λ r. not (r.number == id)) tokens else filter (λ r. not (r.number == id)) tokens) ≡ (not e && (c || is_told n tokens))
+    go : (b : Bool) → (t.number == id) ≡ b → (c : Bool) → (t.number == n) ≡ c → (e : Bool) → (id == n) ≡ e → is_remote_token n (filter (λ r. not (r.number == id)) tokens) ≡ (not e && is_remote_token n tokens)
+        → is_remote_token n (if not b then t ∷ filter (λ r. not (r.number == id)) tokens else filter (λ r. not (r.number == id)) tokens) ≡ (not e && (c || is_remote_token n tokens))
     go true is true here true same ih = ih
     go true is true here false same ih = let no : true ≡ false = sym here ∙ ap (λ (m : ℕ). m == n) (eqb-true t.number id is) ∙ same in cc
     go true is false here true same ih = ih
@@ -67,23 +67,23 @@ others_known id n (t ∷ tokens) = go (t.number == id) refl (t.number == n) refl
     go false is false here false same ih = rw here ih
 
 -- what an event makes of it
-step_known : (gets : List LivelinessGet) (to : ToLiveliness) (text : Option (List ℕ)) (n : ℕ) (tokens : List ToldToken)
-    → is_told n (told_behind gets to text tokens) ≡ (tells_token n gets to text || (not (ends_token_of n to) && is_told n tokens))
+step_known : (gets : List LivelinessGet) (to : ToLiveliness) (text : Option (List ℕ)) (n : ℕ) (tokens : List RemoteToken)
+    → is_remote_token n (remote_tokens_behind gets to text tokens) ≡ (tells_token n gets to text || (not (ends_token_of n to) && is_remote_token n tokens))
 step_known gets NoToken text n tokens = refl
 step_known gets (Subscribes history) text n tokens = refl
 step_known gets (AsksTokens timeout token) text n tokens = refl
 step_known gets (TellsToken id interest) None n tokens = refl
 step_known gets (TellsToken id interest) (Some text) n tokens = go (answers interest gets) (id == n) refl
   where
-    new : ToldToken
+    new : RemoteToken
     new = record { number = id; key = undeclared text }
 
     go : (b e : Bool) → (id == n) ≡ e
-        → is_told n (if b then tokens else if is_told id tokens then tokens else placed_by (λ t. t.number) new tokens) ≡ (e && not b || is_told n tokens)
+        → is_remote_token n (if b then tokens else if is_remote_token id tokens then tokens else placed_by (λ t. t.number) new tokens) ≡ (e && not b || is_remote_token n tokens)
     go true true same = refl
     go true false same = refl
-    go false true same = put_known new n tokens ∙ ap (λ (b : Bool). b || is_told n tokens) same
-    go false false same = put_known new n tokens ∙ ap (λ (b : Bool). b || is_told n tokens) same
+    go false true same = put_known new n tokens ∙ ap (λ (b : Bool). b || is_remote_token n tokens) same
+    go false false same = put_known new n tokens ∙ ap (λ (b : Bool). b || is_remote_token n tokens) same
 step_known gets (EndsToken id interest) text n tokens = others_known id n tokens
 step_known gets (EndsAnswers interest) text n tokens = refl
 
@@ -113,13 +113,13 @@ mixed false true i false r same = go i same
 mixed false false i true r same = same
 mixed false false i false r same = same
 
-behind : (s : Settings) (n : ℕ) (later : List Event) (past : List Entry) → (is_told n (remote_tokens s past) && not (list_any (ends_token n) later)) ≡ token_unended s n later past
+behind : (s : Settings) (n : ℕ) (later : List Event) (past : List Entry) → (is_remote_token n (remote_tokens s past) && not (list_any (ends_token n) later)) ≡ token_unended s n later past
 behind s n later [] = refl
 behind s n later (x ∷ past) =
     let gets = asking_now s past in
     let to = (row_of x.event).to_liveliness in
     ap (λ (b : Bool). b && not (list_any (ends_token n) later)) (step_known gets to x.text n (remote_tokens s past))
-    ∙ mixed (tells_token n gets to x.text) (ends_token n x.event) (is_told n (remote_tokens s past)) (list_any (ends_token n) later) (token_unended s n (x.event ∷ later) past) (behind s n (x.event ∷ later) past)
+    ∙ mixed (tells_token n gets to x.text) (ends_token n x.event) (is_remote_token n (remote_tokens s past)) (list_any (ends_token n) later) (token_unended s n (x.event ∷ later) past) (behind s n (x.event ∷ later) past)
 
 and_true : (b : Bool) → b ≡ (b && true)
 and_true true = refl
@@ -172,4 +172,4 @@ texts_behind s n later (x ∷ past) =
     (text_step gets to x.text n (token_text s n past)) (texts_behind s n (x.event ∷ later) past)
 
 pub tokens_are_unended : TokensAreUnended
-tokens_are_unended s past n = (and_true (is_told n (remote_tokens s past)) ∙ behind s n [] past, texts_behind s n [] past)
+tokens_are_unended s past n = (and_true (is_remote_token n (remote_tokens s past)) ∙ behind s n [] past, texts_behind s n [] past)

@@ -27,7 +27,7 @@ use Rattle.zs_world.specs.Changes.{change_for, key_change, key_change_by, with_c
 use Rattle.zs_model.specs.Publishers.{resolved}
 use Rattle.zs_model.specs.Sends.{full_wire, key_sends, return_sends, publication_sends, sends_of}
 use Rattle.zs_model.specs.Effects.{to_gets_for, draws_of, answering, entity_sends, effects}
-use Rattle.zs_world.specs.Turns.{text_for, number_of, number_for, own_keys_at, known_at}
+use Rattle.zs_world.specs.Decisions.{text_for, number_of, number_for, own_keys_at, known_at}
 use Rattle.zs_standing.specs.Stands.{world_of, world_after}
 use Rattle.zs_model.specs.Received.{messages_of, sent_behind, sent, number_text, AreUtf8}
 use Rattle.zs_standing.proofs.Numbers.{key_at-placed, key_at-without}
@@ -36,7 +36,7 @@ use Rattle.zs_standing.proofs.Stands.{standing, steps}
 use Rattle.zs_laws.proofs.SentMessages.{same_messages, asked_by, answered_by, told_by_event, all_messages, behind_both}
 use Rattle.zs_laws.proofs.Reading.{IsTold, asks_told, answers_told}
 use Rattle.zs_laws.proofs.Sends.{Announced, ASubscriber, announcement, announced_wire, Retracted, OfSubscriber, retraction, entity_cases, publication_cases}
-use Rattle.zs_model.specs.Held.{declares_number, returns_number}
+use Rattle.zs_model.specs.HeldKeys.{declares_number, returns_number}
 use Rattle.zs_standing.proofs.Saying.{IsMade}
 use Rattle.zs_standing.proofs.Changes.{made}
 use Rattle.std.proofs.lemmas.Bool.Decides.{nat_tests}
@@ -45,14 +45,14 @@ use Rattle.std.proofs.lemmas.Bool.Decides.{nat_tests}
 pub key_told : (w : World) (text : Option (List ℕ)) (before : List Message) → IsTold w before → IfSome text IsUtf8
     → IsTold (with_change (key_change w text) w) (sent_behind (messages_of (key_sends (own_keys_at w) (number_of w KeyNumber text) text)) before)
 key_told w None before told utf8 = told
-key_told w (Some text) before told utf8 = go (number_at text w.keys.own)
+key_told w (Some text) before told utf8 = go (number_at text w.keys.local_resources)
   where
     pick : (n : ℕ) (t : Bool) → (if t then Some (encode_utf8_all (chars text)) else number_text n before)
-        ≡ option_map (λ (key : a_key). key.text) (if t then Some (undeclared text) else key_at n w.keys.own)
+        ≡ option_map (λ (key : a_key). key.text) (if t then Some (undeclared text) else key_at n w.keys.local_resources)
     pick n true = ap (λ (t : List ℕ). Some t) (encodes-chars text utf8)
     pick n false = told.numbers n
 
-    spell : (n : ℕ) (key : a_key) (t : Bool) → (if t then Some (undeclared text) else key_at n w.keys.own) ≡ Some key → IsUtf8 key.text
+    spell : (n : ℕ) (key : a_key) (t : Bool) → (if t then Some (undeclared text) else key_at n w.keys.local_resources) ≡ Some key → IsUtf8 key.text
     spell n key true at = let same : text ≡ key.text = cc in subst IsUtf8 same utf8
     spell n key false at = told.spelled n key at
 
@@ -62,30 +62,30 @@ key_told w (Some text) before told utf8 = go (number_at text w.keys.own)
     go None = record {
       numbers = λ n.
           pick n (w.counters.key == n)
-          ∙ ap (option_map (λ (key : a_key). key.text)) (sym (key_at-placed n (record { number = w.counters.key; key = undeclared text }) w.keys.own));
+          ∙ ap (option_map (λ (key : a_key). key.text)) (sym (key_at-placed n (record { number = w.counters.key; key = undeclared text }) w.keys.local_resources));
       spelled = λ n key at.
-          spell n key (w.counters.key == n) (sym (key_at-placed n (record { number = w.counters.key; key = undeclared text }) w.keys.own) ∙ at);
+          spell n key (w.counters.key == n) (sym (key_at-placed n (record { number = w.counters.key; key = undeclared text }) w.keys.local_resources) ∙ at);
     }
 
 pub return_told : (w : World) (number : ℕ) (before : List Message) → IsTold w before
     → IsTold (with_change (OfKeys (Release number)) w) (sent_behind (messages_of (return_sends (own_keys_at w) number)) before)
 return_told w number before told = record { numbers = λ n. go n (is_last number w.keys.holders); spelled = λ n key at. spell n key (is_last number w.keys.holders) at }
   where
-    pick : (n : ℕ) (t : Bool) → (if t then None else number_text n before) ≡ option_map (λ (key : a_key). key.text) (if t then None else key_at n w.keys.own)
+    pick : (n : ℕ) (t : Bool) → (if t then None else number_text n before) ≡ option_map (λ (key : a_key). key.text) (if t then None else key_at n w.keys.local_resources)
     pick n true = refl
     pick n false = told.numbers n
 
     go : (n : ℕ) (b : Bool) → number_text n (sent_behind (messages_of (if b then Send (UndeclareKeyExpr number) ∷ [] else [])) before)
-        ≡ option_map (λ (key : a_key). key.text) (key_at n (if b then without number w.keys.own else w.keys.own))
-    go n true = pick n (number == n) ∙ ap (option_map (λ (key : a_key). key.text)) (sym (key_at-without n number w.keys.own))
+        ≡ option_map (λ (key : a_key). key.text) (key_at n (if b then without number w.keys.local_resources else w.keys.local_resources))
+    go n true = pick n (number == n) ∙ ap (option_map (λ (key : a_key). key.text)) (sym (key_at-without n number w.keys.local_resources))
     go n false = told.numbers n
 
-    known : (n : ℕ) (key : a_key) (t : Bool) → (if t then None else key_at n w.keys.own) ≡ Some key → IsUtf8 key.text
+    known : (n : ℕ) (key : a_key) (t : Bool) → (if t then None else key_at n w.keys.local_resources) ≡ Some key → IsUtf8 key.text
     known n key true at = cc
     known n key false at = told.spelled n key at
 
-    spell : (n : ℕ) (key : a_key) (b : Bool) → key_at n (if b then without number w.keys.own else w.keys.own) ≡ Some key → IsUtf8 key.text
-    spell n key true at = known n key (number == n) (sym (key_at-without n number w.keys.own) ∙ at)
+    spell : (n : ℕ) (key : a_key) (b : Bool) → key_at n (if b then without number w.keys.local_resources else w.keys.local_resources) ≡ Some key → IsUtf8 key.text
+    spell n key true at = known n key (number == n) (sym (key_at-without n number w.keys.local_resources) ∙ at)
     spell n key false at = told.spelled n key at
 
 -- a publication's message tells no number
@@ -99,7 +99,7 @@ same_number : (n : ℕ) → (n == n) ≡ true
 same_number n = grind (arith, nat_tests)
 
 keys_kept : (w : World) (x : Entry) (c : Change) → IsMade w x c → (with_change c w).closed ≡ false → ((n : ℕ) → declares_number n x.event x.number ≡ false) → ((n : ℕ) → returns_number n x.event ≡ false)
-    → (with_change c w).keys.own ≡ w.keys.own
+    → (with_change c w).keys.local_resources ≡ w.keys.local_resources
 keys_kept w x (OfKeys (Declare number key)) m still declares returns = let no : true ≡ false = sym (same_number number) ∙ sym (m.keys.declares number) ∙ declares number in cc
 keys_kept w x (OfKeys (Release number)) m still declares returns = let no : true ≡ false = sym (same_number number) ∙ sym (m.keys.returns number) ∙ returns number in cc
 keys_kept w x Shut m still declares returns = cc

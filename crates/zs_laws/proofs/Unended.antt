@@ -15,7 +15,7 @@ use Rattle.zs_model.specs.Subscribers.{sub_row}
 use Rattle.zs_events.specs.declared.turn.Kind.TheVariants.{Subscriber}
 use Rattle.zs_model.specs.Matching.{remote_subscribers, remote_queryables}
 use Rattle.zs_standing.proofs.Stands.{standing}
-use Rattle.zs_laws.specs.Plain.{unended, declared_listener, told_sub, replaces_sub, told_queryable, replaces_queryable, ListenersAreUnended, ToldAreLastDeclared, MarksAreTold, MatchesAscend}
+use Rattle.zs_laws.specs.Plain.{unended, declared_listener, remote_subscriber, replaces_sub, remote_queryable, replaces_queryable, ListenersAreUnended, ToldAreLastDeclared, MarksAreTold, MatchesAscend}
 
 appended_is : {R : Type 0} (xs ys : List R) → appended xs ys ≡ xs ++ ys
 appended_is xs [] = sym (append-nil xs)
@@ -71,8 +71,8 @@ listeners_are_unended past = fold_unended ends_listener declared_listener live_l
 
 pub told_are_last_declared : ToldAreLastDeclared
 told_are_last_declared past = (
-  fold_unended replaces_sub told_sub remote_subscribers (record { none = refl; more = λ x past. refl }) past,
-  fold_unended replaces_queryable told_queryable remote_queryables (record { none = refl; more = λ x past. refl }) past,
+  fold_unended replaces_sub remote_subscriber remote_subscribers (record { none = refl; more = λ x past. refl }) past,
+  fold_unended replaces_queryable remote_queryable remote_queryables (record { none = refl; more = λ x past. refl }) past,
 )
 
 pub marks_are_told : MarksAreTold

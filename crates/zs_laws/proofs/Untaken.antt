@@ -35,7 +35,7 @@ use Rattle.zs_model.specs.Values.{met_by_get}
 use Rattle.zs_model.specs.Gets.{open_now}
 use Rattle.zs_model.specs.GetEffects.{ended_numbers}
 use Rattle.zs_world.specs.Changes.{with_change, change_for}
-use Rattle.zs_world.specs.Turns.{open_cause, sight}
+use Rattle.zs_world.specs.Decisions.{open_cause, sight}
 use Rattle.zs_standing.specs.Stands.{world_of, world_after}
 use Rattle.zs_model.proofs.Placing.{placed_any}
 use Rattle.zs_model.proofs.Cancelling.{taken_by}
@@ -47,30 +47,30 @@ use Rattle.zs_standing.proofs.Stands.{standing, steps}
 
 -- the tokens of these gets were not taken
 abbrev IsUntaken : List ℕ → OpenGet → Type 0
-IsUntaken taken g = is_any (is_among taken) g.row.token ≡ false
+IsUntaken taken g = is_any (is_among taken) g.row.cancellation_token ≡ false
 
 abbrev AreUntaken : List ℕ → List OpenGet → Type 0
 AreUntaken taken gets = AllByRecursion (IsUntaken taken) gets
 
 -- what keeps the tokens of gets keeps them untaken
-kept_tokens : (taken : List ℕ) (f : OpenGet → OpenGet) → ((g : OpenGet) → (f g).row.token ≡ g.row.token) → (gets : List OpenGet) → AreUntaken taken gets → AreUntaken taken (map f gets)
+kept_tokens : (taken : List ℕ) (f : OpenGet → OpenGet) → ((g : OpenGet) → (f g).row.cancellation_token ≡ g.row.cancellation_token) → (gets : List OpenGet) → AreUntaken taken gets → AreUntaken taken (map f gets)
 kept_tokens taken f keeps [] all = tt
 kept_tokens taken f keeps (g ∷ gets) all = (rw (keeps g) all.0, kept_tokens taken f keeps gets all.1)
 
-replied_token : (reply : Replied) (g : OpenGet) → (replied reply g).row.token ≡ g.row.token
+replied_token : (reply : Replied) (g : OpenGet) → (replied reply g).row.cancellation_token ≡ g.row.cancellation_token
 replied_token reply g = go (peek_get g reply)
   where
-    go : (p : Peek) → (after_reply p reply g).row.token ≡ g.row.token
+    go : (p : Peek) → (after_reply p reply g).row.cancellation_token ≡ g.row.cancellation_token
     go peek.Kept = refl
     go peek.Handed = refl
     go peek.Unknown = refl
     go peek.Unmatched = refl
     go peek.Dropped = refl
 
-one_token : (n : ℕ) (f : OpenGet → OpenGet) → ((g : OpenGet) → (f g).row.token ≡ g.row.token) → (g : OpenGet) → (if g.row.number == n then f g else g).row.token ≡ g.row.token
+one_token : (n : ℕ) (f : OpenGet → OpenGet) → ((g : OpenGet) → (f g).row.cancellation_token ≡ g.row.cancellation_token) → (g : OpenGet) → (if g.row.number == n then f g else g).row.cancellation_token ≡ g.row.cancellation_token
 one_token n f keeps g = go (g.row.number == n)
   where
-    go : (b : Bool) → (if b then f g else g).row.token ≡ g.row.token
+    go : (b : Bool) → (if b then f g else g).row.cancellation_token ≡ g.row.cancellation_token
     go true = keeps g
     go false = refl
 
@@ -94,7 +94,7 @@ news_untaken taken (CancelledBy token) gets all = all_filter (IsUntaken taken) _
 news_untaken taken AllEnd gets all = tt
 
 -- a get that is asked with a token that was not taken
-opened_untaken : (taken : List ℕ) (row : GetRow) (gets : List OpenGet) → is_any (is_among taken) row.token ≡ false → AreUntaken taken gets → AreUntaken taken (opened row gets)
+opened_untaken : (taken : List ℕ) (row : GetRow) (gets : List OpenGet) → is_any (is_among taken) row.cancellation_token ≡ false → AreUntaken taken gets → AreUntaken taken (opened row gets)
 opened_untaken taken row gets free all = go (waits row)
   where
     go : (b : Bool) → AreUntaken taken (if b then gets ++ fresh row ∷ [] else gets)
@@ -108,17 +108,17 @@ other_token taken token (Some t) other free = placed_any t token taken ∙ (λ i
 
 taken_untaken : (taken : List ℕ) (token : ℕ) (gets : List OpenGet) → AreUntaken taken gets → AreUntaken (placed_by (λ n. n) token taken) (gets_after (CancelledBy token) gets)
 taken_untaken taken token [] all = tt
-taken_untaken taken token (g ∷ gets) all = go (names token g.row.token) refl (taken_untaken taken token gets all.1)
+taken_untaken taken token (g ∷ gets) all = go (names token g.row.cancellation_token) refl (taken_untaken taken token gets all.1)
   where
     new : List ℕ
     new = placed_by (λ n. n) token taken
 
     left : List OpenGet
-    left = filter (λ g. not (names token g.row.token)) gets
+    left = filter (λ g. not (names token g.row.cancellation_token)) gets
 
-    go : (b : Bool) → names token g.row.token ≡ b → AreUntaken new left → AreUntaken new (cond (not b) (g ∷ left) left)
+    go : (b : Bool) → names token g.row.cancellation_token ≡ b → AreUntaken new left → AreUntaken new (cond (not b) (g ∷ left) left)
     go true is rest = rest
-    go false is rest = (other_token taken token g.row.token is all.0, rest)
+    go false is rest = (other_token taken token g.row.cancellation_token is all.0, rest)
 
 -- so each event keeps them so
 asked_untaken : (default zid : ℕ) (rows : List QueryableRow) (values : List QueryValue) (q : Question) (does : ToValues) (text : Option (List ℕ)) (taken : List ℕ) (a : Asking)
@@ -164,7 +164,7 @@ untaken_after s (e ∷ h) =
 -- so no open get has one that was
 none_named : (taken : List ℕ) (token : ℕ) (gets : List OpenGet) → is_among taken token ≡ true → AreUntaken taken gets → ended_numbers (CancelledBy token) gets ≡ []
 none_named taken token [] was all = refl
-none_named taken token (g ∷ gets) was all = go g.row.token refl (none_named taken token gets was all.1)
+none_named taken token (g ∷ gets) was all = go g.row.cancellation_token refl (none_named taken token gets was all.1)
   where
     ended : Bool → List ℕ
     ended b = map (λ (g : OpenGet). g.row.number) (cond b (g ∷ filter (λ (g : OpenGet). is_end g.row (CancelledBy token)) gets) (filter (λ (g : OpenGet). is_end g.row (CancelledBy token)) gets))
@@ -173,7 +173,7 @@ none_named taken token (g ∷ gets) was all = go g.row.token refl (none_named ta
     same t false is free rest = rest
     same t true is free rest = let no : true ≡ false = sym was ∙ ap (is_among taken) (sym (eqb-true t token is)) ∙ free in cc
 
-    go : (o : Option ℕ) → g.row.token ≡ o → ended_numbers (CancelledBy token) gets ≡ [] → ended (names token g.row.token) ≡ []
+    go : (o : Option ℕ) → g.row.cancellation_token ≡ o → ended_numbers (CancelledBy token) gets ≡ [] → ended (names token g.row.cancellation_token) ≡ []
     go None is rest = ap (λ (o : Option ℕ). ended (names token o)) is ∙ rest
     go (Some t) is rest = ap (λ (o : Option ℕ). ended (names token o)) is ∙ same t (t == token) refl (ap (is_any (is_among taken)) (sym is) ∙ all.0) rest
 

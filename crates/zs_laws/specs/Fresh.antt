@@ -9,7 +9,7 @@ use Rattle.zs_events.specs.declared.turn.Answer.TheVariants.{Ok as accepted}
 use Rattle.zs_events.specs.Kinds.{Draws, row_of}
 use Rattle.zs_model.specs.declared.settings.Settings.{Settings}
 use Rattle.zs_model.specs.Entry.{Entry}
-use Rattle.zs_model.specs.Held.{named_text}
+use Rattle.zs_model.specs.HeldKeys.{named_text}
 use Rattle.zs_model.specs.Live.{live_queryables, to_gets_of}
 use Rattle.zs_model.specs.Counters.{draws_entity, draws_query}
 use Rattle.zs_model.specs.Cancelling.{draws_cancellation_token}

@@ -29,7 +29,7 @@ use Rattle.zs_model.specs.Answers.{local_error}
 use Rattle.zs_model.specs.Causes.{refusal_of}
 use Rattle.zs_model.specs.Entry.{Entry, is_closed}
 use Rattle.zs_model.specs.Gets.{asked, open_now, news_of, error_reply}
-use Rattle.zs_model.specs.Held.{named_text}
+use Rattle.zs_model.specs.HeldKeys.{named_text}
 use Rattle.zs_model.specs.Live.{to_gets_of}
 use Rattle.zs_model.specs.Past.{past_of}
 use Rattle.zs_model.specs.Values.{values_now}

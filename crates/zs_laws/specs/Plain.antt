@@ -6,8 +6,8 @@ use Rattle.zs_tables.specs.Ascending.{Ascend}
 use Rattle.zs_tables.specs.Recipients.{matches}
 use Rattle.zs_tables.specs.declared.listener.ListenerRow.{ListenerRow}
 use Rattle.zs_tables.specs.Types.{LivelinessGet}
-use Rattle.zs_tables.specs.declared.told_row.ToldSub.{ToldSub}
-use Rattle.zs_tables.specs.declared.told_row.ToldQueryable.{ToldQueryable}
+use Rattle.zs_tables.specs.declared.remote_row.RemoteSubscriber.{RemoteSubscriber}
+use Rattle.zs_tables.specs.declared.remote_row.RemoteQueryable.{RemoteQueryable}
 use Rattle.zs_events.specs.declared.event.Event.{Event}
 use Rattle.zs_events.specs.declared.turn.Kind.{Kind}
 use Rattle.zs_events.specs.Kinds.{ToLiveliness, TellsToken, EndsToken, row_of}
@@ -15,11 +15,11 @@ use Rattle.zs_model.specs.declared.settings.Settings.{Settings}
 use Rattle.zs_model.specs.Entry.{Entry}
 use Rattle.zs_model.specs.Listeners.{listener_row, ends_listener}
 use Rattle.zs_model.specs.Live.{was_left, live_pubs, live_queriers, live_subs, live_listeners}
-use Rattle.zs_model.specs.Matching.{told_sub_row, told_queryable_row, renews_sub, renews_queryable, remote_subscribers, remote_queryables}
+use Rattle.zs_model.specs.Matching.{remote_subscriber_row, remote_queryable_row, renews_sub, renews_queryable, remote_subscribers, remote_queryables}
 use Rattle.zs_model.specs.Past.{past_of}
-use Rattle.zs_model.specs.Tokens.{answers, asking_now, is_told, remote_tokens, token_text}
+use Rattle.zs_model.specs.Tokens.{answers, asking_now, is_remote_token, remote_tokens, token_text}
 use Rattle.zs_standing.specs.Stands.{world_after}
-use Rattle.zs_world.specs.Turns.{is_left}
+use Rattle.zs_world.specs.Decisions.{is_left}
 
 -- what each accepted event declares, where no accepted event after it ends it, nor any of the later ones; the first one first
 abbrev pub unended : {R : Type 0} → (Event → R → Bool) → (Entry → List Entry → List R) → List Event → List Entry → List R
@@ -36,22 +36,22 @@ abbrev pub ListenersAreUnended : Type 0
 ListenersAreUnended = (past : List Entry) → live_listeners past ≡ unended ends_listener declared_listener [] past
 
 -- the subscriber of the network that an event declares, and whether one declares its number anew or ends it; and a queryable
-abbrev pub told_sub : Entry → List Entry → List ToldSub
-told_sub x past = told_sub_row (row_of x.event).to_matching x.text
+abbrev pub remote_subscriber : Entry → List Entry → List RemoteSubscriber
+remote_subscriber x past = remote_subscriber_row (row_of x.event).to_matching x.text
 
-abbrev pub replaces_sub : Event → ToldSub → Bool
+abbrev pub replaces_sub : Event → RemoteSubscriber → Bool
 replaces_sub e row = renews_sub (row_of e).to_matching row
 
-abbrev pub told_queryable : Entry → List Entry → List ToldQueryable
-told_queryable x past = told_queryable_row (row_of x.event).to_matching x.text
+abbrev pub remote_queryable : Entry → List Entry → List RemoteQueryable
+remote_queryable x past = remote_queryable_row (row_of x.event).to_matching x.text
 
-abbrev pub replaces_queryable : Event → ToldQueryable → Bool
+abbrev pub replaces_queryable : Event → RemoteQueryable → Bool
 replaces_queryable e row = renews_queryable (row_of e).to_matching row
 
 -- those of the network are the last declarations of their numbers, without a later end
 abbrev pub ToldAreLastDeclared : Type 0
 ToldAreLastDeclared =
-    (past : List Entry) → (remote_subscribers past ≡ unended replaces_sub told_sub [] past) × (remote_queryables past ≡ unended replaces_queryable told_queryable [] past)
+    (past : List Entry) → (remote_subscribers past ≡ unended replaces_sub remote_subscriber [] past) × (remote_queryables past ≡ unended replaces_queryable remote_queryable [] past)
 
 -- the entities that are marked as left to themselves are those that an accepted event left so
 abbrev pub MarksAreTold : Type 0
@@ -91,4 +91,4 @@ unended_text s n later (x ∷ past) =
 -- of the first such event
 abbrev pub TokensAreUnended : Type 0
 TokensAreUnended = (s : Settings) (past : List Entry) (n : ℕ) →
-    (is_told n (remote_tokens s past) ≡ token_unended s n [] past) × (token_text s n past ≡ unended_text s n [] past)
+    (is_remote_token n (remote_tokens s past) ≡ token_unended s n [] past) × (token_text s n past ≡ unended_text s n [] past)

@@ -8,7 +8,7 @@ use Rattle.zs_events.specs.declared.event.Event.{Event}
 use Rattle.zs_events.specs.declared.event.Event.TheVariants.{Net}
 use Rattle.zs_model.specs.declared.settings.Settings.{Settings}
 use Rattle.zs_model.specs.Entry.{is_closed}
-use Rattle.zs_model.specs.Held.{wire_text}
+use Rattle.zs_model.specs.HeldKeys.{wire_text}
 use Rattle.zs_model.specs.Past.{past_of}
 use Rattle.zs_model.specs.Effects.{effects}
 use Rattle.zs_model.specs.Received.{messages_of, sent, wire_in, meant_by, spoken_text, AreSpelled}

@@ -11,7 +11,7 @@ use Rattle.zs_events.specs.declared.key_arg.KeyArg.{KeyArg}
 use Rattle.zs_events.specs.declared.key_arg.KeyArg.TheVariants.{Text, Number, Declared}
 use Rattle.zs_events.specs.Kinds.{NamedKey, NoKey, OwnKey, PublisherKey, QuerierKey, WireKey, row_of}
 use Rattle.zs_model.specs.declared.settings.Settings.{Settings}
-use Rattle.zs_model.specs.Held.{named_text}
+use Rattle.zs_model.specs.HeldKeys.{named_text}
 use Rattle.zs_model.specs.Live.{live_subs}
 use Rattle.zs_model.specs.Past.{past_of}
 use Rattle.zs_model.specs.Effects.{effects}

@@ -9,7 +9,7 @@ use Rattle.zs_events.specs.declared.turn.Turn.{Turn}
 use Rattle.zs_events.specs.Turn.{was_refused}
 use Rattle.zs_core.specs.Types.{Settings}
 use Rattle.zs_core.specs.World.{World}
-use Rattle.zs_core.specs.Stands.{world_after, Steps}
+use Rattle.zs_core.specs.Stands.{world_after, TakesStep}
 use Rattle.zs_grammar.specs.Grammar.{event_of}
 use Rattle.zs_printing.specs.Printing.{turn_text}
 use Rattle.zs_line_session.specs.declared.session.LineFault.{LineFault}
@@ -30,7 +30,7 @@ opened s = record { world = world_after s []; text = []; effects = []; line_max 
 -- the turn stands behind what waited
 pub record Takes (old new : Lined) (number : ℕ) (event : Event) : Type 0 where
   pub turn : Turn
-  pub steps : Steps old.world new.world event turn
+  pub steps : TakesStep old.world new.world event turn
   pub refuses : was_refused turn.answer ≡ true → new.world ≡ old.world
   pub text : new.text ≡ old.text ++ turn_text number turn
   pub effects : new.effects ≡ old.effects
@@ -40,7 +40,7 @@ pub record Takes (old new : Lined) (number : ℕ) (event : Event) : Type 0 where
 -- behind those that waited
 pub record Makes (old new : Lined) (event : Event) (answer : Answer) : Type 0 where
   pub turn : Turn
-  pub steps : Steps old.world new.world event turn
+  pub steps : TakesStep old.world new.world event turn
   pub refuses : was_refused turn.answer ≡ true → new.world ≡ old.world
   pub answered : turn.answer ≡ answer
   pub effects : new.effects ≡ old.effects ++ turn.effects

@@ -1,3 +1,3 @@
 pub mod LivelinessGets
 pub mod Liveliness
-pub mod ToldTokens
+pub mod RemoteTokens

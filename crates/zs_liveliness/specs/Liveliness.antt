@@ -3,11 +3,11 @@ use Rattle.std.specs.Prelude.{◌&&◌, ◌||◌, Bool, not, ℕ, List, map, fil
 use Rattle.zs_keys.specs.Key.{Key}
 use Rattle.zs_keys.specs.Matching.{intersects}
 pub use Rattle.zs_keyed.specs.Ascending.{put_new}
-use Rattle.zs_liveliness.specs.declared.told_token.ToldToken.{ToldToken}
+use Rattle.zs_liveliness.specs.declared.remote_token.RemoteToken.{RemoteToken}
 use Rattle.zs_liveliness.specs.declared.liveliness_sub.LivelinessSub.{LivelinessSub}
 
 -- the keys of the tokens that a key meets, in the order of their numbers
-abbrev pub met_keys : List ℕ → List ToldToken → List Key
+abbrev pub met_keys : List ℕ → List RemoteToken → List Key
 met_keys text tokens = map (λ t. t.key) (filter (λ t. intersects text t.key.text) tokens)
 
 -- whether a subscriber hears of tokens, whatever its key: of one that was there before it only where it wants those

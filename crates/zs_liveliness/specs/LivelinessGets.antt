@@ -30,13 +30,13 @@ waiting_at now gets = filter (λ g. not (is_over now g)) gets
 
 -- whether a cancellation token is that of a get, which may have none
 abbrev pub is_own : ℕ → Option ℕ → Bool
-is_own token None = false
-is_own token (Some own) = own == token
+is_own cancellation_token None = false
+is_own cancellation_token (Some own) = own == cancellation_token
 
 -- the numbers of those that have a cancellation token
 abbrev pub numbers_with : ℕ → List LivelinessGet → List ℕ
-numbers_with token gets = map (λ g. g.number) (filter (λ g. is_own token g.token) gets)
+numbers_with cancellation_token gets = map (λ g. g.number) (filter (λ g. is_own cancellation_token g.cancellation_token) gets)
 
 -- those that don't have it
-abbrev pub without_token : ℕ → List LivelinessGet → List LivelinessGet
-without_token token gets = filter (λ g. not (is_own token g.token)) gets
+abbrev pub without_cancellation_token : ℕ → List LivelinessGet → List LivelinessGet
+without_cancellation_token cancellation_token gets = filter (λ g. not (is_own cancellation_token g.cancellation_token)) gets

@@ -5,12 +5,12 @@ pub use liveliness_get::LivelinessGet;
 pub use liveliness_gets::LivelinessGets;
 pub use liveliness_sub::LivelinessSub;
 pub use liveliness_subs::LivelinessSubs;
-pub use told_token::ToldToken;
-pub use told_tokens::ToldTokens;
+pub use remote_token::RemoteToken;
+pub use remote_tokens::RemoteTokens;
 
 mod liveliness_get;
 mod liveliness_gets;
 mod liveliness_sub;
 mod liveliness_subs;
-mod told_token;
-mod told_tokens;
+mod remote_token;
+mod remote_tokens;

@@ -6,7 +6,7 @@ pub struct LivelinessGet {
     pub number: u32,
     pub key: KeyExpr<'static>,
     /// The cancellation token that ends it.
-    pub token: Option<u32>,
+    pub cancellation_token: Option<u32>,
     /// The moment, in milliseconds, at which it ends whatever is missing.
     pub deadline: u64,
 }

@@ -1,6 +1,6 @@
 ghost use Rattle.std.specs.Prelude.{◌≡◌, [], map, IfOk, OnOk, OnErr};
 ghost use Rattle.zs_keyed.specs.Ascending.{Ascend, IsPlaceOf};
-ghost use Rattle.zs_liveliness.specs.LivelinessGets.{is_asking, with_liveliness_get, without_liveliness_get, is_over, over_at, waiting_at, is_own, numbers_with, without_token};
+ghost use Rattle.zs_liveliness.specs.LivelinessGets.{is_asking, with_liveliness_get, without_liveliness_get, is_over, over_at, waiting_at, is_own, numbers_with, without_cancellation_token};
 
 use crate::liveliness_get::LivelinessGet;
 use std::alloc::{AllocError, Global};
@@ -83,17 +83,21 @@ impl LivelinessGets {
     /// # Errors
     ///
     /// Want of memory alone.
-    pub fn numbers_with(&self, alloc: Global, token: u32) -> Result<Vec<u32>, AllocError>
-        ensures { IfOk result (λ numbers. numbers.items ≡ numbers_with token self.now) }
+    pub fn numbers_with(
+        &self,
+        alloc: Global,
+        cancellation_token: u32,
+    ) -> Result<Vec<u32>, AllocError>
+        ensures { IfOk result (λ numbers. numbers.items ≡ numbers_with cancellation_token self.now) }
     {
-        numbers_with(alloc, &self.gets, token)
+        numbers_with(alloc, &self.gets, cancellation_token)
     }
 
     /// Ends those that have a cancellation token.
-    pub fn end_token(&mut self, token: u32)
-        ensures { self.new ≡ without_token token self.old }
+    pub fn end_cancelled_by(&mut self, cancellation_token: u32)
+        ensures { self.new ≡ without_cancellation_token cancellation_token self.old }
     {
-        leave_others(&mut self.gets, token);
+        leave_others(&mut self.gets, cancellation_token);
     }
 
     /// The numbers of all, ascending.
@@ -191,12 +195,16 @@ fn is_over(get: &LivelinessGet, now: u64) -> bool
 }
 
 /// The numbers of those that have a cancellation token.
-fn numbers_with(alloc: Global, gets: &[LivelinessGet], token: u32) -> Result<Vec<u32>, AllocError>
-    ensures { IfOk result (λ numbers. numbers.items ≡ numbers_with token gets.now) }
+fn numbers_with(
+    alloc: Global,
+    gets: &[LivelinessGet],
+    cancellation_token: u32,
+) -> Result<Vec<u32>, AllocError>
+    ensures { IfOk result (λ numbers. numbers.items ≡ numbers_with cancellation_token gets.now) }
 {
     let mut numbers = Vec::new(alloc);
     for get in gets {
-        if has_token(get, token) {
+        if has_cancellation_token(get, cancellation_token) {
             numbers.push(get.number)?;
         }
     }
@@ -204,19 +212,19 @@ fn numbers_with(alloc: Global, gets: &[LivelinessGet], token: u32) -> Result<Vec
 }
 
 /// Leaves those that don't have a cancellation token.
-fn leave_others(gets: &mut Vec<LivelinessGet>, token: u32)
+fn leave_others(gets: &mut Vec<LivelinessGet>, cancellation_token: u32)
     requires { Ascend (λ g. g.number) gets.old.items }
-    ensures gets { gets.new.items ≡ without_token token gets.old.items }
+    ensures gets { gets.new.items ≡ without_cancellation_token cancellation_token gets.old.items }
     ensures ascending { Ascend (λ g. g.number) gets.new.items }
 {
-    gets.retain(|get| !has_token(get, token));
+    gets.retain(|get| !has_cancellation_token(get, cancellation_token));
 }
 
 /// Whether a get has that cancellation token.
-fn has_token(get: &LivelinessGet, token: u32) -> bool
-    ensures { result ≡ is_own token get.now.token }
+fn has_cancellation_token(get: &LivelinessGet, cancellation_token: u32) -> bool
+    ensures { result ≡ is_own cancellation_token get.now.cancellation_token }
 {
-    get.token == Some(token)
+    get.cancellation_token == Some(cancellation_token)
 }
 
 /// The numbers of all.

@@ -19,7 +19,7 @@ pub enum Ender {
     /// The end of the querier that asked them.
     Querier(u32),
     /// The cancellation token that they have.
-    Token(u32),
+    CancellationToken(u32),
 }
 
 /// Adds the end of each of the open gets that it ends, ascending. It looks at no others.
@@ -41,6 +41,6 @@ fn next_cut(gets: &Gets, ender: Ender, after: Option<u32>) -> Option<&GetRow>
 {
     match ender {
         Ender::Querier(id) => gets.next_of_querier(id, after),
-        Ender::Token(token) => gets.next_of_token(token, after),
+        Ender::CancellationToken(token) => gets.next_of_cancellation_token(token, after),
     }
 }

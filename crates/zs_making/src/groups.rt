@@ -14,12 +14,12 @@ pub fn joins_first(
     groups: &Groups,
     kind: GroupKind,
     aggregates: &KeyList,
-    told: bool,
+    is_announced: bool,
     key: &KeyExpr<'_>,
 ) -> bool
-    ensures { result ≡ (told && length (members_of (share_text aggregates.now key.now.text) (groups_of kind groups.now)) == 0) }
+    ensures { result ≡ (is_announced && length (members_of (share_text aggregates.now key.now.text) (groups_of kind groups.now)) == 0) }
 {
-    told && groups.members(kind, share_text(aggregates, key)) == 0
+    is_announced && groups.members(kind, share_text(aggregates, key)) == 0
 }
 
 /// The number of the group that an entity leaves as its last member, if the network was told of it.
@@ -27,14 +27,14 @@ pub fn last_number(
     groups: &Groups,
     kind: GroupKind,
     aggregates: &KeyList,
-    told: bool,
+    is_announced: bool,
     key: &KeyExpr<'_>,
 ) -> Option<u32>
-    ensures { result ≡ (if told && length (members_of (share_text aggregates.now key.now.text) (groups_of kind groups.now)) == 1
+    ensures { result ≡ (if is_announced && length (members_of (share_text aggregates.now key.now.text) (groups_of kind groups.now)) == 1
         then number_of_group (share_text aggregates.now key.now.text) (groups_of kind groups.now) else None) }
 {
     let text = share_text(aggregates, key);
-    if told && groups.members(kind, text) == 1 {
+    if is_announced && groups.members(kind, text) == 1 {
         return groups.number(kind, text);
     }
     None

@@ -2,7 +2,7 @@
 
 ghost use Rattle.std.specs.Prelude.{◌≡◌, ◌++◌, map, OnOk};
 ghost use Rattle.zs_model.specs.Effects.{lsub_mode};
-ghost use Rattle.zs_model.specs.LivelinessEffects.{hand_told};
+ghost use Rattle.zs_model.specs.LivelinessEffects.{hand_remote_token};
 
 use crate::tokens::{hand_sample, token_sample};
 use std::alloc::{AllocError, Global};
@@ -29,7 +29,7 @@ pub fn hand_keys(
     keys: Vec<KeyExpr<'static>>,
     effects: &mut Effects,
 ) -> Result<(), AllocError>
-    ensures { OnOk result (effects.new ≡ effects.old ++ map (hand_told id) keys.entry.items) }
+    ensures { OnOk result (effects.new ≡ effects.old ++ map (hand_remote_token id) keys.entry.items) }
 {
     for key in keys {
         let sample = token_sample(alloc, SampleKind::Put, key.without_declaration())?;

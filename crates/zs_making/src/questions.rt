@@ -103,7 +103,7 @@ pub fn row_waiting(
         network_wanted: has_network(question.settings.destination),
         deadline: moment.saturating_add(timeout_of(default, question)),
         querier: question.querier,
-        token: question.inquiry.cancellation_token,
+        cancellation_token: question.inquiry.cancellation_token,
     }
 }
 

@@ -13,7 +13,7 @@ use Rattle.std.proofs.lemmas.Bool.Decides.{nat_tests}
 use Rattle.std.proofs.lemmas.Map.Keys.{sorted_head, sorted_tail}
 use Rattle.std.proofs.lemmas.Map.Lookups.{exact_bytes}
 use Rattle.std.proofs.lemmas.Map.Text.{is_eq-slice_cmp}
-use Rattle.zs_members.specs.Members.{Member, Ascend, AreThere, count_of, raised, lowered}
+use Rattle.zs_members.specs.Members.{Member, NamesAscend, AreThere, count_of, raised, lowered}
 use Rattle.zs_members.specs.Laws.{SameCountsSameView}
 
 -- the order of names
@@ -41,17 +41,17 @@ same_name a b h = go (order a b) refl
 abbrev pub Above : List ℕ → List Member → Type 0
 Above name ms = AllByRecursion (λ n. order name n ≡ Less) (map (λ m. m.name) ms)
 
-pub above_first : (m : Member) (ms : List Member) → Ascend (m ∷ ms) → Above m.name ms
+pub above_first : (m : Member) (ms : List Member) → NamesAscend (m ∷ ms) → Above m.name ms
 above_first m ms h = sorted_head order m.name (map (λ v. v.name) ms) h
 
-pub ascend_rest : (m : Member) (ms : List Member) → Ascend (m ∷ ms) → Ascend ms
+pub ascend_rest : (m : Member) (ms : List Member) → NamesAscend (m ∷ ms) → NamesAscend ms
 ascend_rest m ms h = sorted_tail order m.name (map (λ v. v.name) ms) h
 
-pub ascend_with : (m : Member) (ms : List Member) → Above m.name ms → Ascend ms → Ascend (m ∷ ms)
+pub ascend_with : (m : Member) (ms : List Member) → Above m.name ms → NamesAscend ms → NamesAscend (m ∷ ms)
 unfolding IsStrictlySortedBy
 ascend_with m ms above rest = (above, rest)
 
-pub ascend_nothing : Ascend []
+pub ascend_nothing : NamesAscend []
 unfolding IsStrictlySortedBy
 ascend_nothing = tt
 
@@ -76,12 +76,12 @@ above_raised name new (m ∷ ms) less above = go (order new m.name) (above_raise
     go Equal rest = above
     go Greater rest = (above.0, rest)
 
-pub ascend_raised : (new : List ℕ) (ms : List Member) → Ascend ms → Ascend (raised new ms)
+pub ascend_raised : (new : List ℕ) (ms : List Member) → NamesAscend ms → NamesAscend (raised new ms)
 ascend_raised new [] ascend = ascend_with (record { name = new; count = 1 }) [] tt ascend
 ascend_raised new (m ∷ ms) ascend = go (order new m.name) refl (ascend_raised new ms (ascend_rest m ms ascend))
   where
-    go : (o : Ordering) → order new m.name ≡ o → Ascend (raised new ms)
-        → Ascend (match_ordering o (record { name = new; count = 1 } ∷ m ∷ ms) (record { name = m.name; count = m.count + 1 } ∷ ms) (m ∷ raised new ms))
+    go : (o : Ordering) → order new m.name ≡ o → NamesAscend (raised new ms)
+        → NamesAscend (match_ordering o (record { name = new; count = 1 } ∷ m ∷ ms) (record { name = m.name; count = m.count + 1 } ∷ ms) (m ∷ raised new ms))
     go Less h rest = ascend_with (record { name = new; count = 1 }) (m ∷ ms) (h, above_more new m.name ms h (above_first m ms ascend)) ascend
     go Equal h rest = ascend_with (record { name = m.name; count = m.count + 1 }) ms (above_first m ms ascend) (ascend_rest m ms ascend)
     go Greater h rest =
@@ -102,7 +102,7 @@ there_raised new (m ∷ ms) there = go (order new m.name) (there_raised new ms t
     go Equal rest = (one_more m.count, there.1)
     go Greater rest = (there.0, rest)
 
-pub count_raised : (q new : List ℕ) (ms : List Member) → Ascend ms → count_of q (raised new ms) ≡ cond (bytes_eq q new) (count_of q ms + 1) (count_of q ms)
+pub count_raised : (q new : List ℕ) (ms : List Member) → NamesAscend ms → count_of q (raised new ms) ≡ cond (bytes_eq q new) (count_of q ms + 1) (count_of q ms)
 count_raised q new [] ascend = refl
 count_raised q new (m ∷ ms) ascend = go (order new m.name) refl (count_raised q new ms (ascend_rest m ms ascend))
   where
@@ -147,11 +147,11 @@ above_lowered name gone (m ∷ ms) above = go (bytes_eq gone m.name) (nat_le m.c
     go true false rest = above
     go false c rest = (above.0, rest)
 
-pub ascend_lowered : (gone : List ℕ) (ms : List Member) → Ascend ms → Ascend (lowered gone ms)
+pub ascend_lowered : (gone : List ℕ) (ms : List Member) → NamesAscend ms → NamesAscend (lowered gone ms)
 ascend_lowered gone [] ascend = ascend
 ascend_lowered gone (m ∷ ms) ascend = go (bytes_eq gone m.name) (nat_le m.count 1) (ascend_lowered gone ms (ascend_rest m ms ascend))
   where
-    go : (b c : Bool) → Ascend (lowered gone ms) → Ascend (cond b (cond c ms (record { name = m.name; count = m.count - 1 } ∷ ms)) (m ∷ lowered gone ms))
+    go : (b c : Bool) → NamesAscend (lowered gone ms) → NamesAscend (cond b (cond c ms (record { name = m.name; count = m.count - 1 } ∷ ms)) (m ∷ lowered gone ms))
     go true true rest = ascend_rest m ms ascend
     go true false rest = ascend_with (record { name = m.name; count = m.count - 1 }) ms (above_first m ms ascend) (ascend_rest m ms ascend)
     go false c rest = ascend_with m (lowered gone ms) (above_lowered m.name gone ms (above_first m ms ascend)) rest
@@ -171,7 +171,7 @@ there_lowered gone (m ∷ ms) there = go (bytes_eq gone m.name) (nat_le m.count 
     go true false h rest = (more_left m.count h, there.1)
     go false c h rest = (there.0, rest)
 
-pub count_lowered : (q gone : List ℕ) (ms : List Member) → Ascend ms → count_of q (lowered gone ms) ≡ cond (bytes_eq q gone) (count_of q ms - 1) (count_of q ms)
+pub count_lowered : (q gone : List ℕ) (ms : List Member) → NamesAscend ms → count_of q (lowered gone ms) ≡ cond (bytes_eq q gone) (count_of q ms - 1) (count_of q ms)
 count_lowered q gone [] ascend = nothing (bytes_eq q gone)
   where
     nothing : (b : Bool) → 0 ≡ cond b (0 - 1) 0
@@ -206,7 +206,7 @@ here m ms = ap (λ (b : Bool). cond b m.count (count_of m.name ms)) (same_itself
 no_less : (m n : ℕ) → 0 < m → m ≡ n → n ≡ 0 → ⊥
 no_less m n there same none = omega arith
 
-rest_count : (q : List ℕ) (m : Member) (ms : List Member) → Ascend (m ∷ ms) → (b : Bool) → bytes_eq q m.name ≡ b → count_of q ms ≡ cond b 0 (count_of q (m ∷ ms))
+rest_count : (q : List ℕ) (m : Member) (ms : List Member) → NamesAscend (m ∷ ms) → (b : Bool) → bytes_eq q m.name ≡ b → count_of q ms ≡ cond b 0 (count_of q (m ∷ ms))
 rest_count q m ms ascend true h = subst (λ n. count_of n ms ≡ 0) (sym (same_name q m.name h)) (none_above m.name ms (above_first m ms ascend))
 rest_count q m ms ascend false h = sym (ap (λ (b : Bool). cond b m.count (count_of q ms)) h)
 

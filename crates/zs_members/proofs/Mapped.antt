@@ -13,7 +13,7 @@ use Rattle.std.specs.List.Sorted.{IsStrictlySortedBy}
 use Rattle.std.proofs.lemmas.Bool.Decides.{nat_tests}
 use Rattle.std.proofs.lemmas.Map.Keys.{sorted_head, sorted_tail}
 use Rattle.std.proofs.lemmas.Map.Text.{is_eq-slice_cmp}
-use Rattle.zs_members.specs.Members.{Member, member_of, Ascend, AreThere, count_of, raised, lowered}
+use Rattle.zs_members.specs.Members.{Member, member_of, NamesAscend, AreThere, count_of, raised, lowered}
 use Rattle.zs_members.proofs.Counting.{order, Above, above_first, above_more, ascend_rest, ascend_with, ascend_nothing, none_above, more_left}
 
 none_there : {n : ℕ} → None ≡ Some n → ⊥
@@ -42,7 +42,7 @@ module _ {A : Type 0} where
   above_rows k [] above = tt
   above_rows k (e ∷ es) above = (above.0, above_rows k es above.1)
 
-  pub ascend_rows : (es : List (String A × ℕ)) → IsStrictlySortedBy string_cmp (map (λ e. e.0) es) → Ascend (map member_of es)
+  pub ascend_rows : (es : List (String A × ℕ)) → IsStrictlySortedBy string_cmp (map (λ e. e.0) es) → NamesAscend (map member_of es)
   ascend_rows [] sorted = ascend_nothing
   ascend_rows (e ∷ es) sorted =
       ascend_with (member_of e) (map member_of es)
@@ -76,7 +76,7 @@ module _ {A : Type 0} where
       go Greater h rest = ap (λ ms. member_of e ∷ ms) (rest (find Greater h))
 
   -- the count of a name that is there is raised
-  pub put_more : (bytes : List ℕ) (old now : ℕ) (es : List (String A × ℕ)) → lookup (is_text bytes) es ≡ Some old → 0 < old → Ascend (map member_of es) → now ≡ old + 1
+  pub put_more : (bytes : List ℕ) (old now : ℕ) (es : List (String A × ℕ)) → lookup (is_text bytes) es ≡ Some old → 0 < old → NamesAscend (map member_of es) → now ≡ old + 1
       → map member_of (set_value (is_text bytes) es now) ≡ raised bytes (map member_of es)
   put_more bytes old now [] there some ascend is = absurd (none_there there)
   put_more bytes old now (e ∷ es) there some ascend is = go (order bytes (string_bytes e.0)) refl (put_more bytes old now es)
@@ -88,7 +88,7 @@ module _ {A : Type 0} where
       none_of n same none = omega arith
 
       go : (o : Ordering) → order bytes (string_bytes e.0) ≡ o
-          → (lookup (is_text bytes) es ≡ Some old → 0 < old → Ascend (map member_of es) → now ≡ old + 1
+          → (lookup (is_text bytes) es ≡ Some old → 0 < old → NamesAscend (map member_of es) → now ≡ old + 1
           → map member_of (set_value (is_text bytes) es now) ≡ raised bytes (map member_of es))
           → map member_of (cond (is_eq o) ((e.0, now) ∷ es) (e ∷ set_value (is_text bytes) es now))
           ≡ match_ordering o (record { name = bytes; count = 1 } ∷ member_of e ∷ map member_of es)

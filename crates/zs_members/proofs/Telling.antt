@@ -5,11 +5,11 @@ use Rattle.zs_wire.specs.declared.sample_kind.SampleKind.{SampleKind}
 use Rattle.zs_wire.specs.declared.sample_kind.SampleKind.TheVariants.{Put, Delete}
 use Rattle.zs_sample.specs.declared.sample_fields.SampleFields.{SampleFields}
 use Rattle.zs_members.specs.Names.{name_in}
-use Rattle.zs_members.specs.Members.{Member, Ascend, AreThere, count_of, raised, lowered, changed, all_told}
-use Rattle.zs_members.specs.Laws.{count_behind, count_told, Counts, ViewsCount}
+use Rattle.zs_members.specs.Members.{Member, NamesAscend, AreThere, count_of, raised, lowered, changed, all_told}
+use Rattle.zs_members.specs.Laws.{count_behind, count_remote, Counts, ViewsCount}
 use Rattle.zs_members.proofs.Counting.{ascend_nothing, ascend_raised, ascend_lowered, there_raised, there_lowered, count_raised, count_lowered}
 
-ascend_changed : (name : Option (List ℕ)) (kind : SampleKind) (ms : List Member) → Ascend ms → Ascend (changed name kind ms)
+ascend_changed : (name : Option (List ℕ)) (kind : SampleKind) (ms : List Member) → NamesAscend ms → NamesAscend (changed name kind ms)
 ascend_changed None kind ms ascend = ascend
 ascend_changed (Some name) Put ms ascend = ascend_raised name ms ascend
 ascend_changed (Some name) Delete ms ascend = ascend_lowered name ms ascend
@@ -19,7 +19,7 @@ there_changed None kind ms there = there
 there_changed (Some name) Put ms there = there_raised name ms there
 there_changed (Some name) Delete ms there = there_lowered name ms there
 
-count_changed : (q : List ℕ) (name : Option (List ℕ)) (kind : SampleKind) (ms : List Member) → Ascend ms → count_of q (changed name kind ms) ≡ count_behind q name kind (count_of q ms)
+count_changed : (q : List ℕ) (name : Option (List ℕ)) (kind : SampleKind) (ms : List Member) → NamesAscend ms → count_of q (changed name kind ms) ≡ count_behind q name kind (count_of q ms)
 count_changed q None kind ms ascend = refl
 count_changed q (Some name) Put ms ascend = count_raised q name ms ascend
 count_changed q (Some name) Delete ms ascend = count_lowered q name ms ascend

@@ -19,8 +19,8 @@ abbrev pub member_of : {A : Type 0} → String A × ℕ → Member
 member_of pair = record { name = string_bytes pair.0; count = pair.1 }
 
 -- the names ascend by their bytes, and none stands twice
-abbrev pub Ascend : List Member → Type 0
-Ascend members = IsStrictlySortedBy (slice_cmp nat_cmp) (map (λ m. m.name) members)
+abbrev pub NamesAscend : List Member → Type 0
+NamesAscend members = IsStrictlySortedBy (slice_cmp nat_cmp) (map (λ m. m.name) members)
 
 -- each of them is there
 abbrev pub AreThere : List Member → Type 0

@@ -1,7 +1,7 @@
 //! A view of a group.
 
 ghost use Rattle.std.specs.Prelude.{◌≡◌, ◌+◌, ◌-◌, [], map, None, IfOk, OnOk, OnErr};
-ghost use Rattle.zs_members.specs.Members.{Ascend, AreThere, count_of, raised, lowered, told, member_of};
+ghost use Rattle.zs_members.specs.Members.{NamesAscend, AreThere, count_of, raised, lowered, told, member_of};
 
 use crate::name::name_in;
 use std::alloc::{AllocError, Global};
@@ -46,7 +46,7 @@ impl View {
     /// Each name that is there, with its count. The names ascend by their bytes.
     pub fn iter(&self) -> Iter<'_, String, u64>
         ensures members { map member_of result ≡ self.now }
-        ensures ascend { Ascend self.now }
+        ensures ascend { NamesAscend self.now }
         ensures there { AreThere self.now }
     {
         self.counts.iter()

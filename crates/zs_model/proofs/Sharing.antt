@@ -40,15 +40,15 @@ append_nil (x ∷ xs) = ap (λ (rest : List ℕ). x ∷ rest) (append_nil xs)
 -- one more entity
 pub grouped_more : (aggregates : List Key) (gs : List Group) (xs : List Shared) (x : Shared) → AreGrouped aggregates gs xs
     → AreGrouped aggregates (joined_by aggregates x gs) (xs ++ x ∷ [])
-grouped_more aggregates gs xs x are = go x.told refl
+grouped_more aggregates gs xs x are = go x.is_announced refl
   where
     own : List ℕ
     own = share_text aggregates x.text
 
-    pushed : (text : List ℕ) (b : Bool) → x.told ≡ b → sharing aggregates text (xs ++ x ∷ []) ≡ sharing aggregates text xs ++ (if b && bytes_eq own text then x.id ∷ [] else [])
+    pushed : (text : List ℕ) (b : Bool) → x.is_announced ≡ b → sharing aggregates text (xs ++ x ∷ []) ≡ sharing aggregates text xs ++ (if b && bytes_eq own text then x.id ∷ [] else [])
     pushed text b is = sharing_push aggregates text xs x ∙ ap (λ (t : Bool). sharing aggregates text xs ++ (if t && bytes_eq own text then x.id ∷ [] else [])) is
 
-    go : (b : Bool) → x.told ≡ b → AreGrouped aggregates (if b then joined own x.id gs else gs) (xs ++ x ∷ [])
+    go : (b : Bool) → x.is_announced ≡ b → AreGrouped aggregates (if b then joined own x.id gs else gs) (xs ++ x ∷ [])
     go true is = record {
       apart = apart_joined own x.id gs are.apart;
       members = λ text. members_joined own x.id text gs are.apart
@@ -113,17 +113,17 @@ sharing_less aggregates text x (y ∷ xs) only = go (shares aggregates text x) r
 -- one less
 pub grouped_less : (aggregates : List Key) (gs : List Group) (xs : List Shared) (x : Shared) → IsOnly x xs → AreGrouped aggregates gs xs
     → AreGrouped aggregates (left_by aggregates x gs) (filter (λ y. not (y.id == x.id)) xs)
-grouped_less aggregates gs xs x only are = go x.told refl
+grouped_less aggregates gs xs x only are = go x.is_announced refl
   where
     own : List ℕ
     own = share_text aggregates x.text
 
-    less : (text : List ℕ) (b : Bool) → x.told ≡ b → sharing aggregates text (filter (λ y. not (y.id == x.id)) xs)
+    less : (text : List ℕ) (b : Bool) → x.is_announced ≡ b → sharing aggregates text (filter (λ y. not (y.id == x.id)) xs)
         ≡ (if b && bytes_eq own text then filter (λ other. not (other == x.id)) (sharing aggregates text xs) else sharing aggregates text xs)
     less text b is = sharing_less aggregates text x xs only
         ∙ ap (λ (t : Bool). if t && bytes_eq own text then filter (λ other. not (other == x.id)) (sharing aggregates text xs) else sharing aggregates text xs) is
 
-    go : (b : Bool) → x.told ≡ b → AreGrouped aggregates (if b then left own x.id gs else gs) (filter (λ y. not (y.id == x.id)) xs)
+    go : (b : Bool) → x.is_announced ≡ b → AreGrouped aggregates (if b then left own x.id gs else gs) (filter (λ y. not (y.id == x.id)) xs)
     go true is = record {
       apart = apart_left own x.id gs are.apart;
       members = λ text. members_left own x.id text gs are.apart
@@ -134,7 +134,7 @@ grouped_less aggregates gs xs x only are = go x.told refl
 -- a group has the number of the first that joined it since it was last empty: behind one that joins, and one that leaves
 pub number_more : (aggregates : List Key) (gs : List Group) (x : Shared) (text : List ℕ) → AreApart gs
     → number_of_group text (joined_by aggregates x gs) ≡ numbered (number_of_group text gs) (Some x.id) (members_of text (joined_by aggregates x gs))
-number_more aggregates gs x text apart = go x.told
+number_more aggregates gs x text apart = go x.is_announced
   where
     go : (b : Bool) → number_of_group text (if b then joined (share_text aggregates x.text) x.id gs else gs)
         ≡ numbered (number_of_group text gs) (Some x.id) (members_of text (if b then joined (share_text aggregates x.text) x.id gs else gs))
@@ -143,7 +143,7 @@ number_more aggregates gs x text apart = go x.told
 
 pub number_less : (aggregates : List Key) (gs : List Group) (x : Shared) (text : List ℕ) (number : Option ℕ) → AreApart gs
     → number_of_group text (left_by aggregates x gs) ≡ numbered (number_of_group text gs) number (members_of text (left_by aggregates x gs))
-number_less aggregates gs x text number apart = go x.told
+number_less aggregates gs x text number apart = go x.is_announced
   where
     go : (b : Bool) → number_of_group text (if b then left (share_text aggregates x.text) x.id gs else gs)
         ≡ numbered (number_of_group text gs) number (members_of text (if b then left (share_text aggregates x.text) x.id gs else gs))

@@ -6,7 +6,7 @@ use Rattle.zs_events.specs.declared.turn.Refusal.{Refusal}
 use Rattle.zs_events.specs.declared.turn.Refusal.TheVariants.{SessionClosedError, NotFound, UnknownScope, BadKeyExpr, QueryCancelled, ReplyDisjoint, NotDeclared, IdsExhausted, Ignored}
 use Rattle.zs_events.specs.Kinds.{Speaker, Application, Network, Row, asking_cancellation_token, cancellation_token_named, row_of}
 use Rattle.zs_model.specs.Entry.{Entry, is_closed}
-use Rattle.zs_model.specs.Held.{is_claimed, named_text}
+use Rattle.zs_model.specs.HeldKeys.{is_claimed, named_text}
 use Rattle.zs_model.specs.Live.{names_some, live_queryables, to_gets_of}
 use Rattle.zs_model.specs.Cancelling.{next_cancellation_token, is_drawn, is_any, is_taken}
 use Rattle.zs_model.specs.Counters.{lacks_number, next_value}
@@ -14,7 +14,7 @@ use Rattle.zs_model.specs.Values.{met_by, values_now, lacks_values}
 use Rattle.zs_model.specs.Answers.{is_owed, is_disjoint}
 use Rattle.zs_model.specs.Gets.{open_now, is_idle}
 use Rattle.zs_model.specs.Tokens.{remote_tokens, is_spared, is_pointless}
-use Rattle.zs_model.specs.Matching.{remote_subscribers, remote_queryables, is_untold}
+use Rattle.zs_model.specs.Matching.{remote_subscribers, remote_queryables, ends_unknown}
 use Rattle.zs_model.specs.Seen.{Sight, is_not_found, is_unknown, is_bad_key}
 
 -- an event that only an open session takes
@@ -52,7 +52,7 @@ past_sight s past e = record {
   lacks =
       lacks_values (next_value past) (met_by (live_queryables past) (to_gets_of past e) (row_of e).to_values (named_text past e))
       || lacks_number s past (row_of e).draws (named_text past e);
-  idle = is_pointless (row_of e).to_liveliness || is_untold (remote_subscribers past) (remote_queryables past) (row_of e).to_matching || is_idle (open_now s past) (row_of e).to_gets (named_text past e);
+  idle = is_pointless (row_of e).to_liveliness || ends_unknown (remote_subscribers past) (remote_queryables past) (row_of e).to_matching || is_idle (open_now s past) (row_of e).to_gets (named_text past e);
   spared = is_spared (remote_tokens s past) (row_of e).to_liveliness;
 }
 

@@ -4,7 +4,7 @@ use Rattle.zs_model.specs.declared.settings.Settings.{Settings}
 use Rattle.zs_model.specs.Settings.{last_entity, last_query, last_key}
 use Rattle.zs_events.specs.Kinds.{Draws, NoNumber, EntityNumber, QueryNumber, ValueNumber, CancellationNumber, KeyNumber, StatusOf, row_of}
 use Rattle.zs_model.specs.Entry.{Entry}
-use Rattle.zs_model.specs.Held.{held_number}
+use Rattle.zs_model.specs.HeldKeys.{held_number}
 use Rattle.zs_model.specs.Values.{handing_of, last_value}
 use Rattle.zs_model.specs.Matching.{status_of}
 use Rattle.zs_model.specs.Cancelling.{last_cancellation_token, next_cancellation_token}

@@ -11,7 +11,7 @@ use Rattle.zs_events.specs.declared.turn.Turn.{Turn}
 use Rattle.zs_events.specs.Turn.{answered}
 use Rattle.zs_events.specs.Kinds.{Publishes, NoContent, OwnContent, ByPublisher, ToGets, row_of}
 use Rattle.zs_model.specs.Entry.{Entry, is_closed}
-use Rattle.zs_model.specs.Held.{held_text, held_count, held_number, named_text}
+use Rattle.zs_model.specs.HeldKeys.{held_text, held_count, held_number, named_text}
 use Rattle.zs_model.specs.Live.{live_subs, live_pubs, live_queryables, live_queriers, live_lsubs}
 use Rattle.zs_events.specs.declared.entity_kind.EntityKind.{EntityKind}
 use Rattle.zs_events.specs.declared.entity_kind.EntityKind.TheVariants.{Sub as sub_kind, Pub as pub_kind, Queryable as queryable_sort, Querier as querier_sort, Listener as listener_sort, Token as token_sort, Lsub as lsub_sort}
@@ -134,10 +134,10 @@ token_declaration id wire = DeclareToken id wire None
 -- its own, where the network is in its origin, and so has each token; a subscriber to liveliness and a get of tokens ask the network
 abbrev pub entity_sends : Known → Event → Option ℕ → Option (List ℕ) → List Effect
 entity_sends known (Sub origin key to) (Some id) (Some text) =
-    sends_if (joins_first (known.company Subscribers) (record { id = id; told = has_network origin; text = text }))
+    sends_if (joins_first (known.company Subscribers) (record { id = id; is_announced = has_network origin; text = text }))
     (DeclareSubscriber id (group_wire (known.company Subscribers).aggregates text (key_wire known.keys text key)))
 entity_sends known (Pub key settings) (Some id) (Some text) =
-    sends_if (joins_first (known.company Publishers) (record { id = id; told = has_network settings.destination; text = text }))
+    sends_if (joins_first (known.company Publishers) (record { id = id; is_announced = has_network settings.destination; text = text }))
     (Interest id CurrentFuture of_subscribers (Some (group_wire (known.company Publishers).aggregates text (key_wire known.keys text key))))
 entity_sends known (Undeclare sub_kind id) number text =
     leaving (known.company Subscribers) subscriber_end (option_map sub_shared (sub_at id known.subs))
@@ -147,7 +147,7 @@ entity_sends known (Queryable origin complete key) (Some id) (Some text) =
     sends_if (has_network origin) (DeclareQueryable id complete (key_wire known.keys text key))
 entity_sends known (Undeclare queryable_sort id) number text = queryable_leaves (queryable_at id known.queryables)
 entity_sends known (Querier key settings) (Some id) (Some text) =
-    sends_if (joins_first (known.company Queriers) (record { id = id; told = has_network settings.destination; text = text }))
+    sends_if (joins_first (known.company Queriers) (record { id = id; is_announced = has_network settings.destination; text = text }))
     (Interest id CurrentFuture of_queryables (Some (key_wire known.keys text key)))
 entity_sends known (Undeclare querier_sort id) number text =
     leaving (known.company Queriers) querier_end (option_map querier_shared (querier_at id known.queriers))
@@ -203,7 +203,7 @@ known_of s past = record {
   company = λ kind. company_of s kind past;
   timeout = s.default_timeout;
   gets = open_now s past;
-  watch = record { subs = live_lsubs past; told = remote_tokens s past; gets = asking_now s past };
+  watch = record { subs = live_lsubs past; remote_tokens = remote_tokens s past; gets = asking_now s past };
   zid = s.zid;
   handing = handing_of past;
 }

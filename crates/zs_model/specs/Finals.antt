@@ -11,7 +11,7 @@ use Rattle.zs_tables.specs.declared.queryable.QueryableRow.{QueryableRow}
 use Rattle.zs_events.specs.Kinds.{ToGets, NoGet, ToValues, Requested, GivesBack, row_of}
 use Rattle.zs_model.specs.declared.settings.Settings.{Settings}
 use Rattle.zs_model.specs.Entry.{Entry, is_closed}
-use Rattle.zs_model.specs.Held.{named_text}
+use Rattle.zs_model.specs.HeldKeys.{named_text}
 use Rattle.zs_model.specs.Live.{live_queryables, to_gets_of}
 use Rattle.zs_model.specs.Values.{met_by, times_handed, values_now}
 use Rattle.zs_model.specs.Causes.{refusal_of}

@@ -32,12 +32,12 @@ share_text aggregates text = unwrap_or (option_map (λ a. a.text) (aggregate_of 
 -- what groups see of an entity: its number, whether the network is told of it, and the text of its key
 pub record Shared : Type 0 where
   pub id : ℕ
-  pub told : Bool
+  pub is_announced : Bool
   pub text : List ℕ
 
 -- whether an entity shares the declaration of a text
 abbrev pub shares : List Key → List ℕ → Shared → Bool
-shares aggregates text x = x.told && bytes_eq (share_text aggregates x.text) text
+shares aggregates text x = x.is_announced && bytes_eq (share_text aggregates x.text) text
 
 -- the numbers of the entities that share it
 abbrev pub sharing : List Key → List ℕ → List Shared → List ℕ
@@ -45,13 +45,13 @@ sharing aggregates text xs = map (λ x. x.id) (filter (shares aggregates text) x
 
 -- a subscriber, a publisher and a querier as groups see them
 abbrev pub sub_shared : SubRow → Shared
-sub_shared row = record { id = row.id; told = has_network row.origin; text = row.key.text }
+sub_shared row = record { id = row.id; is_announced = has_network row.origin; text = row.key.text }
 
 abbrev pub pub_shared : PubRow → Shared
-pub_shared row = record { id = row.id; told = has_network row.settings.destination; text = row.key.text }
+pub_shared row = record { id = row.id; is_announced = has_network row.settings.destination; text = row.key.text }
 
 abbrev pub querier_shared : QuerierRow → Shared
-querier_shared row = record { id = row.id; told = has_network row.settings.destination; text = row.key.text }
+querier_shared row = record { id = row.id; is_announced = has_network row.settings.destination; text = row.key.text }
 
 -- nobody
 abbrev pub is_empty : List ℕ → Bool
@@ -64,10 +64,10 @@ no_groups = record { subscribers = []; publishers = []; queriers = [] }
 
 -- an entity joins the group of its text, if the network is told of it, and leaves it
 abbrev pub joined_by : List Key → Shared → List Group → List Group
-joined_by aggregates x gs = if x.told then joined (share_text aggregates x.text) x.id gs else gs
+joined_by aggregates x gs = if x.is_announced then joined (share_text aggregates x.text) x.id gs else gs
 
 abbrev pub left_by : List Key → Shared → List Group → List Group
-left_by aggregates x gs = if x.told then left (share_text aggregates x.text) x.id gs else gs
+left_by aggregates x gs = if x.is_announced then left (share_text aggregates x.text) x.id gs else gs
 
 -- so does one that is found
 abbrev pub left_found : List Key → Option Shared → List Group → List Group
@@ -119,12 +119,12 @@ company_at s gs kind = record {
 
 -- whether an entity that joins is the first of its group, which the network is told of
 abbrev pub joins_first : Company → Shared → Bool
-joins_first c x = x.told && length (c.members (share_text c.aggregates x.text)) == 0
+joins_first c x = x.is_announced && length (c.members (share_text c.aggregates x.text)) == 0
 
 -- the number of the group that an entity leaves as its last member, if the network was told of it
 abbrev pub last_number : Company → Shared → Option ℕ
 last_number c x =
-    if x.told && length (c.members (share_text c.aggregates x.text)) == 1 then c.number (share_text c.aggregates x.text) else None
+    if x.is_announced && length (c.members (share_text c.aggregates x.text)) == 1 then c.number (share_text c.aggregates x.text) else None
 
 -- a message, where the test holds
 abbrev pub sends_if : Bool → Message → List Effect

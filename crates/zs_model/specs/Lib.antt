@@ -1,7 +1,7 @@
 pub mod KeyList
 pub mod Settings
 pub mod Entry
-pub mod Held
+pub mod HeldKeys
 pub mod Subscribers
 pub mod Publishers
 pub mod Queryables

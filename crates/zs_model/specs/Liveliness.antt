@@ -3,7 +3,7 @@ use Rattle.std.specs.Prelude.{ℕ, List, [], ◌∷◌, Option, Some}
 use Rattle.zs_keys.specs.Key.{undeclared}
 use Rattle.zs_events.specs.declared.event.Event.{Event}
 use Rattle.zs_events.specs.declared.event.Event.TheVariants.{Token, Lsub}
-use Rattle.zs_tables.specs.Types.{LivelinessSub, LivelinessGet, ToldToken}
+use Rattle.zs_tables.specs.Types.{LivelinessSub, LivelinessGet, RemoteToken}
 
 -- the tables: the live tokens of this session, the live subscribers to liveliness, those of them that were left to themselves, the
 -- tokens that the network told, and the open gets of tokens
@@ -11,11 +11,11 @@ pub record Liveliness : Type 0 where
   pub tokens : List ℕ
   pub subs : List LivelinessSub
   pub left : List ℕ
-  pub told : List ToldToken
+  pub remote_tokens : List RemoteToken
   pub gets : List LivelinessGet
 
 abbrev pub no_liveliness : Liveliness
-no_liveliness = record { tokens = []; subs = []; left = []; told = []; gets = [] }
+no_liveliness = record { tokens = []; subs = []; left = []; remote_tokens = []; gets = [] }
 
 -- what a close leaves of them
 abbrev pub shut_liveliness : Liveliness → Liveliness

@@ -11,7 +11,7 @@ use Rattle.zs_wire.specs.declared.sample_kind.SampleKind.{SampleKind}
 use Rattle.zs_wire.specs.declared.sample_kind.SampleKind.TheVariants.{Put as put_kind, Delete as delete_kind}
 use Rattle.zs_tables.specs.Liveliness.{met_keys, hearers}
 use Rattle.zs_tables.specs.LivelinessGets.{is_asking, numbers_with}
-use Rattle.zs_tables.specs.Types.{LivelinessSub, LivelinessGet, ToldToken}
+use Rattle.zs_tables.specs.Types.{LivelinessSub, LivelinessGet, RemoteToken}
 use Rattle.zs_events.specs.declared.turn.Effect.{Effect}
 use Rattle.zs_events.specs.declared.turn.Effect.TheVariants.{Hand, End}
 use Rattle.zs_events.specs.declared.turn.HandOver.TheVariants.{Sample as sample_for, Reply as reply_for}
@@ -20,12 +20,12 @@ use Rattle.zs_events.specs.Kinds.{ToLiveliness, NoToken, Subscribes, AsksTokens,
 use Rattle.zs_events.specs.declared.publication.Content.{Content}
 use Rattle.zs_events.specs.Updates.{default_encoding}
 use Rattle.zs_model.specs.Publications.{sample_on}
-use Rattle.zs_model.specs.Tokens.{answers, is_told}
+use Rattle.zs_model.specs.Tokens.{answers, is_remote_token}
 
 -- what is known of liveliness: the live subscribers to it, the tokens that the network told, and the open gets of them
 pub record Watch : Type 0 where
   pub subs : List LivelinessSub
-  pub told : List ToldToken
+  pub remote_tokens : List RemoteToken
   pub gets : List LivelinessGet
 
 -- a token that lives, or lives no longer, as a sample but for its key: it says nothing more
@@ -64,30 +64,30 @@ token_hands kind before None subs = []
 token_hands kind before (Some text) subs = map (hand_token kind text) (hearers before text subs)
 
 -- the told tokens that its key meets, for a new subscriber, in the order of their numbers
-abbrev pub hand_told : ℕ → Key → Effect
-hand_told id key = hand_token put_kind key.text id
+abbrev pub hand_remote_token : ℕ → Key → Effect
+hand_remote_token id key = hand_token put_kind key.text id
 
-abbrev pub history_hands : Bool → Option ℕ → Option (List ℕ) → List ToldToken → List Effect
-history_hands true (Some id) (Some text) tokens = map (hand_told id) (met_keys text tokens)
+abbrev pub history_hands : Bool → Option ℕ → Option (List ℕ) → List RemoteToken → List Effect
+history_hands true (Some id) (Some text) tokens = map (hand_remote_token id) (met_keys text tokens)
 history_hands history id text tokens = []
 
 -- a token that answers a get is for that get alone; one whose number is known is for nobody
-abbrev pub told_hands : Watch → ℕ → Option ℕ → Option (List ℕ) → List Effect
-told_hands watch id interest text =
-    if is_told id watch.told then [] else token_hands put_kind (is_some interest) text watch.subs
+abbrev pub declared_hands : Watch → ℕ → Option ℕ → Option (List ℕ) → List Effect
+declared_hands watch id interest text =
+    if is_remote_token id watch.remote_tokens then [] else token_hands put_kind (is_some interest) text watch.subs
 
 abbrev pub answer_hands : Option ℕ → Option (List ℕ) → List Effect
 answer_hands (Some number) (Some text) = hand_answer (token_reply text) number ∷ []
 answer_hands number text = []
 
 -- the text of a token that ends: that which was told of its number, else the one that is named
-abbrev pub ended_text : Option ToldToken → Option (List ℕ) → Option (List ℕ)
+abbrev pub ended_text : Option RemoteToken → Option (List ℕ) → Option (List ℕ)
 ended_text None text = text
 ended_text (Some t) text = Some t.key.text
 
 abbrev pub ended_hands : Watch → ℕ → Option ℕ → Option (List ℕ) → List Effect
 ended_hands watch id interest text =
-    token_hands delete_kind (is_some interest) (ended_text (find (λ t. t.number == id) watch.told) text) watch.subs
+    token_hands delete_kind (is_some interest) (ended_text (find (λ t. t.number == id) watch.remote_tokens) text) watch.subs
 
 -- a get that has had all tokens ends
 abbrev pub answered_ends : Option ℕ → List LivelinessGet → List Effect
@@ -98,10 +98,10 @@ answered_ends (Some number) gets = if is_asking number gets then end_asking numb
 -- is nothing to them
 abbrev pub watch_effects : Watch → Option ℕ → Option (List ℕ) → ToLiveliness → List Effect → List Effect
 watch_effects watch number text NoToken ends = ends
-watch_effects watch number text (Subscribes history) ends = history_hands history number text watch.told
+watch_effects watch number text (Subscribes history) ends = history_hands history number text watch.remote_tokens
 watch_effects watch number text (AsksTokens timeout token) ends = []
 watch_effects watch number text (TellsToken id interest) ends =
-    if answers interest watch.gets then answer_hands interest text else told_hands watch id interest text
+    if answers interest watch.gets then answer_hands interest text else declared_hands watch id interest text
 watch_effects watch number text (EndsToken id interest) ends = ended_hands watch id interest text
 watch_effects watch number text (EndsAnswers interest) ends = answered_ends interest watch.gets
 

@@ -2,8 +2,8 @@
 use Rattle.std.specs.Prelude.{ℕ, Bool, true, false, not, ◌&&◌, ◌==◌, List, [], ◌∷◌, ◌++◌, Option, Some, map, filter}
 use Rattle.std.specs.List.{list_any}
 use Rattle.zs_keys.specs.Key.{undeclared}
-use Rattle.zs_tables.specs.declared.told_row.ToldSub.{ToldSub}
-use Rattle.zs_tables.specs.declared.told_row.ToldQueryable.{ToldQueryable}
+use Rattle.zs_tables.specs.declared.remote_row.RemoteSubscriber.{RemoteSubscriber}
+use Rattle.zs_tables.specs.declared.remote_row.RemoteQueryable.{RemoteQueryable}
 use Rattle.zs_tables.specs.declared.listener.ListenerRow.{ListenerRow}
 use Rattle.zs_tables.specs.Matching.{Candidate, candidates, status}
 use Rattle.zs_tables.specs.MatchingLaws.{differ}
@@ -16,37 +16,37 @@ use Rattle.zs_model.specs.Listeners.{listening, listener_ends, is_listener}
 use Rattle.zs_model.specs.Live.{appended, live_subs, live_queryables, live_pubs, live_queriers, live_listeners}
 
 -- the subscriber that the network tells, given the text of its key, and whether it tells anew of a number
-abbrev pub told_sub_row : ToMatching → Option (List ℕ) → List ToldSub
-told_sub_row (TellsSub id) (Some text) = record { number = id; key = undeclared text } ∷ []
-told_sub_row to text = []
+abbrev pub remote_subscriber_row : ToMatching → Option (List ℕ) → List RemoteSubscriber
+remote_subscriber_row (TellsSub id) (Some text) = record { number = id; key = undeclared text } ∷ []
+remote_subscriber_row to text = []
 
-abbrev pub renews_sub : ToMatching → ToldSub → Bool
+abbrev pub renews_sub : ToMatching → RemoteSubscriber → Bool
 renews_sub (TellsSub id) row = row.number == id
 renews_sub (EndsSub id) row = row.number == id
 renews_sub to row = false
 
 -- the same of a queryable
-abbrev pub told_queryable_row : ToMatching → Option (List ℕ) → List ToldQueryable
-told_queryable_row (TellsQueryable id complete) (Some text) = record { number = id; complete = complete; key = undeclared text } ∷ []
-told_queryable_row to text = []
+abbrev pub remote_queryable_row : ToMatching → Option (List ℕ) → List RemoteQueryable
+remote_queryable_row (TellsQueryable id complete) (Some text) = record { number = id; complete = complete; key = undeclared text } ∷ []
+remote_queryable_row to text = []
 
-abbrev pub renews_queryable : ToMatching → ToldQueryable → Bool
+abbrev pub renews_queryable : ToMatching → RemoteQueryable → Bool
 renews_queryable (TellsQueryable id complete) row = row.number == id
 renews_queryable (EndsQueryable id) row = row.number == id
 renews_queryable to row = false
 
 -- the subscribers that the network told and did not end, of each number the last one
-abbrev pub remote_subscribers : List Entry → List ToldSub
+abbrev pub remote_subscribers : List Entry → List RemoteSubscriber
 remote_subscribers [] = []
 remote_subscribers (x ∷ past) =
-    appended (filter (λ row. not (renews_sub (row_of x.event).to_matching row)) (remote_subscribers past)) (told_sub_row (row_of x.event).to_matching x.text)
+    appended (filter (λ row. not (renews_sub (row_of x.event).to_matching row)) (remote_subscribers past)) (remote_subscriber_row (row_of x.event).to_matching x.text)
 
 -- and the queryables
-abbrev pub remote_queryables : List Entry → List ToldQueryable
+abbrev pub remote_queryables : List Entry → List RemoteQueryable
 remote_queryables [] = []
 remote_queryables (x ∷ past) =
     appended (filter (λ row. not (renews_queryable (row_of x.event).to_matching row)) (remote_queryables past))
-    (told_queryable_row (row_of x.event).to_matching x.text)
+    (remote_queryable_row (row_of x.event).to_matching x.text)
 
 -- all that a listener may listen for
 abbrev pub present : List Entry → List Candidate
@@ -65,10 +65,10 @@ abbrev pub status_of : List Entry → Kind → ℕ → ℕ
 status_of past kind id = as_number (list_any (is_matched past) (listening (live_pubs past) (live_queriers past) 0 kind id))
 
 -- whether the end of a number means nothing: it was not told
-abbrev pub is_untold : List ToldSub → List ToldQueryable → ToMatching → Bool
-is_untold subs queryables (EndsSub id) = not (list_any (λ row. row.number == id) subs)
-is_untold subs queryables (EndsQueryable id) = not (list_any (λ row. row.number == id) queryables)
-is_untold subs queryables to = false
+abbrev pub ends_unknown : List RemoteSubscriber → List RemoteQueryable → ToMatching → Bool
+ends_unknown subs queryables (EndsSub id) = not (list_any (λ row. row.number == id) subs)
+ends_unknown subs queryables (EndsQueryable id) = not (list_any (λ row. row.number == id) queryables)
+ends_unknown subs queryables to = false
 
 -- what listeners hear: those for whom the one test has another answer than the other hear this one
 abbrev pub turned : (ListenerRow → Bool) → (ListenerRow → Bool) → List ListenerRow → List Effect

@@ -5,7 +5,7 @@ use Rattle.zs_model.specs.declared.settings.Settings.{Settings}
 use Rattle.zs_events.specs.declared.turn.Refusal.{Refusal}
 use Rattle.zs_events.specs.Kinds.{row_of}
 use Rattle.zs_model.specs.Entry.{Entry, is_closed}
-use Rattle.zs_model.specs.Held.{named_text}
+use Rattle.zs_model.specs.HeldKeys.{named_text}
 use Rattle.zs_model.specs.Counters.{drawn_number}
 use Rattle.zs_model.specs.Causes.{refusal_of}
 

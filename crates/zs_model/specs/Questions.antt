@@ -50,7 +50,7 @@ row_asked default moment number text q = record {
   network_wanted = has_network q.settings.destination;
   deadline = min (moment + timeout_of default q) last_moment;
   querier = q.querier;
-  token = q.inquiry.cancellation_token;
+  cancellation_token = q.inquiry.cancellation_token;
 }
 
 -- a value as it is sent: the empty encoding is the default

@@ -16,7 +16,7 @@ use Rattle.zs_model.specs.declared.settings.Settings.{Settings}
 use Rattle.zs_model.specs.Entry.{Entry}
 use Rattle.zs_model.specs.Groups.{share_text}
 use Rattle.zs_model.specs.Effects.{effects}
-use Rattle.zs_model.specs.Held.{named_text}
+use Rattle.zs_model.specs.HeldKeys.{named_text}
 use Rattle.zs_model.specs.Values.{values_now}
 use Rattle.zs_query.specs.Types.{QueryValue}
 use Rattle.zs_query.specs.Unfinished.{value_at}

@@ -24,9 +24,9 @@ is_unheld (OwnKey key) text = is_none text
 is_unheld key text = false
 
 -- a key from the network that stands for no text
-abbrev pub is_untold : NamedKey → Option (List ℕ) → Bool
-is_untold (WireKey wire) text = is_none text
-is_untold key text = false
+abbrev pub is_unresolved : NamedKey → Option (List ℕ) → Bool
+is_unresolved (WireKey wire) text = is_none text
+is_unresolved key text = false
 
 -- a key that stands for a text which is no canonical key expression
 abbrev pub is_bad : Option (List ℕ) → Bool
@@ -44,4 +44,4 @@ is_not_found row seen = not seen.drawn || not seen.owed || is_unheld row.key see
 
 -- an event from the network with a number that stands for nothing, or that would tell of number 0
 abbrev pub is_unknown : Row → Sight → Bool
-is_unknown row seen = row.tells_zero || (not seen.spared && is_untold row.key seen.text)
+is_unknown row seen = row.tells_zero || (not seen.spared && is_unresolved row.key seen.text)

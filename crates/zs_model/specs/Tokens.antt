@@ -7,7 +7,7 @@ use Rattle.zs_events.specs.declared.event.Event.{Event}
 use Rattle.zs_events.specs.Kinds.{ToGets, Reaches, Cancels, EndsAll, ToLiveliness, NoToken, Subscribes, AsksTokens, TellsToken, EndsToken, EndsAnswers, row_of}
 use Rattle.zs_tables.specs.Liveliness.{put_new}
 use Rattle.zs_tables.specs.LivelinessGets.{is_asking, is_over, is_own}
-use Rattle.zs_tables.specs.Types.{LivelinessGet, ToldToken}
+use Rattle.zs_tables.specs.Types.{LivelinessGet, RemoteToken}
 use Rattle.zs_model.specs.declared.settings.Settings.{Settings}
 use Rattle.zs_model.specs.Entry.{Entry}
 use Rattle.zs_model.specs.Questions.{last_moment}
@@ -16,7 +16,7 @@ use Rattle.zs_model.specs.Gets.{moment_of}
 -- the get of tokens that an event asks at a moment: it waits as long as it says, or else as the settings say
 abbrev pub tokens_asked : ℕ → ℕ → ToLiveliness → Option ℕ → Option (List ℕ) → List LivelinessGet
 tokens_asked default moment (AsksTokens timeout token) (Some number) (Some text) =
-    record { number = number; key = undeclared text; token = token; deadline = min (moment + unwrap_or timeout default) last_moment } ∷ []
+    record { number = number; key = undeclared text; cancellation_token = token; deadline = min (moment + unwrap_or timeout default) last_moment } ∷ []
 tokens_asked default moment to number text = []
 
 -- whether an event says that a get has had all tokens
@@ -27,7 +27,7 @@ is_answered number to = false
 -- whether it ends a get whatever is missing: its deadline is reached, its cancellation token is cancelled, or all end
 abbrev pub is_stopped : LivelinessGet → ToGets → Bool
 is_stopped g (Reaches moment) = is_over moment g
-is_stopped g (Cancels token) = is_own token g.token
+is_stopped g (Cancels token) = is_own token g.cancellation_token
 is_stopped g EndsAll = true
 is_stopped g to = false
 
@@ -52,31 +52,31 @@ answers (Some n) gets = is_asking n gets
 
 -- the told tokens behind what an event tells, where these gets were open: one that answers a get is not recorded, nor one whose
 -- number is known
-abbrev pub token_told : List LivelinessGet → ℕ → Option ℕ → Option (List ℕ) → List ToldToken → List ToldToken
-token_told gets id interest None tokens = tokens
-token_told gets id interest (Some text) tokens =
+abbrev pub with_remote_token : List LivelinessGet → ℕ → Option ℕ → Option (List ℕ) → List RemoteToken → List RemoteToken
+with_remote_token gets id interest None tokens = tokens
+with_remote_token gets id interest (Some text) tokens =
     if answers interest gets then tokens else put_new (λ t. t.number) (record { number = id; key = undeclared text }) tokens
 
-abbrev pub told_behind : List LivelinessGet → ToLiveliness → Option (List ℕ) → List ToldToken → List ToldToken
-told_behind gets NoToken text tokens = tokens
-told_behind gets (Subscribes history) text tokens = tokens
-told_behind gets (AsksTokens timeout token) text tokens = tokens
-told_behind gets (TellsToken id interest) text tokens = token_told gets id interest text tokens
-told_behind gets (EndsToken id interest) text tokens = filter (λ t. not (t.number == id)) tokens
-told_behind gets (EndsAnswers interest) text tokens = tokens
+abbrev pub remote_tokens_behind : List LivelinessGet → ToLiveliness → Option (List ℕ) → List RemoteToken → List RemoteToken
+remote_tokens_behind gets NoToken text tokens = tokens
+remote_tokens_behind gets (Subscribes history) text tokens = tokens
+remote_tokens_behind gets (AsksTokens timeout token) text tokens = tokens
+remote_tokens_behind gets (TellsToken id interest) text tokens = with_remote_token gets id interest text tokens
+remote_tokens_behind gets (EndsToken id interest) text tokens = filter (λ t. not (t.number == id)) tokens
+remote_tokens_behind gets (EndsAnswers interest) text tokens = tokens
 
 -- the tokens that the network told and has not ended, in ascending number
-abbrev pub remote_tokens : Settings → List Entry → List ToldToken
+abbrev pub remote_tokens : Settings → List Entry → List RemoteToken
 remote_tokens s [] = []
-remote_tokens s (x ∷ past) = told_behind (asking_now s past) (row_of x.event).to_liveliness x.text (remote_tokens s past)
+remote_tokens s (x ∷ past) = remote_tokens_behind (asking_now s past) (row_of x.event).to_liveliness x.text (remote_tokens s past)
 
 -- whether a token's number is known
-abbrev pub is_told : ℕ → List ToldToken → Bool
-is_told id tokens = list_any (λ t. t.number == id) tokens
+abbrev pub is_remote_token : ℕ → List RemoteToken → Bool
+is_remote_token id tokens = list_any (λ t. t.number == id) tokens
 
 -- whether the key of an event isn't looked at: that of a token's end, where its number is known
-abbrev pub is_spared : List ToldToken → ToLiveliness → Bool
-is_spared tokens (EndsToken id interest) = is_told id tokens
+abbrev pub is_spared : List RemoteToken → ToLiveliness → Bool
+is_spared tokens (EndsToken id interest) = is_remote_token id tokens
 is_spared tokens to = false
 
 -- whether an event of liveliness means nothing: it ends the answers to no get

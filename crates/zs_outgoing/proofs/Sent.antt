@@ -15,7 +15,7 @@ use Rattle.zs_events.specs.declared.turn.Turn.{Turn}
 use Rattle.zs_events.specs.Turn.{answered}
 use Rattle.zs_core.specs.Types.{Settings}
 use Rattle.zs_core.specs.Entry.{is_closed}
-use Rattle.zs_core.specs.Held.{named_text}
+use Rattle.zs_core.specs.HeldKeys.{named_text}
 use Rattle.zs_core.specs.Causes.{refusal_of}
 use Rattle.zs_core.specs.Counters.{next_entity}
 use Rattle.zs_core.specs.Past.{entry_of, past_of}

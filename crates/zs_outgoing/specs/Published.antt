@@ -13,7 +13,7 @@ use Rattle.zs_events.specs.declared.turn.Kind.TheVariants.{Subscriber}
 use Rattle.zs_events.specs.Kinds.{incoming_content}
 use Rattle.zs_core.specs.Types.{Settings}
 use Rattle.zs_core.specs.Entry.{is_closed}
-use Rattle.zs_core.specs.Held.{named_text}
+use Rattle.zs_core.specs.HeldKeys.{named_text}
 use Rattle.zs_core.specs.Live.{live_subs, live_pubs}
 use Rattle.zs_core.specs.Causes.{refusal_of}
 use Rattle.zs_core.specs.Past.{past_of}

@@ -249,7 +249,7 @@ told asked (FinalOf n side) up =
     ∙ sym (final_is n side (open_gets asked) (open_ascend asked up) (open_waits asked))
 told asked (AtMoment m) up = ends_some (AtMoment m) (λ row. nat_le row.deadline m) (λ a. refl) (λ a. refl) asked
 told asked (QuerierEnds id) up = ends_some (QuerierEnds id) (λ row. names id row.querier) (λ a. refl) (λ a. refl) asked
-told asked (CancelledBy token) up = ends_some (CancelledBy token) (λ row. names token row.token) (λ a. refl) (λ a. refl) asked
+told asked (CancelledBy cancellation_token) up = ends_some (CancelledBy cancellation_token) (λ row. names cancellation_token row.cancellation_token) (λ a. refl) (λ a. refl) asked
 told asked AllEnd up = all_end asked
 
 -- a get that has had no reply is as it was asked
@@ -280,5 +280,5 @@ heard_ascend (ReplyTo n r) asked up = ascend_map (λ (a : Asked). a.row.number) 
 heard_ascend (FinalOf n side) asked up = ascend_map (λ (a : Asked). a.row.number) (hearing (FinalOf n side)) asked up
 heard_ascend (AtMoment m) asked up = ascend_map (λ (a : Asked). a.row.number) (hearing (AtMoment m)) asked up
 heard_ascend (QuerierEnds id) asked up = ascend_map (λ (a : Asked). a.row.number) (hearing (QuerierEnds id)) asked up
-heard_ascend (CancelledBy token) asked up = ascend_map (λ (a : Asked). a.row.number) (hearing (CancelledBy token)) asked up
+heard_ascend (CancelledBy cancellation_token) asked up = ascend_map (λ (a : Asked). a.row.number) (hearing (CancelledBy cancellation_token)) asked up
 heard_ascend AllEnd asked up = ascend_map (λ (a : Asked). a.row.number) (hearing AllEnd) asked up

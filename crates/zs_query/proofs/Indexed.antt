@@ -17,18 +17,18 @@ use Rattle.zs_query.specs.declared.open_get.OpenGet.{OpenGet}
 use Rattle.zs_query.specs.declared.get_marks.GetKeys.{GetKeys}
 use Rattle.zs_query.specs.declared.get_marks.GetMarks.{GetMarks}
 use Rattle.zs_query.specs.Gets.{get_at, without_get, with_get, is_behind, is_due, names, first_row, end_of, end_at, ends_from, ends_at}
-use Rattle.zs_query.specs.GetRows.{deadline_of, token_of, querier_of, keys_of, NotesAll, ForgetsAll, AreSame, IsFree, AreIndexed, row_of_get}
+use Rattle.zs_query.specs.GetRows.{deadline_of, cancellation_token_of, querier_of, keys_of, NotesAll, ForgetsAll, AreSame, IsFree, AreIndexed, row_of_get}
 
 abbrev number_of : OpenGet → ℕ
 number_of g = g.row.number
 
 -- no get, no mark
-pub indexed_none : AreIndexed [] (record { deadlines = []; tokens = []; queriers = [] })
+pub indexed_none : AreIndexed [] (record { deadlines = []; cancellation_tokens = []; queriers = [] })
 indexed_none = record {
   numbered = tt;
   ascending = tt;
   deadlines = index_none deadline_of;
-  tokens = index_none token_of;
+  cancellation_tokens = index_none cancellation_token_of;
   queriers = index_none querier_of;
 }
 
@@ -36,7 +36,7 @@ indexed_none = record {
 pub free_of : (n : ℕ) (rows : List (ℕ × OpenGet)) (marks : GetMarks) → AreIndexed rows marks → is_some (row_at n rows) ≡ false → IsFree n marks
 free_of n rows marks is unused = record {
   deadlines = index_free deadline_of n rows marks.deadlines unused is.deadlines;
-  tokens = index_free token_of n rows marks.tokens unused is.tokens;
+  cancellation_tokens = index_free cancellation_token_of n rows marks.cancellation_tokens unused is.cancellation_tokens;
   queriers = index_free querier_of n rows marks.queriers unused is.queriers;
 }
 
@@ -46,7 +46,7 @@ indexed_as rows marks marks' same is = record {
   numbered = is.numbered;
   ascending = is.ascending;
   deadlines = index_as deadline_of rows marks.deadlines marks'.deadlines same.deadlines is.deadlines;
-  tokens = index_as token_of rows marks.tokens marks'.tokens same.tokens is.tokens;
+  cancellation_tokens = index_as cancellation_token_of rows marks.cancellation_tokens marks'.cancellation_tokens same.cancellation_tokens is.cancellation_tokens;
   queriers = index_as querier_of rows marks.queriers marks'.queriers same.queriers is.queriers;
 }
 
@@ -56,7 +56,7 @@ indexed_more g rows rows' marks marks' is unused placed found up notes = record 
   numbered = subst (AreNumbered number_of) (sym placed) (numbered_placed number_of g.row.number g rows is.numbered refl);
   ascending = up;
   deadlines = index_more deadline_of g.row.number g rows rows' marks.deadlines marks'.deadlines unused found notes.deadlines is.deadlines;
-  tokens = index_more token_of g.row.number g rows rows' marks.tokens marks'.tokens unused found notes.tokens is.tokens;
+  cancellation_tokens = index_more cancellation_token_of g.row.number g rows rows' marks.cancellation_tokens marks'.cancellation_tokens unused found notes.cancellation_tokens is.cancellation_tokens;
   queriers = index_more querier_of g.row.number g rows rows' marks.queriers marks'.queriers unused found notes.queriers is.queriers;
 }
 
@@ -68,7 +68,7 @@ indexed_less n g rows rows' marks marks' is there left found up forgets =
       numbered = subst (AreNumbered number_of) (sym left) (numbered_without number_of n rows is.numbered);
       ascending = up;
       deadlines = index_less deadline_of n g rows rows' marks.deadlines marks'.deadlines there found (subst (λ m. Forgets (deadline_of g) m marks.deadlines marks'.deadlines) number forgets.deadlines) is.deadlines;
-      tokens = index_less token_of n g rows rows' marks.tokens marks'.tokens there found (subst (λ m. Forgets (token_of g) m marks.tokens marks'.tokens) number forgets.tokens) is.tokens;
+      cancellation_tokens = index_less cancellation_token_of n g rows rows' marks.cancellation_tokens marks'.cancellation_tokens there found (subst (λ m. Forgets (cancellation_token_of g) m marks.cancellation_tokens marks'.cancellation_tokens) number forgets.cancellation_tokens) is.cancellation_tokens;
       queriers = index_less querier_of n g rows rows' marks.queriers marks'.queriers there found (subst (λ m. Forgets (querier_of g) m marks.queriers marks'.queriers) number forgets.queriers) is.queriers;
     }
 
@@ -78,7 +78,7 @@ indexed_kept n rows rows' marks is none left found up = record {
   numbered = subst (AreNumbered number_of) (sym left) (numbered_without number_of n rows is.numbered);
   ascending = up;
   deadlines = index_kept deadline_of n rows rows' marks.deadlines none found is.deadlines;
-  tokens = index_kept token_of n rows rows' marks.tokens none found is.tokens;
+  cancellation_tokens = index_kept cancellation_token_of n rows rows' marks.cancellation_tokens none found is.cancellation_tokens;
   queriers = index_kept querier_of n rows rows' marks.queriers none found is.queriers;
 }
 
@@ -90,7 +90,7 @@ indexed_with n g h rows marks is there keys =
       numbered = numbered_with number_of n h rows is.numbered (ap (λ (k : GetKeys). k.number) keys ∙ number_found number_of n g rows is.numbered there);
       ascending = ascend_with n h rows is.ascending;
       deadlines = index_same deadline_of n g h rows (with_row n h rows) marks.deadlines there (ap (λ (k : GetKeys). Some k.deadline) keys) found is.deadlines;
-      tokens = index_same token_of n g h rows (with_row n h rows) marks.tokens there (ap (λ (k : GetKeys). k.token) keys) found is.tokens;
+      cancellation_tokens = index_same cancellation_token_of n g h rows (with_row n h rows) marks.cancellation_tokens there (ap (λ (k : GetKeys). k.cancellation_token) keys) found is.cancellation_tokens;
       queriers = index_same querier_of n g h rows (with_row n h rows) marks.queriers there (ap (λ (k : GetKeys). k.querier) keys) found is.queriers;
     }
 
@@ -102,7 +102,7 @@ gets_found n rows marks is = row_of_number number_of n rows is.numbered
 pub same_again : (keys : GetKeys) (before between after : GetMarks) → IsFree keys.number before → NotesAll keys before between → ForgetsAll keys between after → AreSame before after
 same_again keys before between after free notes forgets = record {
   deadlines = undone (Some keys.deadline) keys.number before.deadlines between.deadlines after.deadlines free.deadlines notes.deadlines forgets.deadlines;
-  tokens = undone keys.token keys.number before.tokens between.tokens after.tokens free.tokens notes.tokens forgets.tokens;
+  cancellation_tokens = undone keys.cancellation_token keys.number before.cancellation_tokens between.cancellation_tokens after.cancellation_tokens free.cancellation_tokens notes.cancellation_tokens forgets.cancellation_tokens;
   queriers = undone keys.querier keys.number before.queriers between.queriers after.queriers free.queriers notes.queriers forgets.queriers;
 }
 
@@ -154,8 +154,8 @@ ends_are now numbers rows marks is rise members =
 pub due_get : (now : ℕ) (rows : List (ℕ × OpenGet)) (marks : GetMarks) → AreIndexed rows marks → (r : Option Mark) → MatchOption r ((n : ℕ) → is_marked_up_to now n marks.deadlines ≡ false) (λ m. (m.key ≤ now) × (first_of marks.deadlines ≡ Some m)) → EndsOne number_of (λ g. not (is_due now g)) (option_map (λ (m : Mark). m.number) r) (rows_of rows)
 due_get now rows marks is r found = due_ends number_of (λ (g : OpenGet). g.row.deadline) now rows marks.deadlines is.numbered is.ascending is.deadlines r found
 
-pub token_get : (token : ℕ) (rows : List (ℕ × OpenGet)) (marks : GetMarks) → AreIndexed rows marks → (r : Option ℕ) → MatchOption r ((n : ℕ) → is_marked token n marks.tokens ≡ false) (λ n. is_marked token n marks.tokens ≡ true) → EndsOne number_of (λ g. not (names token g.row.token)) r (rows_of rows)
-token_get token rows marks is r found = under_ends number_of token_of token rows marks.tokens is.numbered is.ascending is.tokens r found
+pub cancellation_token_get : (cancellation_token : ℕ) (rows : List (ℕ × OpenGet)) (marks : GetMarks) → AreIndexed rows marks → (r : Option ℕ) → MatchOption r ((n : ℕ) → is_marked cancellation_token n marks.cancellation_tokens ≡ false) (λ n. is_marked cancellation_token n marks.cancellation_tokens ≡ true) → EndsOne number_of (λ g. not (names cancellation_token g.row.cancellation_token)) r (rows_of rows)
+cancellation_token_get cancellation_token rows marks is r found = under_ends number_of cancellation_token_of cancellation_token rows marks.cancellation_tokens is.numbered is.ascending is.cancellation_tokens r found
 
 pub querier_get : (id : ℕ) (rows : List (ℕ × OpenGet)) (marks : GetMarks) → AreIndexed rows marks → (r : Option ℕ) → MatchOption r ((n : ℕ) → is_marked id n marks.queriers ≡ false) (λ n. is_marked id n marks.queriers ≡ true) → EndsOne number_of (λ g. not (names id g.row.querier)) r (rows_of rows)
 querier_get id rows marks is r found = under_ends number_of querier_of id rows marks.queriers is.numbered is.ascending is.queriers r found
@@ -200,7 +200,7 @@ next_row after rows marks gets is same r found =
     first_is r (filter (λ (e : ℕ × OpenGet). is_behind after e.0) rows) found
     ∙ (ap first_row (gets_behind after rows marks is) ∙ ap (λ (gs : List OpenGet). first_row (filter (λ (g : OpenGet). is_behind after g.row.number) gs)) same)
 
--- and the row that a walk over those of a token or of a querier comes to next
+-- and the row that a walk over those of a cancellation token or of a querier comes to next
 row_is : (r : Option OpenGet) (gets : List OpenGet) → r ≡ first_of gets → row_of_get r ≡ first_row gets
 row_is r [] is = ap row_of_get is
 row_is r (g ∷ gets) is = ap row_of_get is

@@ -53,7 +53,7 @@ below_after next (ReplyTo number reply) gets all = with_below next number (repli
 below_after next (FinalOf number side) gets all = final_below next number side (final_outcome side (get_at number gets)) gets all
 below_after next (AtMoment moment) gets all = all_filter (λ (g : OpenGet). g.row.number < next) (λ g. not (is_due moment g)) gets all
 below_after next (QuerierEnds id) gets all = all_filter (λ (g : OpenGet). g.row.number < next) (λ g. not (names id g.row.querier)) gets all
-below_after next (CancelledBy token) gets all = all_filter (λ (g : OpenGet). g.row.number < next) (λ g. not (names token g.row.token)) gets all
+below_after next (CancelledBy cancellation_token) gets all = all_filter (λ (g : OpenGet). g.row.number < next) (λ g. not (names cancellation_token g.row.cancellation_token)) gets all
 below_after next AllEnd gets all = tt
 
 -- and so does one get more, with the next number

@@ -12,14 +12,14 @@ use Rattle.zs_query.specs.Gets.{get_at, with_get, fresh, takes_key, replied, fin
 use Rattle.zs_query.specs.Laws.{get_after}
 
 -- what gets hear of an event: nothing, a reply with a sample to the get of that number, the final of a side for it, a moment, the
--- end of a querier, a token that cancels, or that all end
+-- end of a querier, a cancellation token that cancels, or that all end
 pub data News : Type 0 where
   Quiet : News
   ReplyTo : (number : ℕ) → (reply : Replied) → News
   FinalOf : (number : ℕ) → (side : Side) → News
   AtMoment : (moment : ℕ) → News
   QuerierEnds : (id : ℕ) → News
-  CancelledBy : (token : ℕ) → News
+  CancelledBy : (cancellation_token : ℕ) → News
   AllEnd : News
 
 -- a get as it was asked, and what it has heard since, the newest first
@@ -54,11 +54,11 @@ waiting a = record a.row {
 abbrev pub waits : GetRow → Bool
 waits row = row.local_wanted || row.network_wanted
 
--- whether news ends a get, whatever is missing: its deadline is reached, its querier ends, its token cancels, or all end
+-- whether news ends a get, whatever is missing: its deadline is reached, its querier ends, its cancellation token cancels, or all end
 abbrev pub is_end : GetRow → News → Bool
 is_end row (AtMoment moment) = nat_le row.deadline moment
 is_end row (QuerierEnds id) = names id row.querier
-is_end row (CancelledBy token) = names token row.token
+is_end row (CancelledBy cancellation_token) = names cancellation_token row.cancellation_token
 is_end row AllEnd = true
 is_end row news = false
 
@@ -100,7 +100,7 @@ gets_after (ReplyTo number reply) gets = with_get number (replied reply) gets
 gets_after (FinalOf number side) gets = after_final (final_outcome side (get_at number gets)) side number gets
 gets_after (AtMoment moment) gets = filter (λ g. not (is_due moment g)) gets
 gets_after (QuerierEnds id) gets = filter (λ g. not (names id g.row.querier)) gets
-gets_after (CancelledBy token) gets = filter (λ g. not (names token g.row.token)) gets
+gets_after (CancelledBy cancellation_token) gets = filter (λ g. not (names cancellation_token g.row.cancellation_token)) gets
 gets_after AllEnd gets = []
 
 -- the table with one get more behind all others, unless it waits for nobody

@@ -1,4 +1,4 @@
--- The open gets with the indexes that find them by their deadline, their token and their querier.
+-- The open gets with the indexes that find them by their deadline, their cancellation token and their querier.
 use Rattle.std.specs.Prelude.{◌≡◌, ℕ, false, List, Option, Some, None}
 use Rattle.zs_rows.specs.Ascending.{Ascend}
 use Rattle.zs_rows.specs.Index.{is_marked, Notes, Forgets, IsSame, IsIndexOf}
@@ -12,37 +12,37 @@ use Rattle.zs_query.specs.declared.get_marks.GetMarks.{GetMarks}
 abbrev pub deadline_of : OpenGet → Option ℕ
 deadline_of g = Some g.row.deadline
 
-abbrev pub token_of : OpenGet → Option ℕ
-token_of g = g.row.token
+abbrev pub cancellation_token_of : OpenGet → Option ℕ
+cancellation_token_of g = g.row.cancellation_token
 
 abbrev pub querier_of : OpenGet → Option ℕ
 querier_of g = g.row.querier
 
 abbrev pub keys_of : GetRow → GetKeys
-keys_of row = record { number = row.number; deadline = row.deadline; token = row.token; querier = row.querier }
+keys_of row = record { number = row.number; deadline = row.deadline; cancellation_token = row.cancellation_token; querier = row.querier }
 
 -- the marks of a get have come
 pub record NotesAll (keys : GetKeys) (before after : GetMarks) : Type 0 where
   pub deadlines : Notes (Some keys.deadline) keys.number before.deadlines after.deadlines
-  pub tokens : Notes keys.token keys.number before.tokens after.tokens
+  pub cancellation_tokens : Notes keys.cancellation_token keys.number before.cancellation_tokens after.cancellation_tokens
   pub queriers : Notes keys.querier keys.number before.queriers after.queriers
 
 -- the marks of a get are gone
 pub record ForgetsAll (keys : GetKeys) (before after : GetMarks) : Type 0 where
   pub deadlines : Forgets (Some keys.deadline) keys.number before.deadlines after.deadlines
-  pub tokens : Forgets keys.token keys.number before.tokens after.tokens
+  pub cancellation_tokens : Forgets keys.cancellation_token keys.number before.cancellation_tokens after.cancellation_tokens
   pub queriers : Forgets keys.querier keys.number before.queriers after.queriers
 
 -- the marks are the same
 pub record AreSame (before after : GetMarks) : Type 0 where
   pub deadlines : IsSame before.deadlines after.deadlines
-  pub tokens : IsSame before.tokens after.tokens
+  pub cancellation_tokens : IsSame before.cancellation_tokens after.cancellation_tokens
   pub queriers : IsSame before.queriers after.queriers
 
 -- a number has no mark
 pub record IsFree (number : ℕ) (marks : GetMarks) : Type 0 where
   pub deadlines : (k : ℕ) → is_marked k number marks.deadlines ≡ false
-  pub tokens : (k : ℕ) → is_marked k number marks.tokens ≡ false
+  pub cancellation_tokens : (k : ℕ) → is_marked k number marks.cancellation_tokens ≡ false
   pub queriers : (k : ℕ) → is_marked k number marks.queriers ≡ false
 
 -- each get stands under its number, the numbers ascend, and each index has the marks of these gets and no others
@@ -50,7 +50,7 @@ pub record AreIndexed (rows : List (ℕ × OpenGet)) (marks : GetMarks) : Type 0
   pub numbered : AreNumbered (λ g. g.row.number) rows
   pub ascending : Ascend (λ e. e.0) rows
   pub deadlines : IsIndexOf deadline_of rows marks.deadlines
-  pub tokens : IsIndexOf token_of rows marks.tokens
+  pub cancellation_tokens : IsIndexOf cancellation_token_of rows marks.cancellation_tokens
   pub queriers : IsIndexOf querier_of rows marks.queriers
 
 -- the row of a get, if there is one

@@ -16,7 +16,7 @@ pub record Asking : Type 0 where
 abbrev pub with_asked : GetRow → Asking → Asking
 with_asked row a = record a { gets = opened row a.gets; next = a.next + 1 }
 
--- behind a reply, the network's final, this session's, a moment, the end of a querier, a token that cancels, and the end of all
+-- behind a reply, the network's final, this session's, a moment, the end of a querier, a cancellation token that cancels, and the end of all
 abbrev pub with_reply : ℕ → Replied → Asking → Asking
 with_reply number reply a = record a { gets = gets_after (ReplyTo number reply) a.gets }
 
@@ -32,8 +32,8 @@ at_moment moment a = record a { gets = gets_after (AtMoment moment) a.gets; mome
 abbrev pub without_querier : ℕ → Asking → Asking
 without_querier id a = record a { gets = gets_after (QuerierEnds id) a.gets }
 
-abbrev pub without_token : ℕ → Asking → Asking
-without_token token a = record a { gets = gets_after (CancelledBy token) a.gets }
+abbrev pub without_cancellation_token : ℕ → Asking → Asking
+without_cancellation_token cancellation_token a = record a { gets = gets_after (CancelledBy cancellation_token) a.gets }
 
 abbrev pub all_ended : Asking → Asking
 all_ended a = record a { gets = gets_after AllEnd a.gets }

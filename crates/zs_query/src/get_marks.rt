@@ -12,7 +12,7 @@ use zs_rows::Index;
 pub(crate) struct GetKeys {
     pub(crate) number: u32,
     pub(crate) deadline: u64,
-    pub(crate) token: Option<u64>,
+    pub(crate) cancellation_token: Option<u64>,
     pub(crate) querier: Option<u64>,
 }
 
@@ -20,18 +20,18 @@ pub(crate) struct GetKeys {
 #[derive(Drop)]
 pub(crate) struct GetMarks {
     pub(crate) deadlines: Index,
-    pub(crate) tokens: Index,
+    pub(crate) cancellation_tokens: Index,
     pub(crate) queriers: Index,
 }
 
 impl GetMarks {
     /// No mark.
     pub(crate) fn new(alloc: Global) -> GetMarks
-        ensures { result ≡ record { deadlines = []; tokens = []; queriers = [] } }
+        ensures { result ≡ record { deadlines = []; cancellation_tokens = []; queriers = [] } }
     {
         GetMarks {
             deadlines: Index::new(alloc),
-            tokens: Index::new(alloc),
+            cancellation_tokens: Index::new(alloc),
             queriers: Index::new(alloc),
         }
     }
@@ -43,7 +43,7 @@ impl GetMarks {
         ensures err { OnErr result (AreSame self.old self.new) }
     {
         self.deadlines.note(Some(keys.deadline), keys.number)?;
-        if let Err(error) = note_names(&mut self.tokens, &mut self.queriers, keys) {
+        if let Err(error) = note_names(&mut self.cancellation_tokens, &mut self.queriers, keys) {
             self.deadlines.forget(Some(keys.deadline), keys.number);
             return Err(error);
         }
@@ -55,31 +55,36 @@ impl GetMarks {
         ensures { ForgetsAll keys self.old self.new }
     {
         self.deadlines.forget(Some(keys.deadline), keys.number);
-        self.tokens.forget(keys.token, keys.number);
+        self.cancellation_tokens
+            .forget(keys.cancellation_token, keys.number);
         self.queriers.forget(keys.querier, keys.number);
     }
 
     /// Takes out all marks.
     pub(crate) fn clear(&mut self)
-        ensures { self.new ≡ record { deadlines = []; tokens = []; queriers = [] } }
+        ensures { self.new ≡ record { deadlines = []; cancellation_tokens = []; queriers = [] } }
     {
         self.deadlines.clear();
-        self.tokens.clear();
+        self.cancellation_tokens.clear();
         self.queriers.clear();
     }
 }
 
-/// Puts a get under its token and its querier, or under neither.
-fn note_names(tokens: &mut Index, queriers: &mut Index, keys: GetKeys) -> Result<(), AllocError>
-    requires { (k : ℕ) → is_marked k keys.number tokens.old ≡ false }
-    ensures tokens { OnOk result (Notes keys.token keys.number tokens.old tokens.new) }
+/// Puts a get under its cancellation token and its querier, or under neither.
+fn note_names(
+    cancellation_tokens: &mut Index,
+    queriers: &mut Index,
+    keys: GetKeys,
+) -> Result<(), AllocError>
+    requires { (k : ℕ) → is_marked k keys.number cancellation_tokens.old ≡ false }
+    ensures cancellation_tokens { OnOk result (Notes keys.cancellation_token keys.number cancellation_tokens.old cancellation_tokens.new) }
     ensures queriers { OnOk result (Notes keys.querier keys.number queriers.old queriers.new) }
-    ensures same_tokens { OnErr result (IsSame tokens.old tokens.new) }
+    ensures same_cancellation_tokens { OnErr result (IsSame cancellation_tokens.old cancellation_tokens.new) }
     ensures same_queriers { OnErr result (IsSame queriers.old queriers.new) }
 {
-    tokens.note(keys.token, keys.number)?;
+    cancellation_tokens.note(keys.cancellation_token, keys.number)?;
     if let Err(error) = queriers.note(keys.querier, keys.number) {
-        tokens.forget(keys.token, keys.number);
+        cancellation_tokens.forget(keys.cancellation_token, keys.number);
         return Err(error);
     }
     Ok(())

@@ -25,7 +25,7 @@ pub struct GetRow {
     /// The querier that asked, if one did.
     pub querier: Option<u32>,
     /// The cancellation token that ends it, if it has one.
-    pub token: Option<u32>,
+    pub cancellation_token: Option<u32>,
 }
 
 impl GetRow {
@@ -36,7 +36,7 @@ impl GetRow {
         GetKeys {
             number: self.number,
             deadline: self.deadline,
-            token: wide(self.token),
+            cancellation_token: wide(self.cancellation_token),
             querier: wide(self.querier),
         }
     }

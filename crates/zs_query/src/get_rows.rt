@@ -20,7 +20,7 @@ use zs_rows::Rows;
 use zs_sample::Reply;
 
 /// The open gets, ascending. A get is found, put in and taken out in steps that go with the logarithm of how many there
-/// are, by its number as by its deadline, its token and its querier.
+/// are, by its number as by its deadline, its cancellation token and its querier.
 #[derive(Drop)]
 pub(crate) struct GetRows {
     rows: Rows<OpenGet>,
@@ -131,10 +131,12 @@ impl GetRows {
     }
 
     /// A get that has the token.
-    pub(crate) fn first_of_token(&self, token: u32) -> Option<u32>
-        ensures { EndsOne (λ g. g.row.number) (λ g. not (names token g.row.token)) result self.now }
+    pub(crate) fn first_of_cancellation_token(&self, cancellation_token: u32) -> Option<u32>
+        ensures { EndsOne (λ g. g.row.number) (λ g. not (names cancellation_token g.row.cancellation_token)) result self.now }
     {
-        self.marks.tokens.first_under(u64::from(token))
+        self.marks
+            .cancellation_tokens
+            .first_under(u64::from(cancellation_token))
     }
 
     /// A get that the querier asked.
@@ -164,11 +166,18 @@ impl GetRows {
     }
 
     /// The same of those gets that have the token.
-    pub(crate) fn next_of_token(&self, token: u32, after: Option<u32>) -> Option<&GetRow>
-        ensures next { option_copied result ≡ first_row (filter (λ g. is_behind after g.row.number) (filter (λ g. names token g.row.token) self.now)) }
+    pub(crate) fn next_of_cancellation_token(
+        &self,
+        cancellation_token: u32,
+        after: Option<u32>,
+    ) -> Option<&GetRow>
+        ensures next { option_copied result ≡ first_row (filter (λ g. is_behind after g.row.number) (filter (λ g. names cancellation_token g.row.cancellation_token) self.now)) }
         ensures ascending { Ascend (λ g. g.row.number) self.now }
     {
-        let number = self.marks.tokens.next_of(u64::from(token), after);
+        let number = self
+            .marks
+            .cancellation_tokens
+            .next_of(u64::from(cancellation_token), after);
         row_of(&self.rows, number)
     }
 

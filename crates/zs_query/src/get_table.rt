@@ -1,7 +1,7 @@
 ghost use Rattle.std.specs.Prelude.{◌≡◌, ◌≢◌, ◌+◌, ◌<◌, ◌≤◌, [], length, true, IsOk, OnOk, OnErr};
 ghost use Rattle.zs_wire.specs.declared.request.ConsolidationMode.{ConsolidationMode};
 ghost use Rattle.zs_query.specs.Asked.{waits};
-ghost use Rattle.zs_query.specs.GetTable.{with_asked, with_reply, with_final, with_local_final, at_moment, without_querier, without_token, all_ended};
+ghost use Rattle.zs_query.specs.GetTable.{with_asked, with_reply, with_final, with_local_final, at_moment, without_querier, without_cancellation_token, all_ended};
 ghost use Rattle.zs_requests.specs.RequestTable.{with_handed};
 
 use crate::get_row::GetRow;
@@ -153,10 +153,10 @@ impl GetTable {
     }
 
     /// Ends the gets that have a cancellation token, and hands nothing out.
-    pub fn end_token(&mut self, token: u32)
-        ensures { self.new ≡ without_token token self.old }
+    pub fn end_cancelled_by(&mut self, cancellation_token: u32)
+        ensures { self.new ≡ without_cancellation_token cancellation_token self.old }
     {
-        self.gets.end_token(token);
+        self.gets.end_cancelled_by(cancellation_token);
     }
 
     /// Ends all gets.

@@ -14,9 +14,10 @@ use std::alloc::{AllocError, Global};
 use std::marker::Model;
 use zs_sample::Reply;
 
-/// The open gets, each with what it keeps of its replies. A get is found by its number, its deadline, its token and its
-/// querier in steps that go with the logarithm of how many there are, and a reply's key by its hash; a tick, a token and a
-/// querier look at the gets that they end alone. No call that answers want of memory has changed anything.
+/// The open gets, each with what it keeps of its replies. A get is found by its number, its deadline, its
+/// cancellation token and its querier in steps that go with the logarithm of how many there are, and a reply's key by
+/// its hash; a tick, a cancellation token and a querier look at the gets that they end alone. No call that answers
+/// want of memory has changed anything.
 #[derive(Drop)]
 pub struct Gets {
     alloc: Global,
@@ -220,11 +221,16 @@ impl Gets {
 
     /// The row of the open get that has the cancellation token, with the least number above that one, or with the least
     /// of all. It looks at no other gets.
-    pub fn next_of_token(&self, token: u32, after: Option<u32>) -> Option<&GetRow>
-        ensures next { option_copied result ≡ first_row (filter (λ g. is_behind after g.row.number) (filter (λ g. names token g.row.token) self.now)) }
+    pub fn next_of_cancellation_token(
+        &self,
+        cancellation_token: u32,
+        after: Option<u32>,
+    ) -> Option<&GetRow>
+        ensures next { option_copied result ≡ first_row (filter (λ g. is_behind after g.row.number) (filter (λ g. names cancellation_token g.row.cancellation_token) self.now)) }
         ensures ascending { Ascend (λ g. g.row.number) self.now }
     {
-        self.gets.next_of_token(token, after)
+        self.gets
+            .next_of_cancellation_token(cancellation_token, after)
     }
 
     /// The row of the open get that the querier asked, with the least number above that one, or with the least of all.
@@ -274,10 +280,10 @@ impl Gets {
     }
 
     /// Ends each get that has the cancellation token.
-    pub fn end_token(&mut self, token: u32)
-        ensures { self.new ≡ filter (λ g. not (names token g.row.token)) self.old }
+    pub fn end_cancelled_by(&mut self, cancellation_token: u32)
+        ensures { self.new ≡ filter (λ g. not (names cancellation_token g.row.cancellation_token)) self.old }
     {
-        'gets: while let Some(number) = self.gets.first_of_token(token) {
+        'gets: while let Some(number) = self.gets.first_of_cancellation_token(cancellation_token) {
             let _open = end_get(&mut self.gets, number);
         }
     }

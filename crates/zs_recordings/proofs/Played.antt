@@ -20,7 +20,7 @@ use Rattle.zs_keys.specs.Stream.{PutsOn}
 use Rattle.zs_events.specs.declared.event.Event.{Event}
 use Rattle.zs_events.specs.declared.turn.Turn.{Turn}
 use Rattle.zs_core.specs.Types.{Settings}
-use Rattle.zs_core.specs.Stands.{Stands, Steps}
+use Rattle.zs_core.specs.Stands.{Stands, TakesStep}
 use Rattle.zs_core.specs.World.{World}
 use Rattle.zs_recordings.specs.Entries.{turn_rows}
 use Rattle.zs_recordings.specs.Replaying.{RecordingLine, or_place, place_unless, last_heard, last_rows, Said, Heard, Group, recording_line, with_line, groups_of, is_empty, is_headless, group_events, first_other, replayed_by, replayed, replayed_text, verdict_text, replay_language, replay_task, lines_back, answer_for, Replays}
@@ -35,7 +35,7 @@ other_is machine s [] f = rw (f.other, f.heard, f.rows) refl
 other_is machine s (g ∷ older) f = rw (f.other, f.heard, f.rows, f.count) refl
 
 -- an event was taken
-pub took_event : (old new : Replayer) (e : Event) (turn : Turn) → Steps old.state new.state e turn → new.other ≡ other_in old → new.count ≡ old.count + 1 → old.count + 1 < 2 ^ 64
+pub took_event : (old new : Replayer) (e : Event) (turn : Turn) → TakesStep old.state new.state e turn → new.other ≡ other_in old → new.count ≡ old.count + 1 → old.count + 1 < 2 ^ 64
     → string_bytes new.heard ≡ [] → string_bytes new.rows ≡ turn_rows (old.count + 1) turn → new.headless ≡ old.headless → Plays (Said e) old new
 took_event old new e turn steps other count fits heard rows headless = record {
   follows = λ s groups f.

@@ -18,7 +18,7 @@ use Rattle.zs_events.specs.declared.event.Event.{Event}
 use Rattle.zs_events.specs.declared.event.Event.TheVariants.{Close}
 use Rattle.zs_core.specs.Types.{Settings}
 use Rattle.zs_core.specs.Effects.{effects}
-use Rattle.zs_core.specs.Stands.{Stands, Steps}
+use Rattle.zs_core.specs.Stands.{Stands, TakesStep}
 use Rattle.zs_core.specs.World.{World}
 use Rattle.zs_events.specs.declared.turn.Turn.{Turn}
 use Rattle.zs_recordings.proofs.Printed.{row_is, known_told, if_said}
@@ -93,7 +93,7 @@ module _ (machine : Recorder) (r : Rules) (h : List (List ℕ)) (number : ℕ) (
 pub ruleset owed = (took_text, took_on, took_end, took_last)
 
 -- an event was stepped by, and its entry was added
-pub records_step : (e : Event) (number : ℕ) (old new : World) (before after : List ℕ) (turn : Turn) (printed : List ℕ) → Steps old new e turn
+pub records_step : (e : Event) (number : ℕ) (old new : World) (before after : List ℕ) (turn : Turn) (printed : List ℕ) → TakesStep old new e turn
     → Some printed ≡ event_row e → after ≡ before ++ (printed ++ turn_rows number turn) → is_utf8 (printed ++ turn_rows number turn) ≡ true
     → Records e number old new before after
 records_step e number old new before after turn printed steps row put utf8 = record {

@@ -31,7 +31,7 @@ use Rattle.zs_model.specs.declared.settings.Settings.{Settings}
 use Rattle.zs_model.specs.Causes.{refusal_of}
 use Rattle.zs_model.specs.Counters.{draws_query, next_query}
 use Rattle.zs_model.specs.Gets.{sample_reply, news_of, open_now}
-use Rattle.zs_model.specs.Held.{wire_text, named_text}
+use Rattle.zs_model.specs.HeldKeys.{wire_text, named_text}
 use Rattle.zs_model.specs.Live.{live_queriers, to_gets_of}
 use Rattle.zs_model.specs.Past.{past_of}
 use Rattle.zs_model.specs.Queriers.{to_gets_by}

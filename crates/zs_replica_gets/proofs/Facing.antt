@@ -15,7 +15,7 @@ use Rattle.zs_events.specs.declared.turn.Refusal.{Refusal}
 use Rattle.zs_model.specs.declared.settings.Settings.{Settings}
 use Rattle.zs_model.specs.Causes.{refusal_of}
 use Rattle.zs_model.specs.Counters.{next_query}
-use Rattle.zs_model.specs.Held.{wire_text}
+use Rattle.zs_model.specs.HeldKeys.{wire_text}
 use Rattle.zs_model.specs.Past.{past_of}
 use Rattle.zs_model.specs.Questions.{request_of}
 use Rattle.zs_model.specs.Received.{messages_of}

@@ -16,7 +16,7 @@ use Rattle.zs_model.specs.Groups.{joins_first, sends_if}
 use Rattle.zs_model.specs.Sends.{group_wire}
 use Rattle.zs_tables.specs.Types.{Subscribers}
 use Rattle.zs_events.specs.declared.key_arg.KeyArg.TheVariants.{Text}
-use Rattle.zs_model.specs.Held.{named_text}
+use Rattle.zs_model.specs.HeldKeys.{named_text}
 use Rattle.zs_model.specs.Past.{entry_of, past_of}
 use Rattle.zs_model.specs.Received.{messages_of}
 use Rattle.zs_model.specs.Effects.{Known, known_of, key_wire, effects_behind, effects}
@@ -42,7 +42,7 @@ plain_keeping keys known None None = tt
 plain_keeping keys known None (Some text) = tt
 plain_keeping keys known (Some number) None = tt
 plain_keeping keys known (Some number) (Some text) =
-    plain_if (joins_first (known.company Subscribers) (record { id = number; told = true; text = text }))
+    plain_if (joins_first (known.company Subscribers) (record { id = number; is_announced = true; text = text }))
     (DeclareSubscriber number (group_wire (known.company Subscribers).aggregates text (key_wire known.keys text (Text (chars keys))))) tt
 
 plain_answering : (keys : List ℕ) (known : Known) (number : Option ℕ) (text : Option (List ℕ)) → AllByRecursion IsPlain (told_by_event known number text (answering keys))

@@ -19,7 +19,7 @@ use Rattle.zs_model.specs.Answers.{replier_of}
 use Rattle.zs_model.specs.Publications.{sample_on}
 use Rattle.zs_model.specs.Replies.{reply_content, reply_on}
 use Rattle.zs_store.specs.Entry.{EntrySeen}
-use Rattle.zs_store.specs.Store.{Write, Ascend, found}
+use Rattle.zs_store.specs.Store.{Write, KeysAscend, found}
 use Rattle.zs_store.proofs.Stores.{same_itself, same_key as equal_bytes, above_first, ascend_rest, none_above}
 use Rattle.zs_keeping.specs.Answering.{update_of}
 use Rattle.zs_replica_gets.specs.Newest.{replies_on, Tells, IsNewest, HandsOne, HandsNewest}
@@ -154,7 +154,7 @@ abbrev adds : ℕ → ℕ → QoSType → List ℕ → Option EntrySeen → List
 adds zid id qos q None rs = rs
 adds zid id qos q (Some e) rs = reply_by zid id qos (record { key = q; entry = e }) ∷ rs
 
-pushed_on : (zid id : ℕ) (qos : QoSType) (key q : List ℕ) (ws : List Write) (rs : List Replied) → Ascend ws
+pushed_on : (zid id : ℕ) (qos : QoSType) (key q : List ℕ) (ws : List Write) (rs : List Replied) → KeysAscend ws
     → replies_on q (pushed zid id qos key ws rs) ≡ adds zid id qos q (if intersects key q then found q ws else None) (replies_on q rs)
 pushed_on zid id qos key q [] rs up = go (intersects key q)
   where
@@ -262,7 +262,7 @@ newest_of s t id qos q (Some e) (Some f) replies is = go (is_earlier f.timestamp
 abbrev pub from_both : ℕ → ℕ → ℕ → QoSType → List ℕ → List ℕ → List Write → List Write → List Replied
 from_both s t id qos keys key own others = if intersects key keys then pushed t id qos key others (pushed s id qos key own []) else []
 
-pub newest_kept : (s t id : ℕ) (qos : QoSType) (keys key : List ℕ) (own others : List Write) → Ascend own → Ascend others
+pub newest_kept : (s t id : ℕ) (qos : QoSType) (keys key : List ℕ) (own others : List Write) → KeysAscend own → KeysAscend others
     → HandsNewest keys key own others (kept (from_both s t id qos keys key own others))
 newest_kept s t id qos keys key own others up above = go (intersects key keys) refl
   where

@@ -18,7 +18,7 @@ use Rattle.zs_delivery.specs.declared.side.LinkSide.TheVariants.{A, B}
 use Rattle.zs_delivery.specs.Linked.{Side, Linked, LinkLine, Take, Deliver, other, is_event, with_event, with_oldest, without_oldest, linked_after}
 use Rattle.zs_keeping.specs.Keeping.{write_at, with_timed, with_sample, with_effects}
 use Rattle.zs_keeping.specs.Answering.{answers_to}
-use Rattle.zs_store.specs.Store.{Write, Ascend}
+use Rattle.zs_store.specs.Store.{Write, KeysAscend}
 use Rattle.zs_store.proofs.Stores.{ascend_nothing, ascend_merged}
 use Rattle.zs_replicas.specs.Replicas.{keeper, effects_at, stored}
 use Rattle.zs_replica_gets.specs.Steps.{Moves, answerer, settings_of, side_of, opposite, store_at, brought, all_taken, all_brought, answers, behind, brought_by, oldest_event, with_step, step_effects}
@@ -29,11 +29,11 @@ use Rattle.zs_replica_gets.proofs.Talk.{IsKnown}
 use Rattle.zs_replica_gets.proofs.Moving.{side_with}
 
 -- a store's keys ascend
-ascend_timed : (time : Option Timestamp) (sample : SampleFields) (store : List Write) → Ascend store → Ascend (with_timed time sample store)
+ascend_timed : (time : Option Timestamp) (sample : SampleFields) (store : List Write) → KeysAscend store → KeysAscend (with_timed time sample store)
 ascend_timed None sample store up = up
 ascend_timed (Some time) sample store up = ascend_merged (write_at time sample) store up
 
-ascend_effects : (id : ℕ) (fx : List Effect) (store : List Write) → Ascend store → Ascend (with_effects id fx store)
+ascend_effects : (id : ℕ) (fx : List Effect) (store : List Write) → KeysAscend store → KeysAscend (with_effects id fx store)
 ascend_effects id [] store up = up
 ascend_effects id (Send message ∷ fx) store up = ascend_effects id fx store up
 ascend_effects id (End kind number ∷ fx) store up = ascend_effects id fx store up
@@ -42,16 +42,16 @@ ascend_effects id (Hand (reply_for kind number reply) ∷ fx) store up = ascend_
 ascend_effects id (Hand (query_for number value query) ∷ fx) store up = ascend_effects id fx store up
 ascend_effects id (Hand (sample_for Subscriber number sample) ∷ fx) store up = ascend_effects id fx (if number == id then with_sample sample store else store) (go (number == id))
   where
-    go : (b : Bool) → Ascend (if b then with_sample sample store else store)
+    go : (b : Bool) → KeysAscend (if b then with_sample sample store else store)
     go true = ascend_timed sample.timestamp sample store up
     go false = up
 ascend_effects id (Hand (sample_for kind number sample) ∷ fx) store up = ascend_effects id fx store up
 
-ascend_stored : (s : Settings) (h : List Event) → Ascend (stored s h)
+ascend_stored : (s : Settings) (h : List Event) → KeysAscend (stored s h)
 ascend_stored s [] = ascend_nothing
 ascend_stored s (e ∷ h) = ascend_effects keeper (effects_at s h e) (stored s h) (ascend_stored s h)
 
-pub ascend_at : (s : Settings) (side : LinkSide) (links : List LinkLine) → Ascend (store_at s side links)
+pub ascend_at : (s : Settings) (side : LinkSide) (links : List LinkLine) → KeysAscend (store_at s side links)
 ascend_at s side links = ascend_stored (settings_of side s) (side_of side (linked_after s links)).history
 
 pub same_answer : (s : Settings) (side : LinkSide) (e : Event) (links : List LinkLine) → answer_at s side e links ≡ (effects (settings_of side s) (side_of side (linked_after s links)).history e).answer

@@ -12,7 +12,7 @@ use Rattle.zs_events.specs.Turn.{answered as answered_turn}
 use Rattle.zs_model.specs.declared.settings.Settings.{Settings}
 use Rattle.zs_model.specs.Causes.{refusal_of}
 use Rattle.zs_model.specs.Entry.{is_closed}
-use Rattle.zs_model.specs.Held.{wire_text}
+use Rattle.zs_model.specs.HeldKeys.{wire_text}
 use Rattle.zs_model.specs.Past.{entry_of, past_of}
 use Rattle.zs_model.specs.Effects.{effects_behind, effects}
 use Rattle.zs_delivery.specs.Linked.{Side, LinkLine}

@@ -33,7 +33,7 @@ use Rattle.zs_model.specs.Counters.{next_query}
 use Rattle.zs_model.specs.Entry.{is_closed}
 use Rattle.zs_model.specs.GetEffects.{ask_effects}
 use Rattle.zs_model.specs.Gets.{own_news, moment_of, asked, open_now}
-use Rattle.zs_model.specs.Held.{wire_text}
+use Rattle.zs_model.specs.HeldKeys.{wire_text}
 use Rattle.zs_model.specs.Live.{live_queryables}
 use Rattle.zs_model.specs.Past.{entry_of, past_of}
 use Rattle.zs_model.specs.Questions.{row_asked, request_of}

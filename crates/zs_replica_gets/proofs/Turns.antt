@@ -27,7 +27,7 @@ use Rattle.zs_model.specs.Causes.{refusal_of}
 use Rattle.zs_model.specs.Counters.{draws_query, next_query}
 use Rattle.zs_model.specs.Entry.{is_closed}
 use Rattle.zs_model.specs.Gets.{news_of, asked_by, moment_of, open_now}
-use Rattle.zs_model.specs.Held.{named_text}
+use Rattle.zs_model.specs.HeldKeys.{named_text}
 use Rattle.zs_model.specs.Live.{live_queryables, live_queriers, to_gets_of}
 use Rattle.zs_model.specs.Matching.{listener_effects}
 use Rattle.zs_model.specs.Past.{entry_of, past_of}

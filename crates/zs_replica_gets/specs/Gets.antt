@@ -10,7 +10,7 @@ use Rattle.zs_events.specs.declared.turn.Effect.{Effect}
 use Rattle.zs_model.specs.declared.settings.Settings.{Settings}
 use Rattle.zs_model.specs.Settings.{default_settings}
 use Rattle.zs_model.specs.Gets.{asked}
-use Rattle.zs_model.specs.Held.{wire_text}
+use Rattle.zs_model.specs.HeldKeys.{wire_text}
 use Rattle.zs_model.specs.Live.{live_queryables}
 use Rattle.zs_model.specs.Past.{past_of}
 use Rattle.zs_model.specs.Received.{AreSpelled}

@@ -28,7 +28,7 @@ use Rattle.zs_events.specs.Updates.{body_by}
 use Rattle.zs_events.specs.Kinds.{NoContent, OwnContent, incoming_content, local_content, row_of, ToEntities}
 use Rattle.zs_model.specs.declared.settings.Settings.{Settings}
 use Rattle.zs_model.specs.Entry.{Entry, is_closed}
-use Rattle.zs_model.specs.Held.{named_text}
+use Rattle.zs_model.specs.HeldKeys.{named_text}
 use Rattle.zs_model.specs.Causes.{refusal_of}
 use Rattle.zs_model.specs.Publications.{Publication, reaches, sample_on}
 use Rattle.zs_model.specs.Effects.{publication_on}

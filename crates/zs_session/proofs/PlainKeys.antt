@@ -26,7 +26,7 @@ use Rattle.zs_events.specs.declared.update.PushBody.TheVariants.{Put, Delete}
 use Rattle.zs_events.specs.Updates.{default_encoding, body_by, texts_by}
 use Rattle.zs_core.specs.Entry.{Entry, is_closed}
 use Rattle.std.specs.Option.{option_or}
-use Rattle.zs_core.specs.Held.{declares_number, tells_number, is_held, drawn_text, held_text, key_text, told_text, mapped_text, wire_text, text_named, named_text}
+use Rattle.zs_core.specs.HeldKeys.{declares_number, tells_number, is_held, drawn_text, held_text, key_text, remote_text, mapped_text, wire_text, text_named, named_text}
 use Rattle.zs_core.specs.Causes.{refusal_of}
 use Rattle.zs_core.specs.Types.{PubRow}
 use Rattle.zs_core.specs.Types.{QuerierRow}
@@ -172,11 +172,11 @@ held_plain n past all = go (is_held n past)
     go true = drawn_plain n past all
     go false = tt
 
-told_plain : (n : ℕ) (past : List Entry) → PlainPast past → IfSome (told_text n past) IsText
+told_plain : (n : ℕ) (past : List Entry) → PlainPast past → IfSome (remote_text n past) IsText
 told_plain n [] all = tt
 told_plain n (x ∷ past) all = go (tells_number n x.event) (told_plain n past all.1)
   where
-    go : (b : Bool) → IfSome (told_text n past) IsText → IfSome (if b then x.text else told_text n past) IsText
+    go : (b : Bool) → IfSome (remote_text n past) IsText → IfSome (if b then x.text else remote_text n past) IsText
     go true plain = all.0.0
     go false plain = plain
 

@@ -10,7 +10,7 @@ use Rattle.zs_wire.specs.declared.sample_kind.SampleKind.{SampleKind}
 use Rattle.zs_wire.specs.declared.sample_kind.SampleKind.TheVariants.{Put as put_kind, Delete as delete_kind}
 use Rattle.zs_tables.specs.Ascending.{placed_by}
 use Rattle.zs_tables.specs.Liveliness.{put_new, met_keys, hearers}
-use Rattle.zs_tables.specs.Types.{ToldToken, LivelinessGet}
+use Rattle.zs_tables.specs.Types.{RemoteToken, LivelinessGet}
 use Rattle.zs_tables.specs.LivelinessGets.{is_asking}
 use Rattle.zs_events.specs.declared.turn.Effect.{Effect}
 use Rattle.zs_events.specs.Kinds.{ToLiveliness, NoToken, Subscribes, AsksTokens, TellsToken, EndsToken, EndsAnswers, row_of}
@@ -18,19 +18,19 @@ use Rattle.zs_events.specs.Updates.{default_encoding}
 use Rattle.zs_core.specs.Types.{Settings}
 use Rattle.zs_core.specs.Entry.{Entry}
 use Rattle.zs_core.specs.Publications.{handed_encoding}
-use Rattle.zs_core.specs.Tokens.{asking_now, answers, is_told, token_told, told_behind, remote_tokens}
-use Rattle.zs_core.specs.LivelinessEffects.{Watch, token_sample, hand_token, token_hands, hand_told, history_hands, told_hands, answer_hands, end_asking, ended_text, answered_ends, watch_effects}
+use Rattle.zs_core.specs.Tokens.{asking_now, answers, is_remote_token, with_remote_token, remote_tokens_behind, remote_tokens}
+use Rattle.zs_core.specs.LivelinessEffects.{Watch, token_sample, hand_token, token_hands, hand_remote_token, history_hands, declared_hands, answer_hands, end_asking, ended_text, answered_ends, watch_effects}
 use Rattle.zs_script.specs.Plain.{is_plain, is_plain_text, is_plain_sample}
 use Rattle.zs_session.proofs.PlainKeys.{IsText, PlainPast, plain_handed, default_plain, filter_all, found_all}
 use Rattle.zs_session.proofs.PlainParameters.{all_map}
 use Rattle.zs_session.proofs.PlainSends.{IsQuiet, AreQuiet}
 
 -- a token on a key with a plain text
-abbrev pub PlainToken : ToldToken → Type 0
+abbrev pub PlainToken : RemoteToken → Type 0
 PlainToken t = IsText t.key.text
 
 -- one more of them, in its place
-placed_plain : (new : ToldToken) (tokens : List ToldToken) → PlainToken new → AllByRecursion PlainToken tokens
+placed_plain : (new : RemoteToken) (tokens : List RemoteToken) → PlainToken new → AllByRecursion PlainToken tokens
     → AllByRecursion PlainToken (placed_by (λ t. t.number) new tokens)
 placed_plain new [] plain all = (plain, tt)
 placed_plain new (t ∷ tokens) plain all = go (t.number == new.number) (nat_lt new.number t.number) (placed_plain new tokens plain all.1)
@@ -41,7 +41,7 @@ placed_plain new (t ∷ tokens) plain all = go (t.number == new.number) (nat_lt 
     go false true rest = (plain, all)
     go false false rest = (all.0, rest)
 
-put_plain : (new : ToldToken) (tokens : List ToldToken) → PlainToken new → AllByRecursion PlainToken tokens
+put_plain : (new : RemoteToken) (tokens : List RemoteToken) → PlainToken new → AllByRecursion PlainToken tokens
     → AllByRecursion PlainToken (put_new (λ t. t.number) new tokens)
 put_plain new tokens plain all = go (list_any (λ t. t.number == new.number) tokens)
   where
@@ -50,20 +50,20 @@ put_plain new tokens plain all = go (list_any (λ t. t.number == new.number) tok
     go false = placed_plain new tokens plain all
 
 -- the told tokens of a plain past
-recorded_plain : (gets : List LivelinessGet) (id : ℕ) (interest : Option ℕ) (text : Option (List ℕ)) (tokens : List ToldToken) → IfSome text IsText
-    → AllByRecursion PlainToken tokens → AllByRecursion PlainToken (token_told gets id interest text tokens)
+recorded_plain : (gets : List LivelinessGet) (id : ℕ) (interest : Option ℕ) (text : Option (List ℕ)) (tokens : List RemoteToken) → IfSome text IsText
+    → AllByRecursion PlainToken tokens → AllByRecursion PlainToken (with_remote_token gets id interest text tokens)
 recorded_plain gets id interest None tokens named all = all
 recorded_plain gets id interest (Some text) tokens named all = go (answers interest gets)
   where
-    new : ToldToken
+    new : RemoteToken
     new = record { number = id; key = undeclared text }
 
     go : (b : Bool) → AllByRecursion PlainToken (if b then tokens else put_new (λ t. t.number) new tokens)
     go true = all
     go false = put_plain new tokens named all
 
-behind_plain : (gets : List LivelinessGet) (to : ToLiveliness) (text : Option (List ℕ)) (tokens : List ToldToken) → IfSome text IsText
-    → AllByRecursion PlainToken tokens → AllByRecursion PlainToken (told_behind gets to text tokens)
+behind_plain : (gets : List LivelinessGet) (to : ToLiveliness) (text : Option (List ℕ)) (tokens : List RemoteToken) → IfSome text IsText
+    → AllByRecursion PlainToken tokens → AllByRecursion PlainToken (remote_tokens_behind gets to text tokens)
 behind_plain gets NoToken text tokens named all = all
 behind_plain gets (Subscribes history) text tokens named all = all
 behind_plain gets (AsksTokens timeout token) text tokens named all = all
@@ -90,13 +90,13 @@ token_quiet kind before None watch named = tt
 token_quiet kind before (Some text) watch named = hands_quiet kind text (hearers before text watch.subs) named
 
 -- what a new subscriber is handed
-met_quiet : (id : ℕ) (text : List ℕ) (tokens : List ToldToken) → AllByRecursion PlainToken tokens → AreQuiet (map (hand_told id) (met_keys text tokens))
+met_quiet : (id : ℕ) (text : List ℕ) (tokens : List RemoteToken) → AllByRecursion PlainToken tokens → AreQuiet (map (hand_remote_token id) (met_keys text tokens))
 met_quiet id text tokens all =
     let met = filter (λ t. intersects text t.key.text) tokens in
-    all_map (λ (k : Key). IsText k.text) IsQuiet (hand_told id) (λ k named. token_plain put_kind k.text named) (map (λ t. t.key) met)
+    all_map (λ (k : Key). IsText k.text) IsQuiet (hand_remote_token id) (λ k named. token_plain put_kind k.text named) (map (λ t. t.key) met)
     (all_map PlainToken (λ (k : Key). IsText k.text) (λ t. t.key) (λ t named. named) met (filter_all PlainToken (λ t. intersects text t.key.text) tokens all))
 
-history_quiet : (history : Bool) (id : Option ℕ) (text : Option (List ℕ)) (tokens : List ToldToken) → AllByRecursion PlainToken tokens
+history_quiet : (history : Bool) (id : Option ℕ) (text : Option (List ℕ)) (tokens : List RemoteToken) → AllByRecursion PlainToken tokens
     → AreQuiet (history_hands history id text tokens)
 history_quiet true (Some id) (Some text) tokens all = met_quiet id text tokens all
 history_quiet true (Some id) None tokens all = tt
@@ -104,8 +104,8 @@ history_quiet true None text tokens all = tt
 history_quiet false id text tokens all = tt
 
 -- what a told token brings about, and its end
-told_quiet : (watch : Watch) (id : ℕ) (interest : Option ℕ) (text : Option (List ℕ)) → IfSome text IsText → AreQuiet (told_hands watch id interest text)
-told_quiet watch id interest text named = go (is_told id watch.told)
+told_quiet : (watch : Watch) (id : ℕ) (interest : Option ℕ) (text : Option (List ℕ)) → IfSome text IsText → AreQuiet (declared_hands watch id interest text)
+told_quiet watch id interest text named = go (is_remote_token id watch.remote_tokens)
   where
     go : (b : Bool) → AreQuiet (if b then [] else token_hands put_kind (is_some interest) text watch.subs)
     go true = tt
@@ -116,7 +116,7 @@ answer_quiet (Some number) (Some text) named = (token_plain put_kind text named,
 answer_quiet (Some number) None named = tt
 answer_quiet None text named = tt
 
-ended_plain : (o : Option ToldToken) (text : Option (List ℕ)) → IfSome o PlainToken → IfSome text IsText → IfSome (ended_text o text) IsText
+ended_plain : (o : Option RemoteToken) (text : Option (List ℕ)) → IfSome o PlainToken → IfSome text IsText → IfSome (ended_text o text) IsText
 ended_plain None text found named = named
 ended_plain (Some t) text found named = found
 
@@ -129,18 +129,18 @@ over_quiet (Some number) gets = go (is_asking number gets)
     go false = tt
 
 -- all that an event brings about behind what it sends
-pub watch_quiet : (watch : Watch) (number : Option ℕ) (text : Option (List ℕ)) (to : ToLiveliness) (ends : List Effect) → AllByRecursion PlainToken watch.told
+pub watch_quiet : (watch : Watch) (number : Option ℕ) (text : Option (List ℕ)) (to : ToLiveliness) (ends : List Effect) → AllByRecursion PlainToken watch.remote_tokens
     → IfSome text IsText → AreQuiet ends → AreQuiet (watch_effects watch number text to ends)
 watch_quiet watch number text NoToken ends all named quiet = quiet
-watch_quiet watch number text (Subscribes history) ends all named quiet = history_quiet history number text watch.told all
+watch_quiet watch number text (Subscribes history) ends all named quiet = history_quiet history number text watch.remote_tokens all
 watch_quiet watch number text (AsksTokens timeout token) ends all named quiet = tt
 watch_quiet watch number text (TellsToken id interest) ends all named quiet = go (answers interest watch.gets)
   where
-    go : (b : Bool) → AreQuiet (if b then answer_hands interest text else told_hands watch id interest text)
+    go : (b : Bool) → AreQuiet (if b then answer_hands interest text else declared_hands watch id interest text)
     go true = answer_quiet interest text named
     go false = told_quiet watch id interest text named
 watch_quiet watch number text (EndsToken id interest) ends all named quiet =
-    let known = find (λ t. t.number == id) watch.told in
+    let known = find (λ t. t.number == id) watch.remote_tokens in
     token_quiet delete_kind (is_some interest) (ended_text known text) watch
-    (ended_plain known text (found_all PlainToken (λ t. t.number == id) watch.told all) named)
+    (ended_plain known text (found_all PlainToken (λ t. t.number == id) watch.remote_tokens all) named)
 watch_quiet watch number text (EndsAnswers interest) ends all named quiet = over_quiet interest watch.gets

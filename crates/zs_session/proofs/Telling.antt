@@ -25,7 +25,7 @@ use Rattle.zs_events.specs.Turn.{answered}
 use Rattle.zs_events.specs.Kinds.{Publishes, NoContent, OwnContent, ByPublisher, ToGets, NoGet, Asks, AsksBy, Answers, EndsSide, Reaches, EndsQuerier, Cancels, EndsAll, ToValues, NoValue, Requested, AnswersBy, AnswersError, SharesValue, GivesBack, row_of}
 use Rattle.zs_events.specs.declared.publication.Content.{Content}
 use Rattle.zs_core.specs.Entry.{Entry, is_closed}
-use Rattle.zs_core.specs.Held.{named_text}
+use Rattle.zs_core.specs.HeldKeys.{named_text}
 use Rattle.zs_core.specs.Live.{live_subs, live_pubs, live_queryables, live_lsubs, live_listeners, to_gets_of}
 use Rattle.zs_core.specs.Listeners.{is_listener, listener_ends}
 use Rattle.zs_core.specs.Matching.{is_matched, listener_effects}

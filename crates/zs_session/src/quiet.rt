@@ -3,7 +3,7 @@
 ghost use Rattle.std.specs.Prelude.{◌≡◌, [], IsTrue, IfOk, OnErr};
 ghost use Rattle.zs_exchange.specs.Handlers.{AreBare};
 ghost use Rattle.zs_core.specs.Settings.{is_valid};
-ghost use Rattle.zs_core.specs.Stands.{Stands, Steps, ClosedIs};
+ghost use Rattle.zs_core.specs.Stands.{Stands, TakesStep, ClosedIs};
 
 use std::alloc::{AllocError, Global};
 use std::marker::Model;
@@ -76,7 +76,7 @@ impl QuietSession {
     ///
     /// Want of memory alone. Then nothing has changed.
     pub(crate) fn step(&mut self, event: &Event) -> Result<Shared<Turn>, AllocError>
-        ensures ok { IfOk result (λ turn. Steps self.old self.new event.now turn) }
+        ensures ok { IfOk result (λ turn. TakesStep self.old self.new event.now turn) }
         ensures err { OnErr result (self.new ≡ self.old) }
     {
         let turn = self.take(event)?;
@@ -86,7 +86,7 @@ impl QuietSession {
 
     /// It is `step` but for the gates.
     fn take(&mut self, event: &Event) -> Result<Shared<Turn>, AllocError>
-        ensures ok { IfOk result (λ turn. Steps self.old self.new event.now turn) }
+        ensures ok { IfOk result (λ turn. TakesStep self.old self.new event.now turn) }
         ensures err { OnErr result (self.new ≡ self.old) }
     {
         match self.cell.take(event, &None, 0) {

@@ -9,7 +9,7 @@ use Rattle.zs_core.specs.Effects.{effects}
 use Rattle.zs_core.specs.Entry.{is_closed}
 use Rattle.zs_core.specs.Past.{past_of}
 use Rattle.zs_core.specs.Cancelling.{is_taken}
-use Rattle.zs_core.specs.Stands.{Stands, Previews, Steps, ClosedIs, IsTaken}
+use Rattle.zs_core.specs.Stands.{Stands, Previews, TakesStep, ClosedIs, IsTaken}
 
 -- the turn of an event behind a history
 unfoldable pub turn_at : Settings → List Event → Event → Turn
@@ -25,7 +25,7 @@ Previewed w e turn = Previews w e turn
 
 -- and the new state stands for that history with the event
 unfoldable pub Stepped : World → World → Event → Turn → Type 0
-Stepped old new e turn = Steps old new e turn
+Stepped old new e turn = TakesStep old new e turn
 
 -- whether a session is closed behind a history
 unfoldable pub closed_at : Settings → List Event → Bool

@@ -30,7 +30,7 @@ use Rattle.zs_model.specs.Cancelling.{is_drawn, is_any, is_among}
 use Rattle.zs_model.specs.Settings.{last_query}
 use Rattle.zs_model.specs.Counters.{is_spent}
 use Rattle.zs_world.specs.Changes.{change_for, Fits, with_change, ask_change, get_change, querier_get_change, request_change}
-use Rattle.zs_world.specs.Turns.{has_run_out, sight}
+use Rattle.zs_world.specs.Decisions.{has_run_out, sight}
 use Rattle.zs_standing.proofs.Decisions.{entry_for}
 use Rattle.zs_standing.proofs.Saying.{IsText, IsNumber, IsMade, HasPassed}
 use Rattle.zs_standing.proofs.Said.{Said, said_of, said_by, all_said}

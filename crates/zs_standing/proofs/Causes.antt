@@ -6,7 +6,7 @@ use Rattle.zs_events.specs.declared.turn.Refusal.TheVariants.{SessionClosedError
 use Rattle.zs_events.specs.Kinds.{Speaker, Application, Anytime, Network, Row}
 use Rattle.zs_model.specs.Seen.{Sight, is_not_found, is_unknown, is_bad_key}
 use Rattle.zs_model.specs.Causes.{wants_open, is_net, holds, in_order, first_that}
-use Rattle.zs_world.specs.Turns.{refused_if, first_cause, refused_closed}
+use Rattle.zs_world.specs.Decisions.{refused_if, first_cause, refused_closed}
 use Rattle.zs_standing.specs.Laws.{Names}
 
 pub is_first : (closed : Bool) (row : Row) (seen : Sight)

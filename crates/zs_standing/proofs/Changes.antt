@@ -20,21 +20,21 @@ use Rattle.zs_model.specs.Queriers.{querier_on}
 use Rattle.zs_standing.proofs.Watching.{or_false}
 use Rattle.zs_world.specs.Keys.{key_of, wire_of, text_of}
 use Rattle.zs_world.specs.Changes.{change_for}
-use Rattle.zs_world.specs.Turns.{open_cause, text_for, sight}
+use Rattle.zs_world.specs.Decisions.{open_cause, text_for, sight}
 use Rattle.zs_standing.proofs.Decisions.{entry_for}
 use Rattle.zs_standing.proofs.Saying.{IsMade, passed}
 use Rattle.zs_standing.proofs.Said.{said_of, all_said}
 use Rattle.zs_standing.proofs.DeclaredMade.{key_made, back_made, declared_back_made, entity_made, tell_made}
 use Rattle.zs_standing.proofs.AskedMade.{get_made, querier_get_made, request_made}
 use Rattle.zs_standing.proofs.AnsweredMade.{ended_is, ended_next, reply_made, response_made}
-use Rattle.zs_standing.proofs.ToldMade.{tokens_made, told_made, listen_made, told_sub_made, told_queryable_made}
+use Rattle.zs_standing.proofs.ToldMade.{tokens_made, told_made, listen_made, remote_subscriber_made, remote_queryable_made}
 
 -- what an open session makes of an event that it accepts
 pub made : (w : World) (e : Event) → w.closed ≡ false → open_cause w e ≡ None → IsMade w (entry_for w e) (change_for w e)
 made w (Key key) o c = key_made w key (key_of w key) o (passed _ _ c)
-made w (UndeclareKey (Number number suffix)) o c = back_made w number suffix (text_for w (UndeclareKey (Number number suffix))) (key_at number w.keys.own) refl o (passed _ _ c)
+made w (UndeclareKey (Number number suffix)) o c = back_made w number suffix (text_for w (UndeclareKey (Number number suffix))) (key_at number w.keys.local_resources) refl o (passed _ _ c)
 made w (UndeclareKey (Declared text number prefix_len)) o c =
-    declared_back_made w text number prefix_len (is_all_of text prefix_len) refl (key_at number w.keys.own) refl o (passed _ _ c)
+    declared_back_made w text number prefix_len (is_all_of text prefix_len) refl (key_at number w.keys.local_resources) refl o (passed _ _ c)
 made w (Sub origin key to) o c =
     let p = passed (row_of (Sub origin key to)) (sight w (Sub origin key to)) c in
     entity_made w (Sub origin key to) key (λ text. new_sub (record { id = w.counters.entity; origin = origin; key = undeclared text })) (key_of w key) o p.found p.left tt (λ t. refl) (λ t. refl)
@@ -59,8 +59,8 @@ made w (Querier key settings) o c =
 made w (QuerierGet id inquiry to) o c = querier_get_made w id inquiry to o (passed _ _ c)
 made w (Token key) o c = all_said {w = w} {x = entry_for w (Token key)} {c = change_for w (Token key)} o (refl, (passed (row_of (Token key)) (sight w (Token key)) c).left) tt refl tt refl
 made w (Listen parent id) o c = listen_made w parent id (listening w.entities.pubs w.entities.queriers w.counters.entity (parent_kind_of parent) id) refl o (passed _ _ c)
-made w (Net (DeclareSubscriber id wire)) o c = told_sub_made w id wire (wire_of w wire) o
-made w (Net (DeclareQueryable id complete wire)) o c = told_queryable_made w id complete wire (wire_of w wire) o
+made w (Net (DeclareSubscriber id wire)) o c = remote_subscriber_made w id wire (wire_of w wire) o
+made w (Net (DeclareQueryable id complete wire)) o c = remote_queryable_made w id complete wire (wire_of w wire) o
 made w (Background background_sub id) o c = all_said {w = w} {x = entry_for w (Background background_sub id)} {c = change_for w (Background background_sub id)} o tt tt tt tt refl
 made w (Get key settings inquiry to) o c = get_made w key settings inquiry to (key_of w key) o (passed _ _ c)
 made w (reply_event value key update quality) o c = reply_made w value key update quality (key_of w key) o

@@ -11,7 +11,7 @@ use Rattle.zs_world.specs.World.{World}
 use Rattle.zs_model.specs.Entry.{Entry}
 use Rattle.zs_model.specs.Past.{with_entry}
 use Rattle.zs_world.specs.Changes.{change_for}
-use Rattle.zs_world.specs.Turns.{cause, open_cause, closed_cause, number_for, text_for, effects_of, decision_of, open_decision, decision}
+use Rattle.zs_world.specs.Decisions.{cause, open_cause, closed_cause, number_for, text_for, effects_of, decision_of, open_decision, decision}
 
 -- an event with what the tables resolve for it
 abbrev pub entry_for : World → Event → Entry

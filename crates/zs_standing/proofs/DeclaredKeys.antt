@@ -13,7 +13,7 @@ use Rattle.zs_world.specs.declared.change.NetworkChange.TheVariants.{TellKey}
 use Rattle.zs_world.specs.World.{World}
 use Rattle.zs_model.specs.Entry.{Entry, is_closed}
 use Rattle.std.specs.Option.{option_or}
-use Rattle.zs_model.specs.Held.{times_declared, times_returned, is_held, held_count, drawn_text, held_text, told_text, declares_number}
+use Rattle.zs_model.specs.HeldKeys.{times_declared, times_returned, is_held, held_count, drawn_text, held_text, remote_text, declares_number}
 use Rattle.zs_world.specs.DeclaredKeys.{holders_of, has_holder, raised, is_last, lowered}
 use Rattle.zs_world.specs.Changes.{with_change, Fits}
 use Rattle.zs_standing.proofs.Numbers.{has_holder-raised, holders_of-raised, has_holder-lowered, holders_of-lowered, holders_none, key_at-placed, key_at-without, or_known}
@@ -23,9 +23,9 @@ use Rattle.zs_standing.proofs.Saying.{IsMade, IsText, closes, declares_by, retur
 -- what the tables of keys are behind a past
 pub record AreKnown (w : World) (past : List Entry) : Type 0 where
   pub closed : w.closed ≡ is_closed past
-  pub emptied : w.closed ≡ true → (w.keys.own ≡ []) × (w.keys.holders ≡ [])
+  pub emptied : w.closed ≡ true → (w.keys.local_resources ≡ []) × (w.keys.holders ≡ [])
   -- a number stands for a key where someone holds it
-  pub tied : (n : ℕ) → is_some (key_at n w.keys.own) ≡ has_holder n w.keys.holders
+  pub tied : (n : ℕ) → is_some (key_at n w.keys.local_resources) ≡ has_holder n w.keys.holders
   -- who holds a number is counted
   pub counted : (n : ℕ) → has_holder n w.keys.holders ≡ true → 0 < holders_of n w.keys.holders
   -- a number was given as often as it was taken back and is held
@@ -33,21 +33,21 @@ pub record AreKnown (w : World) (past : List Entry) : Type 0 where
   -- no number from the next one on was given
   pub unused : (n : ℕ) → w.counters.key ≤ n → times_declared n past ≡ 0
   -- the text of a number is that of the event that drew it
-  pub drawn : (n : ℕ) (key : a_key) → key_at n w.keys.own ≡ Some key → drawn_text n past ≡ Some key.text
-  pub once : Once w.keys.own
-  pub told : (n : ℕ) → option_map (λ (key : a_key). key.text) (key_at n w.keys.told) ≡ told_text n past
+  pub drawn : (n : ℕ) (key : a_key) → key_at n w.keys.local_resources ≡ Some key → drawn_text n past ≡ Some key.text
+  pub once : Once w.keys.local_resources
+  pub told : (n : ℕ) → option_map (λ (key : a_key). key.text) (key_at n w.keys.remote_resources) ≡ remote_text n past
 
-tied_step : (w : World) (c : Change) (n : ℕ) → Fits w c → is_some (key_at n w.keys.own) ≡ has_holder n w.keys.holders
-    → is_some (key_at n (with_change c w).keys.own) ≡ has_holder n (with_change c w).keys.holders
+tied_step : (w : World) (c : Change) (n : ℕ) → Fits w c → is_some (key_at n w.keys.local_resources) ≡ has_holder n w.keys.holders
+    → is_some (key_at n (with_change c w).keys.local_resources) ≡ has_holder n (with_change c w).keys.holders
 tied_step w (OfKeys (Declare m key)) n fits ih =
-    let placed_is = key_at-placed n (record { number = m; key = key }) w.keys.own in
+    let placed_is = key_at-placed n (record { number = m; key = key }) w.keys.local_resources in
     ap is_some placed_is ∙ grind (arith, nat_tests, ih) ∙ sym (has_holder-raised n m w.keys.holders)
 tied_step w (OfKeys (Hold m)) n fits ih =
-    or_known m n (λ (i : ℕ). is_some (key_at i w.keys.own)) (has_holder n w.keys.holders) fits ih ∙ sym (has_holder-raised n m w.keys.holders)
+    or_known m n (λ (i : ℕ). is_some (key_at i w.keys.local_resources)) (has_holder n w.keys.holders) fits ih ∙ sym (has_holder-raised n m w.keys.holders)
 tied_step w (OfKeys (Release m)) n fits ih = go (is_last m w.keys.holders) ∙ sym (has_holder-lowered n m w.keys.holders)
   where
-    go : (b : Bool) → is_some (key_at n (if b then without m w.keys.own else w.keys.own)) ≡ (if (m == n) && b then false else has_holder n w.keys.holders)
-    go true = ap is_some (key_at-without n m w.keys.own) ∙ grind (arith, nat_tests, ih)
+    go : (b : Bool) → is_some (key_at n (if b then without m w.keys.local_resources else w.keys.local_resources)) ≡ (if (m == n) && b then false else has_holder n w.keys.holders)
+    go true = ap is_some (key_at-without n m w.keys.local_resources) ∙ grind (arith, nat_tests, ih)
     go false = grind (arith, nat_tests, ih)
 tied_step w Shut n fits ih = refl
 tied_step w Nothing n fits ih = ih
@@ -96,7 +96,7 @@ less_balanced n m before back hs held ih = go (m == n) refl
     go false e = rw (holders_of-lowered n m hs, e) ih
 
 balanced_step : (w : World) (c : Change) (n before back : ℕ) → Fits w c
-    → ((m : ℕ) → is_some (key_at m w.keys.own) ≡ true → 0 < holders_of m w.keys.holders)
+    → ((m : ℕ) → is_some (key_at m w.keys.local_resources) ≡ true → 0 < holders_of m w.keys.holders)
     → before ≡ back + holders_of n w.keys.holders → (with_change c w).closed ≡ false
     → (if declares_by n c then before + 1 else before) ≡ (if returns_by n c then back + 1 else back) + holders_of n (with_change c w).keys.holders
 balanced_step w (OfKeys (Declare m key)) n before back fits some ih o = rw (holders_of-raised n m w.keys.holders) (grind (arith, nat_tests, ih))
@@ -107,7 +107,7 @@ balanced_step w Nothing n before back fits some ih o = ih
 balanced_step w c n before back fits some ih o = ih
 
 unused_step : (w : World) (c : Change) (n before : ℕ) → Fits w c → (w.counters.key ≤ n → before ≡ 0)
-    → (is_some (key_at n w.keys.own) ≡ true → 0 < before) → (with_change c w).counters.key ≤ n → (if declares_by n c then before + 1 else before) ≡ 0
+    → (is_some (key_at n w.keys.local_resources) ≡ true → 0 < before) → (with_change c w).counters.key ≤ n → (if declares_by n c then before + 1 else before) ≡ 0
 unused_step w (OfKeys (Declare m key)) n before fits ih known above = go (m == n) refl
   where
     go : (t : Bool) → (m == n) ≡ t → (if t then before + 1 else before) ≡ 0
@@ -117,7 +117,7 @@ unused_step w (OfKeys (Hold m)) n before fits ih known above = go (m == n) refl
   where
     go : (t : Bool) → (m == n) ≡ t → (if t then before + 1 else before) ≡ 0
     go true e =
-        let here : is_some (key_at n w.keys.own) ≡ true = ap (λ (i : ℕ). is_some (key_at i w.keys.own)) (sym (eqb-true m n e)) ∙ fits in
+        let here : is_some (key_at n w.keys.local_resources) ≡ true = ap (λ (i : ℕ). is_some (key_at i w.keys.local_resources)) (sym (eqb-true m n e)) ∙ fits in
         absurd (omega (arith, known here, ih above))
     go false e = ih above
 unused_step w (OfKeys (Release m)) n before fits ih known above = ih above
@@ -143,44 +143,44 @@ back_known n m true rows key at = go (m == n) (sym (key_at-without n m rows) ∙
 back_known n m false rows key at = at
 
 drawn_step : (w : World) (c : Change) (text was : Option (List ℕ)) (n : ℕ) (key : a_key) → Fits w c → IsText w text c → (w.counters.key ≤ n → was ≡ None)
-    → ((k : a_key) → key_at n w.keys.own ≡ Some k → was ≡ Some k.text) → key_at n (with_change c w).keys.own ≡ Some key
+    → ((k : a_key) → key_at n w.keys.local_resources ≡ Some k → was ≡ Some k.text) → key_at n (with_change c w).keys.local_resources ≡ Some key
     → option_or was (if declares_by n c then text else None) ≡ Some key.text
 drawn_step w (OfKeys (Declare m new)) text was n key fits is fresh ih at =
-    go (m == n) refl (sym (key_at-placed n (record { number = m; key = new }) w.keys.own) ∙ at)
+    go (m == n) refl (sym (key_at-placed n (record { number = m; key = new }) w.keys.local_resources) ∙ at)
   where
-    go : (t : Bool) → (m == n) ≡ t → (if t then Some new else key_at n w.keys.own) ≡ Some key → option_or was (if t then text else None) ≡ Some key.text
+    go : (t : Bool) → (m == n) ≡ t → (if t then Some new else key_at n w.keys.local_resources) ≡ Some key → option_or was (if t then text else None) ≡ Some key.text
     go true t at =
         let none : was ≡ None = fresh (omega (arith, eqb-true m n t, fits.0)) in
         let this : new ≡ key = cc in
         rw none (is ∙ ap (λ (k : a_key). Some k.text) this)
     go false t at = rw (ih key at) refl
 drawn_step w (OfKeys (Hold m)) text was n key fits is fresh ih at = rw (ih key at) refl
-drawn_step w (OfKeys (Release m)) text was n key fits is fresh ih at = rw (ih key (back_known n m (is_last m w.keys.holders) w.keys.own key at)) refl
+drawn_step w (OfKeys (Release m)) text was n key fits is fresh ih at = rw (ih key (back_known n m (is_last m w.keys.holders) w.keys.local_resources key at)) refl
 drawn_step w Shut text was n key fits is fresh ih at = cc
 drawn_step w Nothing text was n key fits is fresh ih at = rw (ih key at) refl
 drawn_step w c text was n key fits is fresh ih at = rw (ih key at) refl
 
-once_step : (w : World) (c : Change) → Fits w c → ((m : ℕ) → w.counters.key ≤ m → key_at m w.keys.own ≡ None) → Once w.keys.own → Once (with_change c w).keys.own
+once_step : (w : World) (c : Change) → Fits w c → ((m : ℕ) → w.counters.key ≤ m → key_at m w.keys.local_resources ≡ None) → Once w.keys.local_resources → Once (with_change c w).keys.local_resources
 once_step w (OfKeys (Declare m key)) fits fresh ih =
-    once-placed (record { number = m; key = key }) w.keys.own
-    (apart (record { number = m; key = key }) w.keys.own (fresh m (omega (arith, fits.0))) fits.2) ih
+    once-placed (record { number = m; key = key }) w.keys.local_resources
+    (apart (record { number = m; key = key }) w.keys.local_resources (fresh m (omega (arith, fits.0))) fits.2) ih
 once_step w (OfKeys (Hold m)) fits fresh ih = ih
 once_step w (OfKeys (Release m)) fits fresh ih = go (is_last m w.keys.holders)
   where
-    go : (last : Bool) → Once (if last then without m w.keys.own else w.keys.own)
-    go true = once-without (λ row. not (row.number == m)) w.keys.own ih
+    go : (last : Bool) → Once (if last then without m w.keys.local_resources else w.keys.local_resources)
+    go true = once-without (λ row. not (row.number == m)) w.keys.local_resources ih
     go false = ih
 once_step w Shut fits fresh ih = tt
 once_step w Nothing fits fresh ih = ih
 once_step w c fits fresh ih = ih
 
 told_step : (w : World) (c : Change) (text was : Option (List ℕ)) (n : ℕ) → IsText w text c
-    → option_map (λ (key : a_key). key.text) (key_at n w.keys.told) ≡ was
-    → option_map (λ (key : a_key). key.text) (key_at n (with_change c w).keys.told) ≡ (if told_by n c then text else was)
+    → option_map (λ (key : a_key). key.text) (key_at n w.keys.remote_resources) ≡ was
+    → option_map (λ (key : a_key). key.text) (key_at n (with_change c w).keys.remote_resources) ≡ (if told_by n c then text else was)
 told_step w (OfNetwork (TellKey m new)) text was n is ih =
-    ap (option_map (λ (key : a_key). key.text)) (key_at-placed n (record { number = m; key = new }) w.keys.told) ∙ go (m == n)
+    ap (option_map (λ (key : a_key). key.text)) (key_at-placed n (record { number = m; key = new }) w.keys.remote_resources) ∙ go (m == n)
   where
-    go : (b : Bool) → option_map (λ (key : a_key). key.text) (if b then Some new else key_at n w.keys.told) ≡ (if b then text else was)
+    go : (b : Bool) → option_map (λ (key : a_key). key.text) (if b then Some new else key_at n w.keys.remote_resources) ≡ (if b then text else was)
     go true = sym is
     go false = ih
 told_step w Nothing text was n is ih = ih
@@ -191,25 +191,25 @@ closed_step w Shut shut was = refl
 closed_step w Nothing shut was = was
 closed_step w c shut was = was
 
-emptied_step : (w : World) (c : Change) → w.closed ≡ false → (with_change c w).closed ≡ true → ((with_change c w).keys.own ≡ []) × ((with_change c w).keys.holders ≡ [])
+emptied_step : (w : World) (c : Change) → w.closed ≡ false → (with_change c w).closed ≡ true → ((with_change c w).keys.local_resources ≡ []) × ((with_change c w).keys.holders ≡ [])
 emptied_step w Shut o shut = (refl, refl)
 emptied_step w Nothing o shut = let no : false ≡ true = sym o ∙ shut in cc
 emptied_step w c o shut = let no : false ≡ true = sym o ∙ shut in cc
 
 -- a number that stands for a key is counted, and was given
-counted_some : (w : World) (past : List Entry) → AreKnown w past → (n : ℕ) → is_some (key_at n w.keys.own) ≡ true → 0 < holders_of n w.keys.holders
+counted_some : (w : World) (past : List Entry) → AreKnown w past → (n : ℕ) → is_some (key_at n w.keys.local_resources) ≡ true → 0 < holders_of n w.keys.holders
 counted_some w past k n known = k.counted n (sym (k.tied n) ∙ known)
 
-given_some : (w : World) (past : List Entry) → AreKnown w past → w.closed ≡ false → (n : ℕ) → is_some (key_at n w.keys.own) ≡ true → 0 < times_declared n past
+given_some : (w : World) (past : List Entry) → AreKnown w past → w.closed ≡ false → (n : ℕ) → is_some (key_at n w.keys.local_resources) ≡ true → 0 < times_declared n past
 given_some w past k o n known =
     let some : 0 < holders_of n w.keys.holders = counted_some w past k n known in
     omega (arith, some, k.balanced o n)
 
 -- no number from the next one on stands for a key
-fresh_number : (w : World) (past : List Entry) → AreKnown w past → w.closed ≡ false → (n : ℕ) → w.counters.key ≤ n → key_at n w.keys.own ≡ None
-fresh_number w past k o n above = go (key_at n w.keys.own) refl
+fresh_number : (w : World) (past : List Entry) → AreKnown w past → w.closed ≡ false → (n : ℕ) → w.counters.key ≤ n → key_at n w.keys.local_resources ≡ None
+fresh_number w past k o n above = go (key_at n w.keys.local_resources) refl
   where
-    go : (key : Option a_key) → key_at n w.keys.own ≡ key → key ≡ None
+    go : (key : Option a_key) → key_at n w.keys.local_resources ≡ key → key ≡ None
     go None e = refl
     go (Some key) e = absurd (omega (arith, given_some w past k o n (ap is_some e), k.unused n above))
 
@@ -227,7 +227,7 @@ known_more w past x c m k = record {
   drawn = λ n key at. rw (m.keys.declares n)
       (drawn_step w c x.text (drawn_text n past) n key m.fits m.keys.text (λ above. undrawn n past (k.unused n above)) (k.drawn n) at);
   once = once_step w c m.fits (fresh_number w past k m.unclosed) k.once;
-  told = λ n. rw (m.keys.tells n) (told_step w c x.text (told_text n past) n m.keys.text (k.told n));
+  told = λ n. rw (m.keys.tells n) (told_step w c x.text (remote_text n past) n m.keys.text (k.told n));
 }
 
 -- a number is held where someone holds it
@@ -267,10 +267,10 @@ count_is w past n k = go w.closed refl
         omega (arith, even) ∙ sym (ap (λ (b : Bool). if b then 0 else times_declared n past - times_returned n past) closed)
 
 -- the text that it stands for
-pub held_text_is : (w : World) (past : List Entry) (n : ℕ) → AreKnown w past → option_map (λ (key : a_key). key.text) (key_at n w.keys.own) ≡ held_text n past
-held_text_is w past n k = go (key_at n w.keys.own) refl
+pub held_text_is : (w : World) (past : List Entry) (n : ℕ) → AreKnown w past → option_map (λ (key : a_key). key.text) (key_at n w.keys.local_resources) ≡ held_text n past
+held_text_is w past n k = go (key_at n w.keys.local_resources) refl
   where
-    go : (o : Option a_key) → key_at n w.keys.own ≡ o → option_map (λ (key : a_key). key.text) o ≡ held_text n past
+    go : (o : Option a_key) → key_at n w.keys.local_resources ≡ o → option_map (λ (key : a_key). key.text) o ≡ held_text n past
     go None at =
         let none : is_held n past ≡ false = sym (held_is w past n k) ∙ sym (k.tied n) ∙ ap is_some at in
         rw none refl

@@ -21,7 +21,7 @@ use Rattle.zs_model.specs.Counters.{is_spent}
 use Rattle.zs_world.specs.Keys.{is_key_of, has_claim, text_with_suffix}
 use Rattle.zs_world.specs.EntityChanges.{row_number}
 use Rattle.zs_world.specs.Changes.{key_change, key_change_by, added, tell_change}
-use Rattle.zs_world.specs.Turns.{has_run_out, number_of, to_gets_at}
+use Rattle.zs_world.specs.Decisions.{has_run_out, number_of, to_gets_at}
 use Rattle.zs_model.proofs.Gets.{IsAskedUnder}
 use Rattle.zs_standing.proofs.Numbers.{number_at-known}
 use Rattle.zs_standing.proofs.Saying.{IsMade, HasPassed}
@@ -31,29 +31,29 @@ pub key_made : (w : World) (key : KeyArg) (text : Option (List ℕ)) → w.close
     → HasPassed (row_of (Key key)) (record { text = text; lives = true; claimed = true; owed = true; drawn = true; cancelled = false; disjoint = false; lacks = has_run_out w KeyNumber text; idle = false; spared = false })
     → IsMade w (record { number = number_of w KeyNumber text; text = text; event = Key key }) (key_change w text)
 key_made w key None o p = cc (p.found)
-key_made w key (Some text) o p = go (number_at text w.keys.own) refl
+key_made w key (Some text) o p = go (number_at text w.keys.local_resources) refl
   where
-    go : (k : Option ℕ) → number_at text w.keys.own ≡ k
+    go : (k : Option ℕ) → number_at text w.keys.local_resources ≡ k
         → IsMade w (record { number = Some (unwrap_or k w.counters.key); text = Some text; event = Key key }) (key_change_by w text k)
-    go (Some number) e = all_said o (number_at-known text w.keys.own number e) tt tt tt (λ i. record (said_by w (OfKeys (Hold number))) { draws_key = not (is_some (e i)) })
+    go (Some number) e = all_said o (number_at-known text w.keys.local_resources number e) tt tt tt (λ i. record (said_by w (OfKeys (Hold number))) { draws_key = not (is_some (e i)) })
     go None e =
         all_said o (refl, sym (ap (λ (k : Option ℕ). not (is_some k) && is_spent last_key w.counters.key) e) ∙ p.left, e) refl tt tt
         (λ i. record (said_by w (key_change_by w text None)) { draws_key = not (is_some (e i)) })
 
-pub back_made : (w : World) (number : ℕ) (suffix : List ℕ) (text : Option (List ℕ)) (o : Option a_key) → key_at number w.keys.own ≡ o → w.closed ≡ false
+pub back_made : (w : World) (number : ℕ) (suffix : List ℕ) (text : Option (List ℕ)) (o : Option a_key) → key_at number w.keys.local_resources ≡ o → w.closed ≡ false
     → HasPassed (row_of (UndeclareKey (Number number suffix))) (record { text = text_with_suffix suffix o; lives = true; claimed = true; owed = true; drawn = true; cancelled = false; disjoint = false; lacks = false; idle = false; spared = false })
     → IsMade w (record { number = None; text = text; event = UndeclareKey (Number number suffix) }) (OfKeys (Release number))
 back_made w number suffix text None e o p = cc (p.found)
 back_made w number suffix text (Some key) e o p = all_said o (ap is_some e) tt tt tt refl
 
 pub declared_back_made : (w : World) (text : List ℕ) (number prefix_len : ℕ) (whole : Bool) → is_all_of text prefix_len ≡ whole → (key : Option a_key)
-    → key_at number w.keys.own ≡ key → w.closed ≡ false
+    → key_at number w.keys.local_resources ≡ key → w.closed ≡ false
     → HasPassed (record (row_of (UndeclareKey (Declared text number prefix_len))) { gives_part = not whole; claims = if whole then Some number else None })
     (record { text = Some (encode_utf8_all text); lives = true; claimed = has_claim w (if whole then Some number else None) (Some (encode_utf8_all text)); owed = true; drawn = true; cancelled = false; disjoint = false; lacks = false; idle = false; spared = false })
     → IsMade w (record { number = None; text = Some (encode_utf8_all text); event = UndeclareKey (Declared text number prefix_len) }) (OfKeys (Release number))
 declared_back_made w text number prefix_len false is key e o p = cc (p.whole)
 declared_back_made w text number prefix_len true is None e o p =
-    let unclaimed : not (is_key_of (encode_utf8_all text) (key_at number w.keys.own)) ≡ false = p.found in
+    let unclaimed : not (is_key_of (encode_utf8_all text) (key_at number w.keys.local_resources)) ≡ false = p.found in
     let no : true ≡ false = ap (λ (k : Option a_key). not (is_key_of (encode_utf8_all text) k)) (sym e) ∙ unclaimed in cc
 declared_back_made w text number prefix_len true is (Some key) e o p = all_said o (ap is_some e) tt tt tt refl
 

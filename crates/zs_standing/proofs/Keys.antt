@@ -16,7 +16,7 @@ use Rattle.zs_events.specs.declared.key_arg.KeyArg.TheVariants.{Text, Number, De
 use Rattle.zs_world.specs.World.{World}
 use Rattle.zs_events.specs.Kinds.{NamedKey, NoKey, OwnKey, PublisherKey, QuerierKey, WireKey}
 use Rattle.zs_model.specs.Entry.{Entry, is_closed}
-use Rattle.zs_model.specs.Held.{is_claimed, declares_number, times_declared, times_returned, drawn_text, held_text, stands_for, answers_under, number_among, held_number, key_text, mapped_text, wire_text, text_named}
+use Rattle.zs_model.specs.HeldKeys.{is_claimed, declares_number, times_declared, times_returned, drawn_text, held_text, stands_for, answers_under, number_among, held_number, key_text, mapped_text, wire_text, text_named}
 use Rattle.zs_world.specs.Keys.{key_of, is_key_of, has_claim, text_with_suffix, numbers_for, wire_of, text_of}
 use Rattle.zs_model.specs.declared.publisher.PubRow.{PubRow}
 use Rattle.zs_model.specs.Publishers.{pub_at}
@@ -38,7 +38,7 @@ suffixed_is suffix key text is = go key ∙ ap (option_map (λ (t : List ℕ). t
 key_text_is : (w : World) (past : List Entry) (key : KeyArg) → AreKnown w past → key_of w key ≡ key_text past key
 key_text_is w past (Text text) k = refl
 key_text_is w past (Declared text n prefix_len) k = refl
-key_text_is w past (Number n suffix) k = suffixed_is suffix (key_at n w.keys.own) (held_text n past) (held_text_is w past n k)
+key_text_is w past (Number n suffix) k = suffixed_is suffix (key_at n w.keys.local_resources) (held_text n past) (held_text_is w past n k)
 
 pub mapped_is : (w : World) (past : List Entry) (mapping : Mapping) (n : ℕ) → AreKnown w past
     → option_map (λ (k : a_key). k.text) (key_at n (numbers_for mapping w)) ≡ mapped_text mapping n past
@@ -62,22 +62,22 @@ text_is w past (QuerierKey id) l k = ap (λ (rows : List QuerierRow). option_map
 text_is w past (WireKey wire) l k = wire_text_is w past wire k
 
 -- a number that stands for a text by the events is found for it in the table
-pub found_at : (w : World) (past : List Entry) (text : List ℕ) (n : ℕ) → AreKnown w past → stands_for text (held_text n past) ≡ true → number_at text w.keys.own ≡ Some n
-found_at w past text n k stands = go (key_at n w.keys.own) refl
+pub found_at : (w : World) (past : List Entry) (text : List ℕ) (n : ℕ) → AreKnown w past → stands_for text (held_text n past) ≡ true → number_at text w.keys.local_resources ≡ Some n
+found_at w past text n k stands = go (key_at n w.keys.local_resources) refl
   where
-    go : (o : Option a_key) → key_at n w.keys.own ≡ o → number_at text w.keys.own ≡ Some n
+    go : (o : Option a_key) → key_at n w.keys.local_resources ≡ o → number_at text w.keys.local_resources ≡ Some n
     go None at =
         let none : None ≡ held_text n past = ap (option_map (λ (key : a_key). key.text)) (sym at) ∙ held_text_is w past n k in
         let no : false ≡ true = ap (stands_for text) none ∙ stands in cc
     go (Some key) at =
         let held : Some key.text ≡ held_text n past = ap (option_map (λ (key : a_key). key.text)) (sym at) ∙ held_text_is w past n k in
         let same : key.text ≡ text = (bytes_eq-Decides key.text text).0 (ap (stands_for text) held ∙ stands) in
-        ap (λ (t : List ℕ). number_at t w.keys.own) (sym same) ∙ found_again n w.keys.own key k.once at
+        ap (λ (t : List ℕ). number_at t w.keys.local_resources) (sym same) ∙ found_again n w.keys.local_resources key k.once at
 
 -- and one that is found stands for it
-stands_at : (w : World) (past : List Entry) (text : List ℕ) (n : ℕ) → AreKnown w past → number_at text w.keys.own ≡ Some n → stands_for text (held_text n past) ≡ true
+stands_at : (w : World) (past : List Entry) (text : List ℕ) (n : ℕ) → AreKnown w past → number_at text w.keys.local_resources ≡ Some n → stands_for text (held_text n past) ≡ true
 stands_at w past text n k found =
-    let known = named_again text w.keys.own n k.once found in
+    let known = named_again text w.keys.local_resources n k.once found in
     let held : Some known.0.text ≡ held_text n past = ap (option_map (λ (key : a_key). key.text)) (sym known.1) ∙ held_text_is w past n k in
     ap (stands_for text) (sym held) ∙ known.2
 
@@ -131,10 +131,10 @@ stands_given text past n stands = go (is_closed past) (nat_lt (times_returned n 
     go false true less stands = let more : times_returned n past < times_declared n past = grind (arith, nat_tests, less) in omega (arith, more)
 
 -- the number of a text is the same by the table and by the events
-pub number_is : (w : World) (past : List Entry) (text : List ℕ) → AreKnown w past → number_at text w.keys.own ≡ held_number text past
-number_is w past text k = go (number_at text w.keys.own) refl (held_number text past) refl
+pub number_is : (w : World) (past : List Entry) (text : List ℕ) → AreKnown w past → number_at text w.keys.local_resources ≡ held_number text past
+number_is w past text k = go (number_at text w.keys.local_resources) refl (held_number text past) refl
   where
-    go : (a : Option ℕ) → number_at text w.keys.own ≡ a → (b : Option ℕ) → held_number text past ≡ b → a ≡ b
+    go : (a : Option ℕ) → number_at text w.keys.local_resources ≡ a → (b : Option ℕ) → held_number text past ≡ b → a ≡ b
     go None at None held = refl
     go a at (Some n) held = sym at ∙ found_at w past text n k (among_text text past past n held)
     go (Some n) at None held =
@@ -146,7 +146,7 @@ number_is w past text k = go (number_at text w.keys.own) refl (held_number text 
 pub claim_is : (w : World) (past : List Entry) (claims : Option ℕ) (text : Option (List ℕ)) → AreKnown w past → has_claim w claims text ≡ is_claimed past claims text
 claim_is w past None text k = refl
 claim_is w past (Some n) None k = refl
-claim_is w past (Some n) (Some text) k = go (key_at n w.keys.own) ∙ ap (stands_for text) (held_text_is w past n k)
+claim_is w past (Some n) (Some text) k = go (key_at n w.keys.local_resources) ∙ ap (stands_for text) (held_text_is w past n k)
   where
     go : (o : Option a_key) → is_key_of text o ≡ stands_for text (option_map (λ (key : a_key). key.text) o)
     go None = refl

@@ -30,7 +30,7 @@ use Rattle.zs_tables.specs.Types.{LivelinessSub}
 use Rattle.zs_tables.specs.Ascending.{placed_by}
 use Rattle.zs_world.specs.EntityChanges.{left_after}
 use Rattle.zs_world.specs.Changes.{with_change, Fits}
-use Rattle.zs_world.specs.Turns.{is_there, is_left, to_gets_at, left_of}
+use Rattle.zs_world.specs.Decisions.{is_there, is_left, to_gets_at, left_of}
 use Rattle.zs_model.proofs.Placing.{placed_any}
 use Rattle.zs_model.proofs.Entities.{RowChange, FitsIn, SaysRows, AreRows, rows_after, rows_none, rows_more}
 use Rattle.zs_tables.specs.declared.subscriber.SubRow.{SubRow}

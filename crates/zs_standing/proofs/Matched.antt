@@ -6,12 +6,12 @@ use Rattle.std.proofs.lemmas.Bool.Decides.{nat_tests}
 use Rattle.zs_keys.specs.Key.{undeclared}
 use Rattle.zs_tables.specs.Ascending.{Ascend, placed_by}
 use Rattle.zs_tables.specs.declared.listener.ListenerRow.{ListenerRow}
-use Rattle.zs_tables.specs.Told.{Told}
-use Rattle.zs_tables.specs.declared.told_row.ToldSub.{ToldSub}
-use Rattle.zs_tables.specs.declared.told_row.ToldQueryable.{ToldQueryable}
+use Rattle.zs_tables.specs.RemoteEntities.{RemoteEntities}
+use Rattle.zs_tables.specs.declared.remote_row.RemoteSubscriber.{RemoteSubscriber}
+use Rattle.zs_tables.specs.declared.remote_row.RemoteQueryable.{RemoteQueryable}
 use Rattle.zs_tables.specs.declared.subscriber.SubRow.{SubRow}
 use Rattle.zs_tables.specs.declared.queryable.QueryableRow.{QueryableRow}
-use Rattle.zs_tables.specs.Matching.{Candidate, suits, own_sub, own_queryable, told_sub, told_queryable, candidates, status}
+use Rattle.zs_tables.specs.Matching.{Candidate, suits, own_sub, own_queryable, remote_subscriber, remote_queryable, candidates, status}
 use Rattle.zs_tables.proofs.Ascending.{all_weaker, ascend_placed, ascend_filter}
 use Rattle.zs_tables.proofs.ByKey.{by_test}
 use Rattle.zs_events.specs.declared.turn.Kind.{Kind}
@@ -22,30 +22,30 @@ use Rattle.zs_world.specs.World.{World, present_at}
 use Rattle.zs_model.specs.Entry.{Entry}
 use Rattle.zs_model.specs.Live.{appended, live_subs, live_queryables, live_pubs, live_queriers, live_listeners, is_living}
 use Rattle.zs_model.specs.Listeners.{listening, listener_row, ends_listener, is_listener}
-use Rattle.zs_model.specs.Matching.{told_sub_row, renews_sub, told_queryable_row, renews_queryable, remote_subscribers, remote_queryables, is_matched, as_number, status_of, is_untold}
-use Rattle.zs_world.specs.Turns.{status_at, is_there}
+use Rattle.zs_model.specs.Matching.{remote_subscriber_row, renews_sub, remote_queryable_row, renews_queryable, remote_subscribers, remote_queryables, is_matched, as_number, status_of, ends_unknown}
+use Rattle.zs_world.specs.Decisions.{status_at, is_there}
 use Rattle.zs_world.specs.Changes.{with_change}
 use Rattle.zs_standing.proofs.Live.{AreLive, there_is}
 
 -- what the tables of matching are behind a past
 pub record AreMatched (w : World) (past : List Entry) : Type 0 where
   pub listeners : w.matching.listeners ≡ live_listeners past
-  pub subs : (test : ToldSub → Bool) → list_any test w.matching.told.subs ≡ list_any test (remote_subscribers past)
-  pub queryables : (test : ToldQueryable → Bool) → list_any test w.matching.told.queryables ≡ list_any test (remote_queryables past)
-  pub subs_ascend : Ascend (λ (row : ToldSub). row.number) w.matching.told.subs
-  pub queryables_ascend : Ascend (λ (row : ToldQueryable). row.number) w.matching.told.queryables
+  pub subs : (test : RemoteSubscriber → Bool) → list_any test w.matching.remote_entities.subs ≡ list_any test (remote_subscribers past)
+  pub queryables : (test : RemoteQueryable → Bool) → list_any test w.matching.remote_entities.queryables ≡ list_any test (remote_queryables past)
+  pub subs_ascend : Ascend (λ (row : RemoteSubscriber). row.number) w.matching.remote_entities.subs
+  pub queryables_ascend : Ascend (λ (row : RemoteQueryable). row.number) w.matching.remote_entities.queryables
 
 -- what an event makes of the told ones
-abbrev pub subs_told : ToMatching → Option (List ℕ) → List ToldSub → List ToldSub
-subs_told (TellsSub id) (Some text) rows = placed_by (λ (row : ToldSub). row.number) (record { number = id; key = undeclared text }) rows
-subs_told (EndsSub id) text rows = filter (λ (row : ToldSub). not (row.number == id)) rows
-subs_told to text rows = rows
+abbrev pub remote_subscribers_behind : ToMatching → Option (List ℕ) → List RemoteSubscriber → List RemoteSubscriber
+remote_subscribers_behind (TellsSub id) (Some text) rows = placed_by (λ (row : RemoteSubscriber). row.number) (record { number = id; key = undeclared text }) rows
+remote_subscribers_behind (EndsSub id) text rows = filter (λ (row : RemoteSubscriber). not (row.number == id)) rows
+remote_subscribers_behind to text rows = rows
 
-abbrev pub queryables_told : ToMatching → Option (List ℕ) → List ToldQueryable → List ToldQueryable
-queryables_told (TellsQueryable id complete) (Some text) rows =
-    placed_by (λ (row : ToldQueryable). row.number) (record { number = id; complete = complete; key = undeclared text }) rows
-queryables_told (EndsQueryable id) text rows = filter (λ (row : ToldQueryable). not (row.number == id)) rows
-queryables_told to text rows = rows
+abbrev pub remote_queryables_behind : ToMatching → Option (List ℕ) → List RemoteQueryable → List RemoteQueryable
+remote_queryables_behind (TellsQueryable id complete) (Some text) rows =
+    placed_by (λ (row : RemoteQueryable). row.number) (record { number = id; complete = complete; key = undeclared text }) rows
+remote_queryables_behind (EndsQueryable id) text rows = filter (λ (row : RemoteQueryable). not (row.number == id)) rows
+remote_queryables_behind to text rows = rows
 
 -- an event that tells has a text
 abbrev pub HasText : ToMatching → Option (List ℕ) → Type 0
@@ -58,8 +58,8 @@ pub record SaysMatching (w : World) (x : Entry) (c : Change) : Type 0 where
   pub listeners :
       (with_change c w).matching.listeners
       ≡ appended (filter (λ row. not (ends_listener x.event row)) w.matching.listeners) (listener_row w.entities.pubs w.entities.queriers x.event x.number)
-  pub subs : (with_change c w).matching.told.subs ≡ subs_told (row_of x.event).to_matching x.text w.matching.told.subs
-  pub queryables : (with_change c w).matching.told.queryables ≡ queryables_told (row_of x.event).to_matching x.text w.matching.told.queryables
+  pub subs : (with_change c w).matching.remote_entities.subs ≡ remote_subscribers_behind (row_of x.event).to_matching x.text w.matching.remote_entities.subs
+  pub queryables : (with_change c w).matching.remote_entities.queryables ≡ remote_queryables_behind (row_of x.event).to_matching x.text w.matching.remote_entities.queryables
   pub text : HasText (row_of x.event).to_matching x.text
 
 -- one that is placed takes the place of that of its number
@@ -120,27 +120,27 @@ any_append p [] ys = refl
 any_append p (x ∷ xs) ys = by_test (p x) (λ k. rw k refl) (λ k. rw k (any_append p xs ys))
 
 -- of the four sorts of candidates one matches
-any_apart : (subs : List SubRow) (queryables : List QueryableRow) (told : Told) (row : ListenerRow)
+any_apart : (subs : List SubRow) (queryables : List QueryableRow) (told : RemoteEntities) (row : ListenerRow)
     → status (candidates subs queryables told) row
     ≡ (((list_any (λ s. suits (own_sub s) row) subs || list_any (λ q. suits (own_queryable q) row) queryables)
-    || list_any (λ s. suits (told_sub s) row) told.subs)
-    || list_any (λ q. suits (told_queryable q) row) told.queryables)
+    || list_any (λ s. suits (remote_subscriber s) row) told.subs)
+    || list_any (λ q. suits (remote_queryable q) row) told.queryables)
 any_apart subs queryables told row =
     let p : Candidate → Bool = λ c. suits c row in
     let own = map own_sub subs ++ map own_queryable queryables in
-    any_append p (own ++ map told_sub told.subs) (map told_queryable told.queryables)
-    ∙ (λ i. any_append p own (map told_sub told.subs) i || any_map told_queryable p told.queryables i)
-    ∙ (λ i. (any_append p (map own_sub subs) (map own_queryable queryables) i || any_map told_sub p told.subs i) || list_any (λ q. suits (told_queryable q) row) told.queryables)
-    ∙ (λ i. ((any_map own_sub p subs i || any_map own_queryable p queryables i) || list_any (λ s. suits (told_sub s) row) told.subs) || list_any (λ q. suits (told_queryable q) row) told.queryables)
+    any_append p (own ++ map remote_subscriber told.subs) (map remote_queryable told.queryables)
+    ∙ (λ i. any_append p own (map remote_subscriber told.subs) i || any_map remote_queryable p told.queryables i)
+    ∙ (λ i. (any_append p (map own_sub subs) (map own_queryable queryables) i || any_map remote_subscriber p told.subs i) || list_any (λ q. suits (remote_queryable q) row) told.queryables)
+    ∙ (λ i. ((any_map own_sub p subs i || any_map own_queryable p queryables i) || list_any (λ s. suits (remote_subscriber s) row) told.subs) || list_any (λ q. suits (remote_queryable q) row) told.queryables)
 
 -- whether anyone matches, by the tables and by the events
 pub matched_is : (w : World) (past : List Entry) (row : ListenerRow) → AreLive w past → AreMatched w past → status (present_at w) row ≡ is_matched past row
 matched_is w past row l m =
     let subs = l.subs.table in
     let queryables = l.queryables.table in
-    let far_subs = m.subs (λ s. suits (told_sub s) row) in
-    let far_queryables = m.queryables (λ q. suits (told_queryable q) row) in
-    any_apart w.entities.subs w.entities.queryables w.matching.told row
+    let far_subs = m.subs (λ s. suits (remote_subscriber s) row) in
+    let far_queryables = m.queryables (λ q. suits (remote_queryable q) row) in
+    any_apart w.entities.subs w.entities.queryables w.matching.remote_entities row
     ∙ (λ i. ((list_any (λ s. suits (own_sub s) row) (subs i) || list_any (λ q. suits (own_queryable q) row) (queryables i)) || far_subs i) || far_queryables i)
     ∙ sym (any_apart (live_subs past) (live_queryables past) (record { subs = remote_subscribers past; queryables = remote_queryables past }) row)
 
@@ -152,54 +152,54 @@ status_is w past kind id l m =
     ∙ ap as_number (any_agree (status (present_at w)) (is_matched past) (λ row. matched_is w past row l m) (listening (live_pubs past) (live_queriers past) 0 kind id))
 
 -- an event keeps the told ones so
-subs_step : (to : ToMatching) (text : Option (List ℕ)) (rows plain : List ToldSub) → HasText to text → Ascend (λ (row : ToldSub). row.number) rows
-    → ((test : ToldSub → Bool) → list_any test rows ≡ list_any test plain)
-    → (test : ToldSub → Bool) → list_any test (subs_told to text rows) ≡ list_any test (appended (filter (λ row. not (renews_sub to row)) plain) (told_sub_row to text))
+subs_step : (to : ToMatching) (text : Option (List ℕ)) (rows plain : List RemoteSubscriber) → HasText to text → Ascend (λ (row : RemoteSubscriber). row.number) rows
+    → ((test : RemoteSubscriber → Bool) → list_any test rows ≡ list_any test plain)
+    → (test : RemoteSubscriber → Bool) → list_any test (remote_subscribers_behind to text rows) ≡ list_any test (appended (filter (λ row. not (renews_sub to row)) plain) (remote_subscriber_row to text))
 subs_step (TellsSub id) None rows plain has up same test = cc
 subs_step (TellsSub id) (Some text) rows plain has up same test =
-    let new : ToldSub = record { number = id; key = undeclared text } in
-    let keep : ToldSub → Bool = λ row. not (row.number == id) in
-    any_placed (λ (row : ToldSub). row.number) test new rows up
+    let new : RemoteSubscriber = record { number = id; key = undeclared text } in
+    let keep : RemoteSubscriber → Bool = λ row. not (row.number == id) in
+    any_placed (λ (row : RemoteSubscriber). row.number) test new rows up
     ∙ ap (λ (b : Bool). b || test new) (same (λ row. keep row && test row) ∙ sym (any_kept keep test plain))
     ∙ sym (any_more test (filter keep plain) new)
 subs_step (EndsSub id) text rows plain has up same test =
-    let keep : ToldSub → Bool = λ row. not (row.number == id) in
+    let keep : RemoteSubscriber → Bool = λ row. not (row.number == id) in
     any_kept keep test rows ∙ same (λ row. keep row && test row) ∙ sym (any_kept keep test plain)
 subs_step NoMatch text rows plain has up same test = same test ∙ sym (any_kept (λ row. true) test plain)
 subs_step (TellsQueryable id complete) text rows plain has up same test = same test ∙ sym (any_kept (λ row. true) test plain)
 subs_step (EndsQueryable id) text rows plain has up same test = same test ∙ sym (any_kept (λ row. true) test plain)
 
-queryables_step : (to : ToMatching) (text : Option (List ℕ)) (rows plain : List ToldQueryable) → HasText to text → Ascend (λ (row : ToldQueryable). row.number) rows
-    → ((test : ToldQueryable → Bool) → list_any test rows ≡ list_any test plain)
-    → (test : ToldQueryable → Bool) → list_any test (queryables_told to text rows) ≡ list_any test (appended (filter (λ row. not (renews_queryable to row)) plain) (told_queryable_row to text))
+queryables_step : (to : ToMatching) (text : Option (List ℕ)) (rows plain : List RemoteQueryable) → HasText to text → Ascend (λ (row : RemoteQueryable). row.number) rows
+    → ((test : RemoteQueryable → Bool) → list_any test rows ≡ list_any test plain)
+    → (test : RemoteQueryable → Bool) → list_any test (remote_queryables_behind to text rows) ≡ list_any test (appended (filter (λ row. not (renews_queryable to row)) plain) (remote_queryable_row to text))
 queryables_step (TellsQueryable id complete) None rows plain has up same test = cc
 queryables_step (TellsQueryable id complete) (Some text) rows plain has up same test =
-    let new : ToldQueryable = record { number = id; complete = complete; key = undeclared text } in
-    let keep : ToldQueryable → Bool = λ row. not (row.number == id) in
-    any_placed (λ (row : ToldQueryable). row.number) test new rows up
+    let new : RemoteQueryable = record { number = id; complete = complete; key = undeclared text } in
+    let keep : RemoteQueryable → Bool = λ row. not (row.number == id) in
+    any_placed (λ (row : RemoteQueryable). row.number) test new rows up
     ∙ ap (λ (b : Bool). b || test new) (same (λ row. keep row && test row) ∙ sym (any_kept keep test plain))
     ∙ sym (any_more test (filter keep plain) new)
 queryables_step (EndsQueryable id) text rows plain has up same test =
-    let keep : ToldQueryable → Bool = λ row. not (row.number == id) in
+    let keep : RemoteQueryable → Bool = λ row. not (row.number == id) in
     any_kept keep test rows ∙ same (λ row. keep row && test row) ∙ sym (any_kept keep test plain)
 queryables_step NoMatch text rows plain has up same test = same test ∙ sym (any_kept (λ row. true) test plain)
 queryables_step (TellsSub id) text rows plain has up same test = same test ∙ sym (any_kept (λ row. true) test plain)
 queryables_step (EndsSub id) text rows plain has up same test = same test ∙ sym (any_kept (λ row. true) test plain)
 
 -- and their order
-subs_up : (to : ToMatching) (text : Option (List ℕ)) (rows : List ToldSub) → Ascend (λ (row : ToldSub). row.number) rows → Ascend (λ (row : ToldSub). row.number) (subs_told to text rows)
+subs_up : (to : ToMatching) (text : Option (List ℕ)) (rows : List RemoteSubscriber) → Ascend (λ (row : RemoteSubscriber). row.number) rows → Ascend (λ (row : RemoteSubscriber). row.number) (remote_subscribers_behind to text rows)
 subs_up (TellsSub id) None rows up = up
-subs_up (TellsSub id) (Some text) rows up = ascend_placed (λ (row : ToldSub). row.number) (record { number = id; key = undeclared text }) rows up
-subs_up (EndsSub id) text rows up = ascend_filter (λ (row : ToldSub). row.number) (λ row. not (row.number == id)) rows up
+subs_up (TellsSub id) (Some text) rows up = ascend_placed (λ (row : RemoteSubscriber). row.number) (record { number = id; key = undeclared text }) rows up
+subs_up (EndsSub id) text rows up = ascend_filter (λ (row : RemoteSubscriber). row.number) (λ row. not (row.number == id)) rows up
 subs_up NoMatch text rows up = up
 subs_up (TellsQueryable id complete) text rows up = up
 subs_up (EndsQueryable id) text rows up = up
 
-queryables_up : (to : ToMatching) (text : Option (List ℕ)) (rows : List ToldQueryable) → Ascend (λ (row : ToldQueryable). row.number) rows
-    → Ascend (λ (row : ToldQueryable). row.number) (queryables_told to text rows)
+queryables_up : (to : ToMatching) (text : Option (List ℕ)) (rows : List RemoteQueryable) → Ascend (λ (row : RemoteQueryable). row.number) rows
+    → Ascend (λ (row : RemoteQueryable). row.number) (remote_queryables_behind to text rows)
 queryables_up (TellsQueryable id complete) None rows up = up
-queryables_up (TellsQueryable id complete) (Some text) rows up = ascend_placed (λ (row : ToldQueryable). row.number) (record { number = id; complete = complete; key = undeclared text }) rows up
-queryables_up (EndsQueryable id) text rows up = ascend_filter (λ (row : ToldQueryable). row.number) (λ row. not (row.number == id)) rows up
+queryables_up (TellsQueryable id complete) (Some text) rows up = ascend_placed (λ (row : RemoteQueryable). row.number) (record { number = id; complete = complete; key = undeclared text }) rows up
+queryables_up (EndsQueryable id) text rows up = ascend_filter (λ (row : RemoteQueryable). row.number) (λ row. not (row.number == id)) rows up
 queryables_up NoMatch text rows up = up
 queryables_up (TellsSub id) text rows up = up
 queryables_up (EndsSub id) text rows up = up
@@ -210,23 +210,23 @@ matched_more w past x c k l m = record {
   listeners =
       k.listeners
       ∙ (λ i. appended (filter (λ row. not (ends_listener x.event row)) (m.listeners i)) (listener_row (l.pubs.table i) (l.queriers.table i) x.event x.number));
-  subs = λ test. ap (list_any test) k.subs ∙ subs_step (row_of x.event).to_matching x.text w.matching.told.subs (remote_subscribers past) k.text m.subs_ascend m.subs test;
-  queryables = λ test. ap (list_any test) k.queryables ∙ queryables_step (row_of x.event).to_matching x.text w.matching.told.queryables (remote_queryables past) k.text m.queryables_ascend m.queryables test;
-  subs_ascend = rw k.subs (subs_up (row_of x.event).to_matching x.text w.matching.told.subs m.subs_ascend);
-  queryables_ascend = rw k.queryables (queryables_up (row_of x.event).to_matching x.text w.matching.told.queryables m.queryables_ascend);
+  subs = λ test. ap (list_any test) k.subs ∙ subs_step (row_of x.event).to_matching x.text w.matching.remote_entities.subs (remote_subscribers past) k.text m.subs_ascend m.subs test;
+  queryables = λ test. ap (list_any test) k.queryables ∙ queryables_step (row_of x.event).to_matching x.text w.matching.remote_entities.queryables (remote_queryables past) k.text m.queryables_ascend m.queryables test;
+  subs_ascend = rw k.subs (subs_up (row_of x.event).to_matching x.text w.matching.remote_entities.subs m.subs_ascend);
+  queryables_ascend = rw k.queryables (queryables_up (row_of x.event).to_matching x.text w.matching.remote_entities.queryables m.queryables_ascend);
 }
 
-pub matched_none : (w : World) → w.matching.listeners ≡ [] → w.matching.told ≡ record { subs = []; queryables = [] } → AreMatched w []
+pub matched_none : (w : World) → w.matching.listeners ≡ [] → w.matching.remote_entities ≡ record { subs = []; queryables = [] } → AreMatched w []
 matched_none w listeners told = record {
   listeners = listeners;
-  subs = λ test. ap (λ (t : Told). list_any test t.subs) told;
-  queryables = λ test. ap (λ (t : Told). list_any test t.queryables) told;
+  subs = λ test. ap (λ (t : RemoteEntities). list_any test t.subs) told;
+  queryables = λ test. ap (λ (t : RemoteEntities). list_any test t.queryables) told;
   subs_ascend = rw told tt;
   queryables_ascend = rw told tt;
 }
 
 -- so is whether an end means nothing
-pub untold_is : (w : World) (past : List Entry) (to : ToMatching) → AreMatched w past → is_untold w.matching.told.subs w.matching.told.queryables to ≡ is_untold (remote_subscribers past) (remote_queryables past) to
+pub untold_is : (w : World) (past : List Entry) (to : ToMatching) → AreMatched w past → ends_unknown w.matching.remote_entities.subs w.matching.remote_entities.queryables to ≡ ends_unknown (remote_subscribers past) (remote_queryables past) to
 untold_is w past (EndsSub id) m = ap not (m.subs (λ row. row.number == id))
 untold_is w past (EndsQueryable id) m = ap not (m.queryables (λ row. row.number == id))
 untold_is w past NoMatch m = refl

@@ -15,7 +15,7 @@ use Rattle.zs_model.specs.declared.publisher.PubRow.{PubRow}
 use Rattle.zs_model.specs.declared.querier.QuerierRow.{QuerierRow}
 use Rattle.zs_world.specs.declared.change.Change.{Change}
 use Rattle.zs_world.specs.MatchingTables.{Matching}
-use Rattle.zs_world.specs.MatchingChanges.{listen_change, told_sub_change, told_queryable_change}
+use Rattle.zs_world.specs.MatchingChanges.{listen_change, remote_subscriber_change, remote_queryable_change}
 use Rattle.zs_model.specs.Publishers.{pub_at}
 use Rattle.zs_model.specs.Queriers.{querier_at}
 use Rattle.zs_model.specs.Listeners.{listening, listener_row, ends_listener, on_pub, on_querier}
@@ -24,10 +24,10 @@ use Rattle.zs_world.specs.World.{World}
 use Rattle.zs_model.specs.Entry.{Entry}
 use Rattle.zs_world.specs.Keys.{wire_of}
 use Rattle.zs_world.specs.Changes.{change_for, with_change}
-use Rattle.zs_world.specs.Turns.{open_cause, sight}
+use Rattle.zs_world.specs.Decisions.{open_cause, sight}
 use Rattle.zs_standing.proofs.Saying.{passed, IsMade, touches_matching}
 use Rattle.zs_standing.proofs.Decisions.{entry_for}
-use Rattle.zs_standing.proofs.Matched.{SaysMatching, HasText, subs_told, queryables_told}
+use Rattle.zs_standing.proofs.Matched.{SaysMatching, HasText, remote_subscribers_behind, remote_queryables_behind}
 use Rattle.zs_events.specs.declared.turn.Kind.TheVariants.{Publisher, Querier}
 use Rattle.zs_world.specs.declared.change.Change.TheVariants.{OfEntities, OfMatching, Shut}
 use Rattle.zs_world.specs.declared.change.EntityChange.TheVariants.{Add as AddEntity, End as EndEntity, Leave as LeaveEntity}
@@ -54,8 +54,8 @@ quiet w x c same none nobody plain =
       listeners =
           ap (λ (m : Matching). m.listeners) same ∙ kept_all rows
           ∙ (λ i. appended (filter (λ (row : ListenerRow). not (sym (none row) i)) rows) (nothing i));
-      subs = ap (λ (m : Matching). m.told.subs) same ∙ ap (λ (t : ToMatching). subs_told t x.text w.matching.told.subs) to;
-      queryables = ap (λ (m : Matching). m.told.queryables) same ∙ ap (λ (t : ToMatching). queryables_told t x.text w.matching.told.queryables) to;
+      subs = ap (λ (m : Matching). m.remote_entities.subs) same ∙ ap (λ (t : ToMatching). remote_subscribers_behind t x.text w.matching.remote_entities.subs) to;
+      queryables = ap (λ (m : Matching). m.remote_entities.queryables) same ∙ ap (λ (t : ToMatching). remote_queryables_behind t x.text w.matching.remote_entities.queryables) to;
       text = subst (λ (t : ToMatching). HasText t x.text) to tt;
     }
 
@@ -75,15 +75,15 @@ still w x (OfMatching change) m pubs queriers apart = let no : true ≡ false = 
 still w x c m pubs queriers apart = refl
 
 -- what the network tells has a text
-told_sub_says : (w : World) (id : ℕ) (wire : WireExpr) (text : Option (List ℕ)) → is_none text ≡ false
-    → SaysMatching w (record { number = None; text = text; event = Net (DeclareSubscriber id wire) }) (told_sub_change id text)
-told_sub_says w id wire None some = cc
-told_sub_says w id wire (Some text) some = record { listeners = kept_all w.matching.listeners; subs = refl; queryables = refl; text = refl }
+remote_subscriber_says : (w : World) (id : ℕ) (wire : WireExpr) (text : Option (List ℕ)) → is_none text ≡ false
+    → SaysMatching w (record { number = None; text = text; event = Net (DeclareSubscriber id wire) }) (remote_subscriber_change id text)
+remote_subscriber_says w id wire None some = cc
+remote_subscriber_says w id wire (Some text) some = record { listeners = kept_all w.matching.listeners; subs = refl; queryables = refl; text = refl }
 
-told_queryable_says : (w : World) (id : ℕ) (complete : Bool) (wire : WireExpr) (text : Option (List ℕ)) → is_none text ≡ false
-    → SaysMatching w (record { number = None; text = text; event = Net (DeclareQueryable id complete wire) }) (told_queryable_change id complete text)
-told_queryable_says w id complete wire None some = cc
-told_queryable_says w id complete wire (Some text) some = record { listeners = kept_all w.matching.listeners; subs = refl; queryables = refl; text = refl }
+remote_queryable_says : (w : World) (id : ℕ) (complete : Bool) (wire : WireExpr) (text : Option (List ℕ)) → is_none text ≡ false
+    → SaysMatching w (record { number = None; text = text; event = Net (DeclareQueryable id complete wire) }) (remote_queryable_change id complete text)
+remote_queryable_says w id complete wire None some = cc
+remote_queryable_says w id complete wire (Some text) some = record { listeners = kept_all w.matching.listeners; subs = refl; queryables = refl; text = refl }
 
 -- one listener at most is declared
 abbrev IsOneAtMost : List ListenerRow → Type 0
@@ -127,9 +127,9 @@ matching_made w (Undeclare querier_sort id) m c = record { listeners = refl; sub
 matching_made w (Background background_listener id) m c = record { listeners = kept_all w.matching.listeners; subs = refl; queryables = refl; text = tt }
 matching_made w Close m c = record { listeners = none_left w.matching.listeners; subs = refl; queryables = refl; text = tt }
 matching_made w (Net (DeclareSubscriber id wire)) m c =
-    told_sub_says w id wire (wire_of w wire) (passed (row_of (Net (DeclareSubscriber id wire))) (sight w (Net (DeclareSubscriber id wire))) c).known
+    remote_subscriber_says w id wire (wire_of w wire) (passed (row_of (Net (DeclareSubscriber id wire))) (sight w (Net (DeclareSubscriber id wire))) c).known
 matching_made w (Net (DeclareQueryable id complete wire)) m c =
-    told_queryable_says w id complete wire (wire_of w wire) (passed (row_of (Net (DeclareQueryable id complete wire))) (sight w (Net (DeclareQueryable id complete wire))) c).known
+    remote_queryable_says w id complete wire (wire_of w wire) (passed (row_of (Net (DeclareQueryable id complete wire))) (sight w (Net (DeclareQueryable id complete wire))) c).known
 matching_made w (Net (UndeclareSubscriber id)) m c = record { listeners = kept_all w.matching.listeners; subs = refl; queryables = refl; text = tt }
 matching_made w (Net (UndeclareQueryable id)) m c = record { listeners = kept_all w.matching.listeners; subs = refl; queryables = refl; text = tt }
 matching_made w (Listen parent id) m c =

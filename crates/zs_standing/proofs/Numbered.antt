@@ -21,7 +21,7 @@ use Rattle.zs_world.specs.Keys.{key_of}
 use Rattle.zs_model.specs.Effects.{effects}
 use Rattle.zs_model.specs.Past.{past_of}
 use Rattle.zs_standing.specs.Stands.{world_after}
-use Rattle.zs_world.specs.Turns.{has_run_out, number_of, number_for, effects_of, open_cause, closed_cause, decision_of, open_decision, decision}
+use Rattle.zs_world.specs.Decisions.{has_run_out, number_of, number_for, effects_of, open_cause, closed_cause, decision_of, open_decision, decision}
 use Rattle.zs_standing.proofs.Saying.{HasPassed, passed}
 use Rattle.zs_standing.proofs.Stands.{standing, same_turn}
 

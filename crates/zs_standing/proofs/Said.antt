@@ -3,7 +3,7 @@ use Rattle.std.proofs.Common.{◌≡◌, ◌+◌, ℕ, List, Bool, false, Option
 use Rattle.std.specs.Prelude.{if◌then◌else◌}
 use Rattle.zs_tables.specs.declared.subscriber.SubRow.{SubRow}
 use Rattle.zs_tables.specs.declared.queryable.QueryableRow.{QueryableRow}
-use Rattle.zs_tables.specs.Types.{LivelinessGet, LivelinessSub, ToldToken}
+use Rattle.zs_tables.specs.Types.{LivelinessGet, LivelinessSub, RemoteToken}
 use Rattle.zs_query.specs.GetTable.{Asking}
 use Rattle.zs_query.specs.RequestTable.{Handing}
 use Rattle.zs_events.specs.declared.event.Event.{Event}
@@ -13,14 +13,14 @@ use Rattle.zs_events.specs.Kinds.{row_of}
 use Rattle.zs_model.specs.declared.publisher.PubRow.{PubRow}
 use Rattle.zs_model.specs.declared.querier.QuerierRow.{QuerierRow}
 use Rattle.zs_model.specs.Entry.{Entry, is_close}
-use Rattle.zs_model.specs.Held.{declares_number, returns_number, tells_number}
+use Rattle.zs_model.specs.HeldKeys.{declares_number, returns_number, tells_number}
 use Rattle.zs_model.specs.Subscribers.{sub_row}
 use Rattle.zs_model.specs.Publishers.{pub_row}
 use Rattle.zs_model.specs.Queryables.{queryable_row}
 use Rattle.zs_model.specs.Queriers.{querier_row}
 use Rattle.zs_model.specs.Liveliness.{token_row, lsub_row}
 use Rattle.zs_model.specs.Live.{drew, ends, leaves}
-use Rattle.zs_model.specs.Tokens.{tokens_asked, ends_asking, told_behind}
+use Rattle.zs_model.specs.Tokens.{tokens_asked, ends_asking, remote_tokens_behind}
 use Rattle.zs_model.specs.Counters.{draws_entity, draws_query}
 use Rattle.zs_model.specs.Cancelling.{Cancelling}
 use Rattle.zs_model.proofs.Cancelling.{cancelling_by}
@@ -30,7 +30,7 @@ use Rattle.zs_model.proofs.Values.{handing_next}
 use Rattle.zs_world.specs.declared.change.Change.{Change}
 use Rattle.zs_world.specs.World.{World}
 use Rattle.zs_world.specs.Changes.{Fits, with_change}
-use Rattle.zs_world.specs.Turns.{to_gets_at}
+use Rattle.zs_world.specs.Decisions.{to_gets_at}
 use Rattle.zs_standing.proofs.Watching.{asks_by, stops_by, tokens_by, lsubs_by}
 use Rattle.zs_standing.proofs.Saying.{closes, declares_by, returns_by, draws_by, draws_new, IsText, told_by, subs_by, pubs_by, queryables_by, queriers_by, leaves_by, adds, IsNumber, touches_matching, matches_by, IsMade}
 
@@ -69,7 +69,7 @@ pub record Said : Type 0 where
   pub cancelling : Cancelling
   pub asks : List LivelinessGet
   pub stops : LivelinessGet → Bool
-  pub told : List ToldToken
+  pub told : List RemoteToken
   pub tokens : Rows ℕ
   pub lsubs : Rows LivelinessSub
   pub matching : Bool
@@ -93,7 +93,7 @@ said_of w x = record {
   cancelling = cancelling_by (row_of x.event) w.cancelling;
   asks = tokens_asked w.settings.default_timeout w.asking.moment (row_of x.event).to_liveliness x.number x.text;
   stops = λ g. ends_asking g x.event;
-  told = told_behind w.liveliness.gets (row_of x.event).to_liveliness x.text w.liveliness.told;
+  told = remote_tokens_behind w.liveliness.gets (row_of x.event).to_liveliness x.text w.liveliness.remote_tokens;
   tokens = rows_of Token token_row x;
   lsubs = rows_of LivelinessSubscriber lsub_row x;
   matching = touches_matching x;
@@ -118,7 +118,7 @@ said_by w c = record {
   cancelling = (with_change c w).cancelling;
   asks = asks_by c;
   stops = λ g. stops_by g c;
-  told = (with_change c w).liveliness.told;
+  told = (with_change c w).liveliness.remote_tokens;
   tokens = rows_by (λ id. id) (tokens_by c);
   lsubs = rows_by (λ row. row.id) (lsubs_by c);
   matching = matches_by c;

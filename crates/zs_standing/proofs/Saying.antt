@@ -24,7 +24,7 @@ use Rattle.zs_model.proofs.Gets.{asking_by, IsAskedUnder}
 use Rattle.zs_events.specs.Kinds.{Draws, KeyNumber, kind_of, background_kind_of, ToEntities, Declares, EndsEntity, LeavesEntity, ToMatching, NoMatch, TellsSub, TellsQueryable, Row, row_of}
 use Rattle.zs_model.specs.Seen.{Sight, is_not_found, is_unknown, is_bad_key}
 use Rattle.zs_model.specs.Entry.{Entry, is_close}
-use Rattle.zs_model.specs.Held.{declares_number, returns_number, tells_number}
+use Rattle.zs_model.specs.HeldKeys.{declares_number, returns_number, tells_number}
 use Rattle.zs_model.specs.Subscribers.{sub_row}
 use Rattle.zs_model.specs.Publishers.{pub_row}
 use Rattle.zs_model.specs.Queryables.{queryable_row}
@@ -36,7 +36,7 @@ use Rattle.zs_world.specs.EntityChanges.{row_number}
 use Rattle.zs_standing.proofs.Watching.{SaysLiveliness}
 use Rattle.zs_model.specs.Counters.{draws_entity, draws_query}
 use Rattle.zs_world.specs.Changes.{Fits, with_change}
-use Rattle.zs_world.specs.Turns.{first_cause, refused_if, to_gets_at}
+use Rattle.zs_world.specs.Decisions.{first_cause, refused_if, to_gets_at}
 use Rattle.zs_model.proofs.Entities.{RowChange, Keep, Add, Take, Clear, SaysRows}
 
 -- a change that closes the session
@@ -62,7 +62,7 @@ draws_by c = false
 
 -- whether a key number is drawn, by the tables
 abbrev pub draws_new : World → Draws → Option (List ℕ) → Bool
-draws_new w KeyNumber (Some text) = not (is_some (number_at text w.keys.own))
+draws_new w KeyNumber (Some text) = not (is_some (number_at text w.keys.local_resources))
 draws_new w draws text = false
 
 -- the text of a key that a change holds

@@ -17,9 +17,9 @@ use Rattle.zs_world.specs.World.{World}
 use Rattle.zs_events.specs.Kinds.{Draws, NoNumber, EntityNumber, QueryNumber, ValueNumber, CancellationNumber, KeyNumber, StatusOf, Named, ToGets, asking_cancellation_token, cancellation_token_named, row_of}
 use Rattle.zs_model.specs.Seen.{Sight}
 use Rattle.zs_model.specs.Entry.{Entry, is_closed}
-use Rattle.zs_model.specs.Held.{held_number, is_claimed, named_text}
+use Rattle.zs_model.specs.HeldKeys.{held_number, is_claimed, named_text}
 use Rattle.zs_world.specs.Keys.{has_claim}
-use Rattle.zs_model.specs.Matching.{remote_subscribers, remote_queryables, is_untold, turned, listener_effects}
+use Rattle.zs_model.specs.Matching.{remote_subscribers, remote_queryables, ends_unknown, turned, listener_effects}
 use Rattle.zs_standing.proofs.Matched.{AreMatched, SaysMatching, matched_more, matched_none, status_is, untold_is, living_is, matched_is}
 use Rattle.zs_standing.proofs.MatchingMade.{matching_made}
 use Rattle.zs_world.proofs.Hearing.{between_same}
@@ -32,7 +32,7 @@ use Rattle.zs_model.specs.Values.{met_by, handing_of, values_now, last_value, la
 use Rattle.zs_model.specs.Answers.{is_owed, is_disjoint}
 use Rattle.zs_model.proofs.Values.{handing_next, handing_more}
 use Rattle.zs_tables.specs.Groups.{groups_of, number_of_group}
-use Rattle.zs_tables.specs.Types.{GroupKind, Subscribers, Publishers, Queriers, ToldToken}
+use Rattle.zs_tables.specs.Types.{GroupKind, Subscribers, Publishers, Queriers, RemoteToken}
 use Rattle.zs_model.specs.Publishers.{pub_at}
 use Rattle.zs_model.specs.Sends.{prefix_declaration}
 use Rattle.zs_model.specs.Queriers.{querier_at, querier_declaration}
@@ -44,7 +44,7 @@ use Rattle.zs_model.specs.Causes.{past_sight, holds, in_order, first_that, refus
 use Rattle.zs_model.specs.Past.{entry_of, with_entry, past_with, past_of}
 use Rattle.zs_model.specs.Effects.{known_of, own_keys_of, effects_on, turn_of}
 use Rattle.zs_world.specs.Changes.{with_change, change_for}
-use Rattle.zs_world.specs.Turns.{text_for, to_gets_at, finds, has_run_out, number_of, number_for, sight, closed_cause, open_cause, cause, own_keys_at, known_at, decision_of, open_decision, decision, effects_of, with_listeners, listener_effects_at}
+use Rattle.zs_world.specs.Decisions.{text_for, to_gets_at, finds, has_run_out, number_of, number_for, sight, closed_cause, open_cause, cause, own_keys_at, known_at, decision_of, open_decision, decision, effects_of, with_listeners, listener_effects_at}
 use Rattle.zs_standing.specs.Stands.{world_of, world_after}
 use Rattle.zs_world.specs.World.{new_world}
 use Rattle.zs_standing.proofs.Decisions.{entry_for, past_with_by, cases}
@@ -202,13 +202,13 @@ same_sight s w past e st =
     let lacks : lacks_values w.handing.next (met_by w.entities.queryables (to_gets_at w e) (row_of e).to_values (text_for w e)) || has_run_out w (row_of e).draws (text_for w e)
     ≡ (lacks_values (next_value past) (met_by (live_queryables past) (to_gets_of past e) (row_of e).to_values (named_text past e)) || lacks_number s past (row_of e).draws (named_text past e)) =
     λ i. lacks_values (handing i).next (met_by (rows i) (to i) (row_of e).to_values (text i)) || spent i in
-    let untold : is_untold w.matching.told.subs w.matching.told.queryables (row_of e).to_matching ≡ is_untold (remote_subscribers past) (remote_queryables past) (row_of e).to_matching = untold_is w past (row_of e).to_matching st.matched in
-    let idle : (is_pointless (row_of e).to_liveliness || is_untold w.matching.told.subs w.matching.told.queryables (row_of e).to_matching || is_idle w.asking.gets (row_of e).to_gets (text_for w e)) ≡ (is_pointless (row_of e).to_liveliness || is_untold (remote_subscribers past) (remote_queryables past) (row_of e).to_matching || is_idle (open_now s past) (row_of e).to_gets (named_text past e)) =
+    let untold : ends_unknown w.matching.remote_entities.subs w.matching.remote_entities.queryables (row_of e).to_matching ≡ ends_unknown (remote_subscribers past) (remote_queryables past) (row_of e).to_matching = untold_is w past (row_of e).to_matching st.matched in
+    let idle : (is_pointless (row_of e).to_liveliness || ends_unknown w.matching.remote_entities.subs w.matching.remote_entities.queryables (row_of e).to_matching || is_idle w.asking.gets (row_of e).to_gets (text_for w e)) ≡ (is_pointless (row_of e).to_liveliness || ends_unknown (remote_subscribers past) (remote_queryables past) (row_of e).to_matching || is_idle (open_now s past) (row_of e).to_gets (named_text past e)) =
     ap (λ (b : Bool). is_pointless (row_of e).to_liveliness || b || is_idle w.asking.gets (row_of e).to_gets (text_for w e)) untold
-    ∙ ap (λ (b : Bool). is_pointless (row_of e).to_liveliness || is_untold (remote_subscribers past) (remote_queryables past) (row_of e).to_matching || b)
+    ∙ ap (λ (b : Bool). is_pointless (row_of e).to_liveliness || ends_unknown (remote_subscribers past) (remote_queryables past) (row_of e).to_matching || b)
     (ap (λ (gets : List OpenGet). is_idle gets (row_of e).to_gets (text_for w e)) st.asking.gets ∙ ap (is_idle (open_now s past) (row_of e).to_gets) text) in
-    let spared : is_spared w.liveliness.told (row_of e).to_liveliness ≡ is_spared (remote_tokens s past) (row_of e).to_liveliness =
-    ap (λ (tokens : List ToldToken). is_spared tokens (row_of e).to_liveliness) st.watched.told in
+    let spared : is_spared w.liveliness.remote_tokens (row_of e).to_liveliness ≡ is_spared (remote_tokens s past) (row_of e).to_liveliness =
+    ap (λ (tokens : List RemoteToken). is_spared tokens (row_of e).to_liveliness) st.watched.told in
     λ i. record { text = text i; lives = lives i; claimed = claimed i; owed = owed i; drawn = drawn i; cancelled = cancelled i; disjoint = disjoint i; lacks = lacks i; idle = idle i; spared = spared i }
 
 pub same_cause : (s : Settings) (w : World) (past : List Entry) (e : Event) → AreStanding s w past → cause w e ≡ refusal_of s past e
@@ -266,7 +266,7 @@ known_same s w past st =
     let told = st.watched.told in
     let asking = st.watched.gets in
     let handing = st.handing in
-    λ i. record { keys = keys i; subs = subs i; pubs = pubs i; queryables = queryables i; queriers = (st.live.queriers.table) i; company = λ kind. company_same s w past kind st i; timeout = (settings i).default_timeout; gets = gets i; watch = record { subs = lsubs i; told = told i; gets = asking i }; zid = (settings i).zid; handing = handing i }
+    λ i. record { keys = keys i; subs = subs i; pubs = pubs i; queryables = queryables i; queriers = (st.live.queriers.table) i; company = λ kind. company_same s w past kind st i; timeout = (settings i).default_timeout; gets = gets i; watch = record { subs = lsubs i; remote_tokens = told i; gets = asking i }; zid = (settings i).zid; handing = handing i }
 
 -- what listeners make of an event is the same by the tables and by the events
 listeners_agree : (w v : World) (past : List Entry) (x : Entry) → AreLive w past → AreMatched w past → AreLive v (x ∷ past) → AreMatched v (x ∷ past)

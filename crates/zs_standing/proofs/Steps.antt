@@ -18,8 +18,8 @@ use Rattle.zs_world.specs.DeclaredKeys.{has_holder}
 use Rattle.zs_model.specs.Past.{past_of}
 use Rattle.zs_standing.specs.Plans.{Plans}
 use Rattle.zs_world.specs.Changes.{with_change, change_for, Fits}
-use Rattle.zs_world.specs.Turns.{is_there, decision, with_listeners}
-use Rattle.zs_standing.specs.Stands.{world_of, world_after, lives, Previews, Steps, ClosedIs, NowIs, IsHeld, IsLive, IsTaken}
+use Rattle.zs_world.specs.Decisions.{is_there, decision, with_listeners}
+use Rattle.zs_standing.specs.Stands.{world_of, world_after, lives, Previews, TakesStep, ClosedIs, NowIs, IsHeld, IsLive, IsTaken}
 use Rattle.zs_standing.proofs.Decisions.{entry_for, cases}
 use Rattle.zs_standing.proofs.Changes.{made}
 use Rattle.zs_standing.proofs.Saying.{IsMade}
@@ -55,7 +55,7 @@ previews_on w e d is s h stands =
     ap (λ (d : Decision). d.turn) is ∙ ap (λ (v : World). (with_listeners v (decision v e)).turn) stands ∙ same_turn s (world_after s h) (past_of s h) e (standing s h)
 
 -- one step decides and applies
-pub steps_on : (w new : World) (e : Event) (d : Decision) → d ≡ with_listeners w (decision w e) → new ≡ with_change d.change w → Steps w new e d.turn
+pub steps_on : (w new : World) (e : Event) (d : Decision) → d ≡ with_listeners w (decision w e) → new ≡ with_change d.change w → TakesStep w new e d.turn
 steps_on w new e d is changed s h stands = (
   previews_on w e d is s h stands,
   changed ∙ ap (λ (d : Decision). with_change d.change w) is ∙ ap (λ (v : World). with_change (decision v e).change v) stands ∙ next_is s h e,

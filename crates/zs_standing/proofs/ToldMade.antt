@@ -9,7 +9,7 @@ use Rattle.zs_events.specs.declared.key_arg.KeyArg.{KeyArg}
 use Rattle.zs_wire.specs.declared.message.Message.TheVariants.{DeclareToken as token_message, DeclareSubscriber, DeclareQueryable}
 use Rattle.zs_model.specs.declared.publisher.PubRow.{PubRow}
 use Rattle.zs_tables.specs.Liveliness.{put_new}
-use Rattle.zs_tables.specs.Types.{ToldToken}
+use Rattle.zs_tables.specs.Types.{RemoteToken}
 use Rattle.zs_model.specs.Entry.{Entry}
 use Rattle.zs_world.specs.declared.change.Change.TheVariants.{Nothing, OfLiveliness}
 use Rattle.zs_world.specs.declared.change.LivelinessChange.TheVariants.{RecordToken}
@@ -22,14 +22,14 @@ use Rattle.zs_model.specs.Queriers.{is_querier, querier_at}
 use Rattle.zs_model.proofs.Queriers.{missing_there}
 use Rattle.zs_model.specs.Cancelling.{is_drawn, is_any, is_among}
 use Rattle.zs_model.specs.Tokens.{answers}
-use Rattle.zs_world.specs.LivelinessChanges.{asking_change, told_change}
+use Rattle.zs_world.specs.LivelinessChanges.{asking_change, remote_token_change}
 use Rattle.zs_tables.specs.declared.listener.ListenerRow.{ListenerRow}
 use Rattle.zs_events.specs.declared.entity_kind.ParentKind.{ParentKind}
 use Rattle.zs_events.specs.Kinds.{parent_kind_of}
 use Rattle.zs_events.specs.declared.entity_kind.ParentKind.TheVariants.{Pub as pub_parent, Querier as querier_parent}
 use Rattle.zs_model.specs.Listeners.{listening, on_pub, on_querier}
-use Rattle.zs_world.specs.MatchingChanges.{listen_change, told_sub_change, told_queryable_change}
-use Rattle.zs_world.specs.Turns.{has_run_out, sight, is_there, is_left}
+use Rattle.zs_world.specs.MatchingChanges.{listen_change, remote_subscriber_change, remote_queryable_change}
+use Rattle.zs_world.specs.Decisions.{has_run_out, sight, is_there, is_left}
 use Rattle.zs_standing.proofs.Said.{Said, said_of, all_said}
 use Rattle.zs_standing.proofs.Saying.{IsMade, HasPassed}
 use Rattle.zs_standing.proofs.AskedMade.{neither}
@@ -57,7 +57,7 @@ tokens_made w key timeout token to None o p =
 tokens_made w key timeout token to (Some text) o p = all_said o (refl, p.left) tt refl tt refl
 
 pub told_made : (w : World) (id : ℕ) (wire : WireExpr) (interest : Option ℕ) (text : Option (List ℕ)) → w.closed ≡ false
-    → IsMade w (record { number = None; text = text; event = Net (token_message id wire interest) }) (told_change w.liveliness.gets id interest text)
+    → IsMade w (record { number = None; text = text; event = Net (token_message id wire interest) }) (remote_token_change w.liveliness.gets id interest text)
 told_made w id wire interest None o = all_said o tt tt tt tt refl
 told_made w id wire interest (Some text) o = go (answers interest w.liveliness.gets) refl
   where
@@ -66,7 +66,7 @@ told_made w id wire interest (Some text) o = go (answers interest w.liveliness.g
 
     -- what it says, by whether it answers a get
     heard : Bool → Said
-    heard b = record (said_of w x) { told = if b then w.liveliness.told else put_new (λ (t : ToldToken). t.number) (record { number = id; key = undeclared text }) w.liveliness.told }
+    heard b = record (said_of w x) { told = if b then w.liveliness.remote_tokens else put_new (λ (t : RemoteToken). t.number) (record { number = id; key = undeclared text }) w.liveliness.remote_tokens }
 
     go : (b : Bool) → answers interest w.liveliness.gets ≡ b → IsMade w x (if b then Nothing else OfLiveliness (RecordToken (record { number = id; key = undeclared text })))
     go true is = all_said o tt tt tt tt (λ i. heard (is i))
@@ -115,12 +115,12 @@ listen_made w parent id [] e o p = absurd (unfound (is_there (parent_kind_of par
 listen_made w parent id (row ∷ rows) e o p = all_said o (sym (ap (head_id w.counters.entity) e) ∙ listening_id w.entities.pubs w.entities.queriers w.counters.entity parent id, p.left) tt (ap (λ (n : ℕ). Some n) (sym (listening_id w.entities.pubs w.entities.queriers w.counters.entity parent id) ∙ ap (head_id w.counters.entity) e)) tt refl
 
 -- a subscriber that the network tells, and a queryable
-pub told_sub_made : (w : World) (id : ℕ) (wire : WireExpr) (text : Option (List ℕ)) → w.closed ≡ false
-    → IsMade w (record { number = None; text = text; event = Net (DeclareSubscriber id wire) }) (told_sub_change id text)
-told_sub_made w id wire None o = all_said o tt tt tt tt refl
-told_sub_made w id wire (Some text) o = all_said o tt tt tt tt refl
+pub remote_subscriber_made : (w : World) (id : ℕ) (wire : WireExpr) (text : Option (List ℕ)) → w.closed ≡ false
+    → IsMade w (record { number = None; text = text; event = Net (DeclareSubscriber id wire) }) (remote_subscriber_change id text)
+remote_subscriber_made w id wire None o = all_said o tt tt tt tt refl
+remote_subscriber_made w id wire (Some text) o = all_said o tt tt tt tt refl
 
-pub told_queryable_made : (w : World) (id : ℕ) (complete : Bool) (wire : WireExpr) (text : Option (List ℕ)) → w.closed ≡ false
-    → IsMade w (record { number = None; text = text; event = Net (DeclareQueryable id complete wire) }) (told_queryable_change id complete text)
-told_queryable_made w id complete wire None o = all_said o tt tt tt tt refl
-told_queryable_made w id complete wire (Some text) o = all_said o tt tt tt tt refl
+pub remote_queryable_made : (w : World) (id : ℕ) (complete : Bool) (wire : WireExpr) (text : Option (List ℕ)) → w.closed ≡ false
+    → IsMade w (record { number = None; text = text; event = Net (DeclareQueryable id complete wire) }) (remote_queryable_change id complete text)
+remote_queryable_made w id complete wire None o = all_said o tt tt tt tt refl
+remote_queryable_made w id complete wire (Some text) o = all_said o tt tt tt tt refl

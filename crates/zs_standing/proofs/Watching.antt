@@ -30,7 +30,7 @@ use Rattle.zs_model.specs.Entry.{Entry}
 use Rattle.zs_model.specs.Live.{declared, is_live}
 use Rattle.zs_model.specs.Liveliness.{token_row, lsub_row}
 use Rattle.zs_model.specs.Gets.{moment_of}
-use Rattle.zs_model.specs.Tokens.{tokens_asked, ends_asking, unended, asking_now, told_behind, remote_tokens}
+use Rattle.zs_model.specs.Tokens.{tokens_asked, ends_asking, unended, asking_now, remote_tokens_behind, remote_tokens}
 use Rattle.zs_world.specs.LivelinessChanges.{next_behind}
 use Rattle.zs_world.specs.Changes.{with_change, Fits}
 use Rattle.zs_model.proofs.Entities.{AreRows, RowChange, Keep, Add, Take, Clear, SaysRows}
@@ -72,7 +72,7 @@ never_down c next = omega arith
 abbrev pub stops_by : LivelinessGet → Change → Bool
 stops_by g (OfLiveliness (EndAsking number)) = g.number == number
 stops_by g (OfGets (Advance moment)) = is_over moment g
-stops_by g (OfCancellation (TakeCancellationToken token)) = is_own token g.token
+stops_by g (OfCancellation (TakeCancellationToken token)) = is_own token g.cancellation_token
 stops_by g Shut = true
 stops_by g c = false
 
@@ -98,7 +98,7 @@ lsubs_by c = Keep
 pub record SaysLiveliness (w : World) (x : Entry) (c : Change) : Type 0 where
   pub asks : tokens_asked w.settings.default_timeout w.asking.moment (row_of x.event).to_liveliness x.number x.text ≡ asks_by c
   pub ends : (g : LivelinessGet) → ends_asking g x.event ≡ stops_by g c
-  pub told : (with_change c w).liveliness.told ≡ told_behind w.liveliness.gets (row_of x.event).to_liveliness x.text w.liveliness.told
+  pub told : (with_change c w).liveliness.remote_tokens ≡ remote_tokens_behind w.liveliness.gets (row_of x.event).to_liveliness x.text w.liveliness.remote_tokens
   pub tokens : SaysRows (λ id. id) Token token_row x (tokens_by c)
   pub lsubs : SaysRows (λ row. row.id) LivelinessSubscriber lsub_row x (lsubs_by c)
 
@@ -110,7 +110,7 @@ or_false false = refl
 pub record AreWatched (s : Settings) (w : World) (past : List Entry) : Type 0 where
   pub gets : w.liveliness.gets ≡ asking_now s past
   pub below : AllByRecursion (λ g. g.number < w.counters.entity) w.liveliness.gets
-  pub told : w.liveliness.told ≡ remote_tokens s past
+  pub told : w.liveliness.remote_tokens ≡ remote_tokens s past
 
 filter_true : {X : Type 0} (xs : List X) → filter (λ x. true) xs ≡ xs
 filter_true [] = refl
@@ -127,7 +127,7 @@ gets_step w (OfLiveliness (AskTokens row)) fits below =
     ∙ ap (λ (gs : List LivelinessGet). gs ++ row ∷ []) (sym (filter_true w.liveliness.gets))
 gets_step w (OfLiveliness (EndAsking number)) fits below = sym (append-nil (filter (λ (g : LivelinessGet). not (g.number == number)) w.liveliness.gets))
 gets_step w (OfGets (Advance moment)) fits below = sym (append-nil (filter (λ (g : LivelinessGet). not (is_over moment g)) w.liveliness.gets))
-gets_step w (OfCancellation (TakeCancellationToken token)) fits below = sym (append-nil (filter (λ (g : LivelinessGet). not (is_own token g.token)) w.liveliness.gets))
+gets_step w (OfCancellation (TakeCancellationToken token)) fits below = sym (append-nil (filter (λ (g : LivelinessGet). not (is_own token g.cancellation_token)) w.liveliness.gets))
 gets_step w Shut fits below = sym (append-nil (filter (λ (g : LivelinessGet). false) w.liveliness.gets) ∙ filter_none w.liveliness.gets)
 gets_step w Nothing fits below = untouched w.liveliness.gets
 gets_step w c fits below = untouched w.liveliness.gets
@@ -196,6 +196,6 @@ watched_more s w past x c fits says settings moment l =
           (λ g lt. omega (arith, lt, entity_up w c)) w.liveliness.gets l.below))
           (asked_below w c fits));
       told = says.told
-          ∙ ap (λ (gs : List LivelinessGet). told_behind gs to x.text w.liveliness.told) l.gets
-          ∙ ap (told_behind (asking_now s past) to x.text) l.told;
+          ∙ ap (λ (gs : List LivelinessGet). remote_tokens_behind gs to x.text w.liveliness.remote_tokens) l.gets
+          ∙ ap (remote_tokens_behind (asking_now s past) to x.text) l.told;
     }

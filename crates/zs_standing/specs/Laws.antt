@@ -17,7 +17,7 @@ use Rattle.zs_events.specs.declared.turn.Refusal.{Refusal}
 use Rattle.zs_events.specs.Kinds.{is_numbered, row_of}
 use Rattle.zs_events.specs.declared.turn.Answer.TheVariants.{Ok as accepted}
 use Rattle.zs_model.specs.Entry.{is_closed, Entry}
-use Rattle.zs_model.specs.Held.{times_declared, is_held, held_text, held_count, key_text, told_text, mapped_text, named_text}
+use Rattle.zs_model.specs.HeldKeys.{times_declared, is_held, held_text, held_count, key_text, remote_text, mapped_text, named_text}
 use Rattle.zs_model.specs.Live.{live_subs, live_pubs, live_queryables, live_queriers, live_tokens, live_lsubs, live_listeners}
 use Rattle.zs_model.specs.Tokens.{tokens_asked, ends_asking, asking_now, token_text}
 use Rattle.zs_model.specs.Groups.{group, group_number}
@@ -33,15 +33,15 @@ use Rattle.zs_query.specs.Asked.{CancelledBy}
 use Rattle.zs_model.specs.Effects.{effects}
 use Rattle.zs_model.specs.Received.{messages_of, sent, spoken_text, AreReadAs, AreSpelled, AreUtf8}
 use Rattle.zs_model.specs.Covered.{IsCovered}
-use Rattle.zs_tables.specs.declared.told_row.ToldSub.{ToldSub}
-use Rattle.zs_tables.specs.declared.told_row.ToldQueryable.{ToldQueryable}
+use Rattle.zs_tables.specs.declared.remote_row.RemoteSubscriber.{RemoteSubscriber}
+use Rattle.zs_tables.specs.declared.remote_row.RemoteQueryable.{RemoteQueryable}
 use Rattle.zs_tables.specs.MatchingLaws.{differ}
 use Rattle.zs_model.specs.Listeners.{is_listener}
 use Rattle.zs_model.specs.Matching.{remote_subscribers, remote_queryables, is_matched}
 use Rattle.zs_model.specs.Heard.{told_to, last_told}
 use Rattle.zs_world.specs.Keys.{numbers_for}
 use Rattle.zs_world.specs.DeclaredKeys.{holders_of}
-use Rattle.zs_world.specs.Turns.{cause, text_for, number_for}
+use Rattle.zs_world.specs.Decisions.{cause, text_for, number_for}
 use Rattle.zs_standing.specs.Stands.{world_after}
 
 -- the table of subscribers holds the live ones and no others
@@ -76,8 +76,8 @@ AskingsAreTold = (s : Settings) (h : List Event) → (world_after s h).livelines
 abbrev pub TokensAreTold : Type 0
 TokensAreTold =
     (s : Settings) (h : List Event)
-    → ((n : ℕ) → option_map (λ t. t.key.text) (find (λ t. t.number == n) (world_after s h).liveliness.told) ≡ token_text s n (past_of s h))
-    × Ascend (λ t. t.number) (world_after s h).liveliness.told
+    → ((n : ℕ) → option_map (λ t. t.key.text) (find (λ t. t.number == n) (world_after s h).liveliness.remote_tokens) ≡ token_text s n (past_of s h))
+    × Ascend (λ t. t.number) (world_after s h).liveliness.remote_tokens
 
 -- open behind one more event are those that were open and that it does not end, and the one that it asks: so none that ended is open
 -- again
@@ -102,7 +102,7 @@ GroupsAreLive =
 -- the table of declared keys has the held numbers with their texts, and no others
 abbrev pub KeysAreHeld : Type 0
 KeysAreHeld =
-    (s : Settings) (h : List Event) (n : ℕ) → option_map (λ key. key.text) (key_at n (world_after s h).keys.own) ≡ held_text n (past_of s h)
+    (s : Settings) (h : List Event) (n : ℕ) → option_map (λ key. key.text) (key_at n (world_after s h).keys.local_resources) ≡ held_text n (past_of s h)
 
 -- each number is held as often as it was declared and not given back
 abbrev pub HoldersAreCounted : Type 0
@@ -111,7 +111,7 @@ HoldersAreCounted = (s : Settings) (h : List Event) (n : ℕ) → holders_of n (
 -- the table of told keys has each number with the text that was told last
 abbrev pub KeysAreTold : Type 0
 KeysAreTold =
-    (s : Settings) (h : List Event) (n : ℕ) → option_map (λ key. key.text) (key_at n (world_after s h).keys.told) ≡ told_text n (past_of s h)
+    (s : Settings) (h : List Event) (n : ℕ) → option_map (λ key. key.text) (key_at n (world_after s h).keys.remote_resources) ≡ remote_text n (past_of s h)
 
 -- the counters stand at the next numbers
 abbrev pub CountersAreTold : Type 0
@@ -238,8 +238,8 @@ ListenersAreLive = (s : Settings) (h : List Event) → (world_after s h).matchin
 abbrev pub ToldAreLast : Type 0
 ToldAreLast =
     (s : Settings) (h : List Event)
-    → ((test : ToldSub → Bool) → list_any test (world_after s h).matching.told.subs ≡ list_any test (remote_subscribers (past_of s h)))
-    × ((test : ToldQueryable → Bool) → list_any test (world_after s h).matching.told.queryables ≡ list_any test (remote_queryables (past_of s h)))
+    → ((test : RemoteSubscriber → Bool) → list_any test (world_after s h).matching.remote_entities.subs ≡ list_any test (remote_subscribers (past_of s h)))
+    × ((test : RemoteQueryable → Bool) → list_any test (world_after s h).matching.remote_entities.queryables ≡ list_any test (remote_queryables (past_of s h)))
 
 -- each live listener was told last whether anyone matches, or nobody does and it was told nothing
 abbrev pub ListenersKnow : Type 0

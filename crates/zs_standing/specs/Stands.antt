@@ -8,7 +8,7 @@ use Rattle.zs_events.specs.declared.turn.Turn.{Turn}
 use Rattle.zs_world.specs.World.{World, new_world}
 use Rattle.zs_world.specs.Changes.{with_change, change_for}
 use Rattle.zs_model.specs.Entry.{Entry, is_closed}
-use Rattle.zs_model.specs.Held.{is_held}
+use Rattle.zs_model.specs.HeldKeys.{is_held}
 use Rattle.zs_model.specs.Live.{is_living}
 use Rattle.zs_model.specs.Past.{past_of}
 use Rattle.zs_model.specs.Cancelling.{is_taken}
@@ -37,8 +37,8 @@ Previews w e turn = (s : Settings) (h : List Event) → Stands w s h → turn �
 
 -- one step: whatever history the state stands for, the turn is that of the event behind it, and the new state
 -- stands for the history with the event
-abbrev pub Steps : World → World → Event → Turn → Type 0
-Steps old new e turn =
+abbrev pub TakesStep : World → World → Event → Turn → Type 0
+TakesStep old new e turn =
     (s : Settings) (h : List Event) → Stands old s h → (turn ≡ effects s h e) × Stands new s (e ∷ h)
 
 -- what a state is asked, told by the events of whatever history it stands for: whether it is closed

@@ -4,20 +4,20 @@ use Rattle.std.specs.Prelude.{bytes_eq}
 use Rattle.std.specs.List.{All, Contains}
 use Rattle.std.proofs.lemmas.List.Elements.{All-cons, All-head, All-tail, All-weaker, All-contains, All-contains_itself}
 use Rattle.zs_store.specs.Entry.{EntrySeen, greatest}
-use Rattle.zs_store.specs.Store.{Write, Ascend, found, best, joined, store_of}
+use Rattle.zs_store.specs.Store.{Write, KeysAscend, found, best, joined, store_of}
 use Rattle.zs_store.specs.Laws.{StoresHoldBest, SameWritesSameStore, StoresJoin}
 use Rattle.zs_store.proofs.Newer.{either, either_nothing, either_itself, either_turned, either_grouped}
 use Rattle.zs_store.proofs.Stores.{after_write, found_merged, ascend_merged, ascend_nothing, ascend_rest, above_first, none_above, same_key, same_stores}
 
-pub ascend_joined : (ws store : List Write) → Ascend store → Ascend (joined ws store)
+pub ascend_joined : (ws store : List Write) → KeysAscend store → KeysAscend (joined ws store)
 ascend_joined [] store ascend = ascend
 ascend_joined (w ∷ ws) store ascend = ascend_merged w (joined ws store) (ascend_joined ws store ascend)
 
-pub ascend_store : (ws : List Write) → Ascend (store_of ws)
+pub ascend_store : (ws : List Write) → KeysAscend (store_of ws)
 ascend_store ws = ascend_joined ws [] ascend_nothing
 
 -- a store that took writes has the greater of what it had and what they have
-pub found_joined : (key : List ℕ) (ws store : List Write) → Ascend store → found key (joined ws store) ≡ either (best key ws) (found key store)
+pub found_joined : (key : List ℕ) (ws store : List Write) → KeysAscend store → found key (joined ws store) ≡ either (best key ws) (found key store)
 found_joined key [] store ascend = refl
 found_joined key (w ∷ ws) store ascend =
     found_merged key w (joined ws store) (ascend_joined ws store ascend)
@@ -36,7 +36,7 @@ pub stores_hold_best : StoresHoldBest
 stores_hold_best writes = record { ascend = ascend_store writes; best = λ key. found_store key writes }
 
 -- a store has one entry of each key, and that is the best
-pub best_found : (key : List ℕ) (ws : List Write) → Ascend ws → best key ws ≡ found key ws
+pub best_found : (key : List ℕ) (ws : List Write) → KeysAscend ws → best key ws ≡ found key ws
 best_found key [] ascend = refl
 best_found key (w ∷ ws) ascend = go (bytes_eq key w.key) refl (best_found key ws (ascend_rest w ws ascend))
   where
@@ -56,15 +56,15 @@ best_append key (x ∷ xs) ys = go (bytes_eq key x.key) (best_append key xs ys)
     go true rest = ap (greatest x.entry) rest ∙ sym (either_grouped (Some x.entry) (best key xs) (best key ys))
     go false rest = rest
 
-found_both : (key : List ℕ) (x y : List Write) → Ascend x → Ascend y → found key (joined x y) ≡ either (found key x) (found key y)
+found_both : (key : List ℕ) (x y : List Write) → KeysAscend x → KeysAscend y → found key (joined x y) ≡ either (found key x) (found key y)
 found_both key x y a b = found_joined key x y b ∙ ap (λ o. either o (found key y)) (best_found key x a)
 
-turned : (x y : List Write) → Ascend x → Ascend y → joined x y ≡ joined y x
+turned : (x y : List Write) → KeysAscend x → KeysAscend y → joined x y ≡ joined y x
 turned x y a b =
     same_stores (joined x y) (joined y x) (ascend_joined x y b) (ascend_joined y x a)
     (λ key. found_both key x y a b ∙ (either_turned (found key x) (found key y) ∙ sym (found_both key y x b a)))
 
-grouped : (x y z : List Write) → Ascend x → Ascend y → Ascend z → joined (joined x y) z ≡ joined x (joined y z)
+grouped : (x y z : List Write) → KeysAscend x → KeysAscend y → KeysAscend z → joined (joined x y) z ≡ joined x (joined y z)
 grouped x y z a b c =
     same_stores (joined (joined x y) z) (joined x (joined y z)) (ascend_joined (joined x y) z c) (ascend_joined x (joined y z) (ascend_joined y z c))
     (λ key. found_both key (joined x y) z (ascend_joined x y b) c
@@ -72,7 +72,7 @@ grouped x y z a b c =
     ∙ (either_grouped (found key x) (found key y) (found key z)
     ∙ sym (found_both key x (joined y z) a (ascend_joined y z c) ∙ ap (either (found key x)) (found_both key y z b c)))))
 
-once : (x : List Write) → Ascend x → joined x x ≡ x
+once : (x : List Write) → KeysAscend x → joined x x ≡ x
 once x a =
     same_stores (joined x x) x (ascend_joined x x a) a
     (λ key. found_both key x x a a ∙ either_itself (found key x))

@@ -15,7 +15,7 @@ use Rattle.std.proofs.lemmas.Map.Keys.{sorted_head, sorted_tail}
 use Rattle.std.proofs.lemmas.Map.Text.{is_eq-slice_cmp}
 use Rattle.zs_store.specs.declared.entry.Entry.{Entry}
 use Rattle.zs_store.specs.Entry.{EntrySeen, seen, is_below, greater}
-use Rattle.zs_store.specs.Store.{Write, write_of, Ascend, found, merged}
+use Rattle.zs_store.specs.Store.{Write, write_of, KeysAscend, found, merged}
 use Rattle.zs_store.proofs.Stores.{order, Above, above_first, above_more, ascend_rest, ascend_with, ascend_nothing, none_above}
 
 none_there : {e : EntrySeen} → Some e ≡ None → ⊥
@@ -44,7 +44,7 @@ module _ {A : Type 0} where
   above_rows k [] above = tt
   above_rows k (e ∷ es) above = (above.0, above_rows k es above.1)
 
-  pub ascend_rows : (es : List (String A × Entry)) → IsStrictlySortedBy string_cmp (map (λ e. e.0) es) → Ascend (map write_of es)
+  pub ascend_rows : (es : List (String A × Entry)) → IsStrictlySortedBy string_cmp (map (λ e. e.0) es) → KeysAscend (map write_of es)
   ascend_rows [] sorted = ascend_nothing
   ascend_rows (e ∷ es) sorted =
       ascend_with (write_of e) (map write_of es)
@@ -74,7 +74,7 @@ module _ {A : Type 0} where
       go Greater h rest = ap (λ ws. write_of e ∷ ws) (rest (find Greater h))
 
   -- what stands at a key is written over by the greater entry
-  pub put_over : (bytes : List ℕ) (old new now : Entry) (es : List (String A × Entry)) → lookup (is_text bytes) es ≡ Some old → Ascend (map write_of es) → seen now ≡ greater (seen old) (seen new)
+  pub put_over : (bytes : List ℕ) (old new now : Entry) (es : List (String A × Entry)) → lookup (is_text bytes) es ≡ Some old → KeysAscend (map write_of es) → seen now ≡ greater (seen old) (seen new)
       → map write_of (set_value (is_text bytes) es now) ≡ merged (record { key = bytes; entry = seen new }) (map write_of es)
   put_over bytes old new now [] there ascend is = absurd (cc)
   put_over bytes old new now (e ∷ es) there ascend is = go (order bytes (string_bytes e.0)) refl (put_over bytes old new now es)
@@ -83,7 +83,7 @@ module _ {A : Type 0} where
       find o h = subst (λ p. cond (is_eq p) (Some e.1) (lookup (is_text bytes) es) ≡ Some old) h there
 
       go : (o : Ordering) → order bytes (string_bytes e.0) ≡ o
-          → (lookup (is_text bytes) es ≡ Some old → Ascend (map write_of es) → seen now ≡ greater (seen old) (seen new)
+          → (lookup (is_text bytes) es ≡ Some old → KeysAscend (map write_of es) → seen now ≡ greater (seen old) (seen new)
           → map write_of (set_value (is_text bytes) es now) ≡ merged (record { key = bytes; entry = seen new }) (map write_of es))
           → map write_of (cond (is_eq o) ((e.0, now) ∷ es) (e ∷ set_value (is_text bytes) es now))
           ≡ match_ordering o (record { key = bytes; entry = seen new } ∷ write_of e ∷ map write_of es)

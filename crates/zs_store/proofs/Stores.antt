@@ -13,7 +13,7 @@ use Rattle.std.proofs.lemmas.Map.Keys.{sorted_head, sorted_tail}
 use Rattle.std.proofs.lemmas.Map.Lookups.{exact_bytes}
 use Rattle.std.proofs.lemmas.Map.Text.{is_eq-slice_cmp}
 use Rattle.zs_store.specs.Entry.{EntrySeen, greater}
-use Rattle.zs_store.specs.Store.{Write, Ascend, found, merged}
+use Rattle.zs_store.specs.Store.{Write, KeysAscend, found, merged}
 use Rattle.zs_store.proofs.Newer.{either}
 
 -- the order of keys
@@ -48,17 +48,17 @@ same_key a b h = go (order a b) refl
 abbrev pub Above : List ℕ → List Write → Type 0
 Above key ws = AllByRecursion (λ k. order key k ≡ Less) (map (λ w. w.key) ws)
 
-pub above_first : (w : Write) (ws : List Write) → Ascend (w ∷ ws) → Above w.key ws
+pub above_first : (w : Write) (ws : List Write) → KeysAscend (w ∷ ws) → Above w.key ws
 above_first w ws h = sorted_head order w.key (map (λ v. v.key) ws) h
 
-pub ascend_rest : (w : Write) (ws : List Write) → Ascend (w ∷ ws) → Ascend ws
+pub ascend_rest : (w : Write) (ws : List Write) → KeysAscend (w ∷ ws) → KeysAscend ws
 ascend_rest w ws h = sorted_tail order w.key (map (λ v. v.key) ws) h
 
-pub ascend_with : (w : Write) (ws : List Write) → Above w.key ws → Ascend ws → Ascend (w ∷ ws)
+pub ascend_with : (w : Write) (ws : List Write) → Above w.key ws → KeysAscend ws → KeysAscend (w ∷ ws)
 unfolding IsStrictlySortedBy
 ascend_with w ws above rest = (above, rest)
 
-pub ascend_nothing : Ascend []
+pub ascend_nothing : KeysAscend []
 unfolding IsStrictlySortedBy
 ascend_nothing = tt
 
@@ -83,12 +83,12 @@ above_merged key new (w ∷ ws) less above = go (order new.key w.key) (above_mer
     go Equal rest = above
     go Greater rest = (above.0, rest)
 
-pub ascend_merged : (new : Write) (ws : List Write) → Ascend ws → Ascend (merged new ws)
+pub ascend_merged : (new : Write) (ws : List Write) → KeysAscend ws → KeysAscend (merged new ws)
 ascend_merged new [] ascend = ascend_with new [] tt ascend
 ascend_merged new (w ∷ ws) ascend = go (order new.key w.key) refl (ascend_merged new ws (ascend_rest w ws ascend))
   where
-    go : (o : Ordering) → order new.key w.key ≡ o → Ascend (merged new ws)
-        → Ascend (match_ordering o (new ∷ w ∷ ws) (record { key = w.key; entry = greater w.entry new.entry } ∷ ws) (w ∷ merged new ws))
+    go : (o : Ordering) → order new.key w.key ≡ o → KeysAscend (merged new ws)
+        → KeysAscend (match_ordering o (new ∷ w ∷ ws) (record { key = w.key; entry = greater w.entry new.entry } ∷ ws) (w ∷ merged new ws))
     go Less h rest = ascend_with new (w ∷ ws) (h, above_more new.key w.key ws h (above_first w ws ascend)) ascend
     go Equal h rest =
         ascend_with (record { key = w.key; entry = greater w.entry new.entry }) ws (above_first w ws ascend) (ascend_rest w ws ascend)
@@ -101,7 +101,7 @@ ascend_merged new (w ∷ ws) ascend = go (order new.key w.key) refl (ascend_merg
 abbrev pub after_write : List ℕ → Write → Option EntrySeen → Option EntrySeen
 after_write key new was = cond (bytes_eq key new.key) (either was (Some new.entry)) was
 
-pub found_merged : (key : List ℕ) (new : Write) (ws : List Write) → Ascend ws → found key (merged new ws) ≡ after_write key new (found key ws)
+pub found_merged : (key : List ℕ) (new : Write) (ws : List Write) → KeysAscend ws → found key (merged new ws) ≡ after_write key new (found key ws)
 found_merged key new [] ascend = refl
 found_merged key new (w ∷ ws) ascend = go (order new.key w.key) refl (found_merged key new ws (ascend_rest w ws ascend))
   where
@@ -137,7 +137,7 @@ found_merged key new (w ∷ ws) ascend = go (order new.key w.key) refl (found_me
     go Greater h rest = past (bytes_eq key new.key) (bytes_eq key w.key) refl refl h rest
 
 -- ascending lists that have the same at each key are the same
-pub same_stores : (xs ys : List Write) → Ascend xs → Ascend ys → ((key : List ℕ) → found key xs ≡ found key ys) → xs ≡ ys
+pub same_stores : (xs ys : List Write) → KeysAscend xs → KeysAscend ys → ((key : List ℕ) → found key xs ≡ found key ys) → xs ≡ ys
 same_stores [] [] x y h = refl
 same_stores [] (w ∷ ws) x y h =
     absurd (none_some (h w.key ∙ ap (λ (b : Bool). cond b (Some w.entry) (found w.key ws)) (same_itself w.key)))
@@ -148,7 +148,7 @@ same_stores (v ∷ vs) (w ∷ ws) x y h = go (order v.key w.key) refl (same_stor
     here : (u : Write) (us : List Write) → found u.key (u ∷ us) ≡ Some u.entry
     here u us = ap (λ (b : Bool). cond b (Some u.entry) (found u.key us)) (same_itself u.key)
 
-    rest_found : (key : List ℕ) (u : Write) (us : List Write) → Ascend (u ∷ us) → (b : Bool) → bytes_eq key u.key ≡ b
+    rest_found : (key : List ℕ) (u : Write) (us : List Write) → KeysAscend (u ∷ us) → (b : Bool) → bytes_eq key u.key ≡ b
         → found key us ≡ cond b None (found key (u ∷ us))
     rest_found key u us a true k = subst (λ q. found q us ≡ None) (sym (same_key key u.key k)) (none_above u.key us (above_first u us a))
     rest_found key u us a false k = sym (ap (λ (b : Bool). cond b (Some u.entry) (found key us)) k)

@@ -2,11 +2,11 @@
 use Rattle.std.specs.Prelude.{◌≡◌, ◌↔◌, ℕ, List, ◌++◌, MatchOption, false}
 use Rattle.std.specs.List.{All, Contains}
 use Rattle.zs_store.specs.Entry.{EntrySeen, is_below}
-use Rattle.zs_store.specs.Store.{Write, Ascend, found, best, joined, store_of}
+use Rattle.zs_store.specs.Store.{Write, KeysAscend, found, best, joined, store_of}
 
 -- a store has at each key the greatest entry that was written there, and its keys ascend
 pub record HoldsBest (writes : List Write) (store : List Write) : Type 0 where
-  pub ascend : Ascend store
+  pub ascend : KeysAscend store
   pub best : (key : List ℕ) → found key store ≡ best key writes
 
 abbrev pub StoresHoldBest : Type 0
@@ -27,7 +27,7 @@ SameWritesSameStore = (xs ys : List Write) → ((w : Write) → Contains xs w �
 
 -- stores join as those of a semilattice do
 pub record StoresJoin : Type 0 where
-  pub commutative : (x y : List Write) → Ascend x → Ascend y → joined x y ≡ joined y x
-  pub associative : (x y z : List Write) → Ascend x → Ascend y → Ascend z → joined (joined x y) z ≡ joined x (joined y z)
-  pub idempotent : (x : List Write) → Ascend x → joined x x ≡ x
+  pub commutative : (x y : List Write) → KeysAscend x → KeysAscend y → joined x y ≡ joined y x
+  pub associative : (x y z : List Write) → KeysAscend x → KeysAscend y → KeysAscend z → joined (joined x y) z ≡ joined x (joined y z)
+  pub idempotent : (x : List Write) → KeysAscend x → joined x x ≡ x
   pub both : (xs ys : List Write) → store_of (xs ++ ys) ≡ joined (store_of xs) (store_of ys)

@@ -18,8 +18,8 @@ abbrev pub write_of : {A : Type 0} → String A × Entry → Write
 write_of pair = record { key = string_bytes pair.0; entry = seen pair.1 }
 
 -- the keys ascend by their bytes, and none stands twice
-abbrev pub Ascend : List Write → Type 0
-Ascend writes = IsStrictlySortedBy (slice_cmp nat_cmp) (map (λ w. w.key) writes)
+abbrev pub KeysAscend : List Write → Type 0
+KeysAscend writes = IsStrictlySortedBy (slice_cmp nat_cmp) (map (λ w. w.key) writes)
 
 -- what a store has at a key
 abbrev pub found : List ℕ → List Write → Option EntrySeen

@@ -2,7 +2,7 @@
 
 ghost use Rattle.std.specs.Prelude.{◌≡◌, [], length, map, None, option_map, IfOk, OnOk, OnErr, if◌then◌else◌};
 ghost use Rattle.zs_store.specs.Entry.{seen};
-ghost use Rattle.zs_store.specs.Store.{Ascend, found, outcome, merged, write_of};
+ghost use Rattle.zs_store.specs.Store.{KeysAscend, found, outcome, merged, write_of};
 ghost use Rattle.zs_store.specs.declared.merged.Merged.TheVariants.{New, Kept, Replaced};
 
 use crate::entry::Entry;
@@ -61,7 +61,7 @@ impl Store {
     /// Each key with what stands there. The keys ascend by their bytes.
     pub fn iter(&self) -> Iter<'_, String, Entry>
         ensures entries { map write_of result ≡ self.now }
-        ensures ascend { Ascend self.now }
+        ensures ascend { KeysAscend self.now }
     {
         self.entries.iter()
     }

@@ -47,7 +47,7 @@ fn row(number: u32, text: &'static str, mode: ConsolidationMode) -> Result<GetRo
         network_wanted: true,
         deadline: 15,
         querier: None,
-        token: None,
+        cancellation_token: None,
     })
 }
 
@@ -110,7 +110,7 @@ fn opens_of(gets: &mut Gets, number: u32) -> bool {
         return false;
     };
     asked.querier = Some(number);
-    asked.token = Some(number.saturating_add(1));
+    asked.cancellation_token = Some(number.saturating_add(1));
     opens(gets, asked)
 }
 
@@ -238,7 +238,7 @@ fn looks(alloc: Global, gets: &Gets, act: &Act) -> bool {
 fn lets_go(gets: &mut Gets, act: &Act) -> bool {
     match act {
         Act::EndQuerier(id) => gets.end_querier(*id),
-        Act::EndToken(token) => gets.end_token(*token),
+        Act::EndToken(token) => gets.end_cancelled_by(*token),
         Act::Close => gets.close(),
         _ => return false,
     }

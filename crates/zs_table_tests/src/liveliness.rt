@@ -98,7 +98,7 @@ fn opens(gets: &mut LivelinessGets, number: u32, deadline: u64, token: Option<u3
     let get = LivelinessGet {
         number,
         key,
-        token,
+        cancellation_token: token,
         deadline,
     };
     gets.open(get).is_ok()
@@ -142,7 +142,7 @@ impl Step<LivelinessGets> for GetAct {
 fn ends(gets: &mut LivelinessGets, act: &GetAct) -> bool {
     match act {
         GetAct::End(number) => gets.end(*number),
-        GetAct::EndToken(token) => gets.end_token(*token),
+        GetAct::EndToken(token) => gets.end_cancelled_by(*token),
         GetAct::Advance(now) => gets.advance(*now),
         GetAct::Clear => gets.clear(),
         _ => return false,

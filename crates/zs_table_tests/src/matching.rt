@@ -6,8 +6,8 @@ use std::alloc::Global;
 use zs_keys::{KeyError, KeyExpr};
 use zs_sample::Locality;
 use zs_tables::{
-    Candidate, ListenerRow, ListenerTable, Present, QueryableTable, Recount, Sought, SubRow,
-    Tables, ToldQueryable, ToldSub, ToldTable,
+    Candidate, ListenerRow, ListenerTable, Present, QueryableTable, Recount, RemoteQueryable,
+    RemoteSubscriber, RemoteTable, Sought, SubRow, Tables,
 };
 
 fn listener(
@@ -88,9 +88,9 @@ fn twins_are_heard_once(rt: HostRuntime) {
     assert!(rt; table.len() == 0);
 }
 
-fn told(complete: bool) -> Result<ToldQueryable, KeyError> {
+fn told(complete: bool) -> Result<RemoteQueryable, KeyError> {
     let key = KeyExpr::new("a/**")?;
-    Ok(ToldQueryable {
+    Ok(RemoteQueryable {
         number: 4,
         complete,
         key,
@@ -109,9 +109,9 @@ fn one_listens(table: &mut ListenerTable) -> Result<(), KeyError>
 fn hear_of_the_complete(table: &ListenerTable) -> Result<bool, KeyError> {
     let partial = told(false)?;
     let complete = told(true)?;
-    let first = Some(Candidate::told_queryable(&partial));
+    let first = Some(Candidate::remote_queryable(&partial));
     let before = table.recounts(None, first)?;
-    let all = table.recounts(first, Some(Candidate::told_queryable(&complete)))?;
+    let all = table.recounts(first, Some(Candidate::remote_queryable(&complete)))?;
     Ok(before.is_empty() && hear(&all, &[3], true))
 }
 
@@ -122,13 +122,13 @@ fn complete_ones_alone(rt: HostRuntime) {
     assert_eq!(rt; hear_of_the_complete(&table), Ok(true));
 }
 
-fn tell(told: &mut ToldTable, number: u32, text: &'static str) -> Result<(), KeyError> {
+fn tell(told: &mut RemoteTable, number: u32, text: &'static str) -> Result<(), KeyError> {
     let key = KeyExpr::new(text)?;
-    told.set_sub(ToldSub { number, key })?;
+    told.set_sub(RemoteSubscriber { number, key })?;
     Ok(())
 }
 
-fn tell_three(told: &mut ToldTable) -> Result<(), KeyError> {
+fn tell_three(told: &mut RemoteTable) -> Result<(), KeyError> {
     tell(told, 9, "k")?;
     tell(told, 8, "*")?;
     tell(told, 9, "z")
@@ -143,20 +143,20 @@ fn counts(alloc: Global, present: &Present<'_>, destination: Locality) -> Result
 }
 
 /// The same of those that the other side told.
-fn count(alloc: Global, told: &ToldTable, destination: Locality) -> Result<usize, KeyError> {
+fn count(alloc: Global, told: &RemoteTable, destination: Locality) -> Result<usize, KeyError> {
     let tables = Tables::new(alloc);
     let queryables = QueryableTable::new(alloc);
     let present = Present {
         tables: &tables,
         queryables: &queryables,
-        told,
+        remote_entities: told,
     };
     counts(alloc, &present, destination)
 }
 
 #[test]
 fn those_present_are_counted(rt: HostRuntime) {
-    let mut told = ToldTable::new(rt.alloc());
+    let mut told = RemoteTable::new(rt.alloc());
     assert_eq!(rt; tell_three(&mut told), Ok(()));
     let near = count(rt.alloc(), &told, Locality::SessionLocal);
     assert_eq!(rt; near, Ok(0));

@@ -4,7 +4,7 @@
 use crate::script::{Step, first_wrong};
 use std::alloc::Global;
 use zs_keys::KeyExpr;
-use zs_tables::{ToldQueryable, ToldSub, ToldTable, ToldToken, ToldTokens};
+use zs_tables::{RemoteQueryable, RemoteSubscriber, RemoteTable, RemoteToken, RemoteTokens};
 
 /// A step of a script. A truth at the end of one is what has to be found.
 enum Act {
@@ -20,18 +20,18 @@ enum Act {
     Answered(&'static str, bool, bool),
 }
 
-fn sets_sub(told: &mut ToldTable, number: u32, text: &'static str) -> bool {
+fn sets_sub(told: &mut RemoteTable, number: u32, text: &'static str) -> bool {
     let Ok(key) = KeyExpr::new(text) else {
         return false;
     };
-    told.set_sub(ToldSub { number, key }).is_ok()
+    told.set_sub(RemoteSubscriber { number, key }).is_ok()
 }
 
-fn sets_queryable(told: &mut ToldTable, number: u32, complete: bool, text: &'static str) -> bool {
+fn sets_queryable(told: &mut RemoteTable, number: u32, complete: bool, text: &'static str) -> bool {
     let Ok(key) = KeyExpr::new(text) else {
         return false;
     };
-    let row = ToldQueryable {
+    let row = RemoteQueryable {
         number,
         complete,
         key,
@@ -39,7 +39,7 @@ fn sets_queryable(told: &mut ToldTable, number: u32, complete: bool, text: &'sta
     told.set_queryable(row).is_ok()
 }
 
-fn subscribes(alloc: Global, told: &ToldTable, text: &'static str, is: bool) -> bool {
+fn subscribes(alloc: Global, told: &RemoteTable, text: &'static str, is: bool) -> bool {
     let Ok(key) = KeyExpr::new(text) else {
         return false;
     };
@@ -47,7 +47,13 @@ fn subscribes(alloc: Global, told: &ToldTable, text: &'static str, is: bool) -> 
     told.subs_into(&key, &mut numbers).is_ok() && numbers.is_empty() != is
 }
 
-fn answers(alloc: Global, told: &ToldTable, text: &'static str, complete: bool, is: bool) -> bool {
+fn answers(
+    alloc: Global,
+    told: &RemoteTable,
+    text: &'static str,
+    complete: bool,
+    is: bool,
+) -> bool {
     let Ok(key) = KeyExpr::new(text) else {
         return false;
     };
@@ -55,8 +61,8 @@ fn answers(alloc: Global, told: &ToldTable, text: &'static str, complete: bool, 
     told.answering_into(&key, complete, &mut numbers).is_ok() && numbers.is_empty() != is
 }
 
-impl Step<ToldTable> for Act {
-    fn holds(&self, alloc: Global, told: &mut ToldTable) -> bool {
+impl Step<RemoteTable> for Act {
+    fn holds(&self, alloc: Global, told: &mut RemoteTable) -> bool {
         match self {
             Act::SetSub(number, text) => sets_sub(told, *number, text),
             Act::UnsetSub(number, was) => told.unset_sub(*number) == *was,
@@ -92,7 +98,7 @@ const DECLARATIONS: [Act; 16] = [
 
 #[test]
 fn last_declarations_count(rt: HostRuntime) {
-    let mut told = ToldTable::new(rt.alloc());
+    let mut told = RemoteTable::new(rt.alloc());
     assert_eq!(rt; first_wrong(rt.alloc(), &mut told, &DECLARATIONS), None);
 }
 
@@ -105,11 +111,11 @@ enum TokenAct {
     Meets(&'static str, &'static [&'static str]),
 }
 
-fn records(told: &mut ToldTokens, number: u32, text: &'static str) -> bool {
+fn records(told: &mut RemoteTokens, number: u32, text: &'static str) -> bool {
     let Ok(key) = KeyExpr::new(text) else {
         return false;
     };
-    told.record(ToldToken { number, key }).is_ok()
+    told.record(RemoteToken { number, key }).is_ok()
 }
 
 /// Whether the keys have just these texts.
@@ -121,7 +127,7 @@ fn are(keys: &[KeyExpr<'static>], texts: &[&str]) -> bool {
             .all(|(key, text)| key.as_str() == *text)
 }
 
-fn meets(told: &ToldTokens, text: &'static str, texts: &[&str]) -> bool {
+fn meets(told: &RemoteTokens, text: &'static str, texts: &[&str]) -> bool {
     let Ok(key) = KeyExpr::new(text) else {
         return false;
     };
@@ -131,8 +137,8 @@ fn meets(told: &ToldTokens, text: &'static str, texts: &[&str]) -> bool {
     }
 }
 
-impl Step<ToldTokens> for TokenAct {
-    fn holds(&self, _alloc: Global, told: &mut ToldTokens) -> bool {
+impl Step<RemoteTokens> for TokenAct {
+    fn holds(&self, _alloc: Global, told: &mut RemoteTokens) -> bool {
         match self {
             TokenAct::Record(number, text) => records(told, *number, text),
             TokenAct::Forget(number) => {
@@ -163,6 +169,6 @@ const TOKENS: [TokenAct; 11] = [
 
 #[test]
 fn first_tokens_count(rt: HostRuntime) {
-    let mut told = ToldTokens::new(rt.alloc());
+    let mut told = RemoteTokens::new(rt.alloc());
     assert_eq!(rt; first_wrong(rt.alloc(), &mut told, &TOKENS), None);
 }

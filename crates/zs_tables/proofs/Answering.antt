@@ -13,13 +13,13 @@ use Rattle.zs_tables.specs.declared.listener.Sought.TheVariants.{Subscribers, Qu
 use Rattle.zs_tables.specs.declared.listener.ListenerRow.{ListenerRow}
 use Rattle.zs_tables.specs.declared.subscriber.SubRow.{SubRow}
 use Rattle.zs_tables.specs.declared.queryable.QueryableRow.{QueryableRow}
-use Rattle.zs_tables.specs.declared.told_row.ToldSub.{ToldSub}
-use Rattle.zs_tables.specs.declared.told_row.ToldQueryable.{ToldQueryable}
+use Rattle.zs_tables.specs.declared.remote_row.RemoteSubscriber.{RemoteSubscriber}
+use Rattle.zs_tables.specs.declared.remote_row.RemoteQueryable.{RemoteQueryable}
 use Rattle.zs_tables.specs.Recipients.{takes}
 use Rattle.zs_tables.specs.Queryables.{answers_for, answers_whole}
-use Rattle.zs_tables.specs.Told.{Told, is_whole, answers}
+use Rattle.zs_tables.specs.RemoteEntities.{RemoteEntities, is_whole, answers}
 use Rattle.zs_tables.specs.Matching.{candidates, count_of, is_sought}
-use Rattle.zs_tables.specs.Present.{own_sought, own_count, told_sought, told_count}
+use Rattle.zs_tables.specs.Present.{own_sought, own_count, remote_sought, remote_count}
 use Rattle.zs_tables.proofs.ByKey.{by_test}
 use Rattle.zs_tables.proofs.Counting.{count_cons}
 use Rattle.zs_tables.proofs.Moving.{counted_apart}
@@ -81,12 +81,12 @@ pub meets_is_for : (complete : Bool) (text : List ℕ) → complete ≡ false �
 meets_is_for complete text is q = rw is (meet_both text q.key.text)
 
 -- the same of those that the other side declared
-pub told_whole_is_for : (complete : Bool) (text : List ℕ) → complete ≡ true → (q : ToldQueryable) → (is_whole text q && intersects text q.key.text) ≡ answers complete text q
-told_whole_is_for true text is q = both_include q.complete q.key.text text
-told_whole_is_for false text is q = absurd (cc)
+pub remote_whole_is_for : (complete : Bool) (text : List ℕ) → complete ≡ true → (q : RemoteQueryable) → (is_whole text q && intersects text q.key.text) ≡ answers complete text q
+remote_whole_is_for true text is q = both_include q.complete q.key.text text
+remote_whole_is_for false text is q = absurd (cc)
 
-pub told_meets_is_for : (complete : Bool) (text : List ℕ) → complete ≡ false → (q : ToldQueryable) → intersects text q.key.text ≡ answers complete text q
-told_meets_is_for complete text is q = rw is (meet_both text q.key.text)
+pub remote_meets_is_for : (complete : Bool) (text : List ℕ) → complete ≡ false → (q : RemoteQueryable) → intersects text q.key.text ≡ answers complete text q
+remote_meets_is_for complete text is q = rw is (meet_both text q.key.text)
 
 own_by : (b : Bool) (sought : Sought) (mine : List ℕ) (subs : List SubRow) (queryables : List QueryableRow)
     → (if b then own_sought sought mine subs queryables else 0)
@@ -97,8 +97,8 @@ own_by true Subscribers mine subs queryables =
 own_by true Queryables mine subs queryables = rw (count_nobody subs) (sym (none_more _))
 own_by true CompleteQueryables mine subs queryables = rw (count_nobody subs) (sym (none_more _))
 
-told_by : (b : Bool) (sought : Sought) (mine : List ℕ) (told : Told)
-    → (if b then told_sought sought mine told else 0)
+told_by : (b : Bool) (sought : Sought) (mine : List ℕ) (told : RemoteEntities)
+    → (if b then remote_sought sought mine told else 0)
     ≡ count_by (λ s. b && is_sought sought mine Subscriber s.key.text) told.subs + count_by (λ q. b && is_sought sought mine (Queryable q.complete) q.key.text) told.queryables
 told_by false sought mine told = rw (count_nobody told.subs, count_nobody told.queryables) refl
 told_by true Subscribers mine told = rw (count_nobody told.queryables) (omega arith)
@@ -109,9 +109,9 @@ four : (a b c d n m whole : ℕ) → whole ≡ a + b + c + d → n ≡ a + b →
 four a b c d n m whole w p q = omega (arith, w, p, q)
 
 -- both counts together are the count of all
-pub counts_together : (subs : List SubRow) (queryables : List QueryableRow) (told : Told) (row : ListenerRow)
-    → own_count subs queryables row + told_count told row ≡ count_of (candidates subs queryables told) row
+pub counts_together : (subs : List SubRow) (queryables : List QueryableRow) (told : RemoteEntities) (row : ListenerRow)
+    → own_count subs queryables row + remote_count told row ≡ count_of (candidates subs queryables told) row
 counts_together subs queryables told row =
-    four _ _ _ _ (own_count subs queryables row) (told_count told row) (count_of (candidates subs queryables told) row) (counted_apart row subs queryables told)
+    four _ _ _ _ (own_count subs queryables row) (remote_count told row) (count_of (candidates subs queryables told) row) (counted_apart row subs queryables told)
     (own_by (takes true row.destination) row.sought row.key.text subs queryables)
     (told_by (takes false row.destination) row.sought row.key.text told)

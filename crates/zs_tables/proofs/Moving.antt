@@ -7,11 +7,11 @@ use Rattle.zs_tables.specs.declared.listener.ListenerRow.{ListenerRow}
 use Rattle.zs_tables.specs.declared.recount.Recount.{Recount}
 use Rattle.zs_tables.specs.declared.subscriber.SubRow.{SubRow}
 use Rattle.zs_tables.specs.declared.queryable.QueryableRow.{QueryableRow}
-use Rattle.zs_tables.specs.declared.told_row.ToldSub.{ToldSub}
-use Rattle.zs_tables.specs.declared.told_row.ToldQueryable.{ToldQueryable}
+use Rattle.zs_tables.specs.declared.remote_row.RemoteSubscriber.{RemoteSubscriber}
+use Rattle.zs_tables.specs.declared.remote_row.RemoteQueryable.{RemoteQueryable}
 use Rattle.zs_tables.specs.Ascending.{Ascend, placed_by}
-use Rattle.zs_tables.specs.Told.{Told}
-use Rattle.zs_tables.specs.Matching.{Candidate, Listener, suits, own_sub, own_queryable, told_sub, told_queryable, candidates, status, count_of, AreCounted, suits_if, is_moved, recount_of, recounts, set_if, with_count, recounted, is_heard}
+use Rattle.zs_tables.specs.RemoteEntities.{RemoteEntities}
+use Rattle.zs_tables.specs.Matching.{Candidate, Listener, suits, own_sub, own_queryable, remote_subscriber, remote_queryable, candidates, status, count_of, AreCounted, suits_if, is_moved, recount_of, recounts, set_if, with_count, recounted, is_heard}
 use Rattle.zs_tables.specs.MatchingLaws.{one_if, Moves, Heard, heard, told_of, differ}
 use Rattle.zs_tables.proofs.Ascending.{all_weaker, all_map, all_filter}
 use Rattle.zs_tables.proofs.ByKey.{by_test, passed}
@@ -25,23 +25,23 @@ own_subs_of row subs = count_by (λ s. suits (own_sub s) row) subs
 abbrev own_queryables_of : ListenerRow → List QueryableRow → ℕ
 own_queryables_of row qs = count_by (λ q. suits (own_queryable q) row) qs
 
-abbrev told_subs_of : ListenerRow → List ToldSub → ℕ
-told_subs_of row subs = count_by (λ s. suits (told_sub s) row) subs
+abbrev remote_subscribers_of : ListenerRow → List RemoteSubscriber → ℕ
+remote_subscribers_of row subs = count_by (λ s. suits (remote_subscriber s) row) subs
 
-abbrev told_queryables_of : ListenerRow → List ToldQueryable → ℕ
-told_queryables_of row qs = count_by (λ q. suits (told_queryable q) row) qs
+abbrev remote_queryables_of : ListenerRow → List RemoteQueryable → ℕ
+remote_queryables_of row qs = count_by (λ q. suits (remote_queryable q) row) qs
 
-pub counted_apart : (row : ListenerRow) (subs : List SubRow) (queryables : List QueryableRow) (told : Told)
+pub counted_apart : (row : ListenerRow) (subs : List SubRow) (queryables : List QueryableRow) (told : RemoteEntities)
     → count_of (candidates subs queryables told) row
-    ≡ own_subs_of row subs + own_queryables_of row queryables + told_subs_of row told.subs + told_queryables_of row told.queryables
+    ≡ own_subs_of row subs + own_queryables_of row queryables + remote_subscribers_of row told.subs + remote_queryables_of row told.queryables
 counted_apart row subs queryables told =
     let p : Candidate → Bool = λ c. suits c row in
-    count_append p (map own_sub subs ++ map own_queryable queryables ++ map told_sub told.subs) (map told_queryable told.queryables)
+    count_append p (map own_sub subs ++ map own_queryable queryables ++ map remote_subscriber told.subs) (map remote_queryable told.queryables)
     ∙ (λ i.
-    count_append p (map own_sub subs ++ map own_queryable queryables) (map told_sub told.subs) i + count_map p told_queryable told.queryables i)
-    ∙ ap (λ (n : ℕ). n + told_queryables_of row told.queryables)
-    ((λ i. count_append p (map own_sub subs) (map own_queryable queryables) i + count_map p told_sub told.subs i)
-    ∙ (λ i. (count_map p own_sub subs i + count_map p own_queryable queryables i) + told_subs_of row told.subs))
+    count_append p (map own_sub subs ++ map own_queryable queryables) (map remote_subscriber told.subs) i + count_map p remote_queryable told.queryables i)
+    ∙ ap (λ (n : ℕ). n + remote_queryables_of row told.queryables)
+    ((λ i. count_append p (map own_sub subs) (map own_queryable queryables) i + count_map p remote_subscriber told.subs i)
+    ∙ (λ i. (count_map p own_sub subs i + count_map p own_queryable queryables i) + remote_subscribers_of row told.subs))
 
 -- a candidate that was found
 suits_found : {R : Type 0} (f : R → Candidate) (row : ListenerRow) (o : Option R) → suits_if (option_map f o) row ≡ passed (λ r. suits (f r) row) o
@@ -64,7 +64,7 @@ fourth_moves a b c d d' g k whole whole' p q h = rw (p, q) (omega (arith, h))
 plus_none : (n : ℕ) → n + one_if false ≡ n
 plus_none n = omega arith
 
-pub sub_comes : (subs : List SubRow) (queryables : List QueryableRow) (told : Told) (row : SubRow)
+pub sub_comes : (subs : List SubRow) (queryables : List QueryableRow) (told : RemoteEntities) (row : SubRow)
     → Moves None (Some (own_sub row)) (candidates subs queryables told) (candidates (subs ++ row ∷ []) queryables told)
 sub_comes subs queryables told row = record {
   each = λ l.
@@ -72,7 +72,7 @@ sub_comes subs queryables told row = record {
       (plus_none _ ∙ count_push (λ s. suits (own_sub s) l) subs row);
 }
 
-pub sub_goes : (subs : List SubRow) (queryables : List QueryableRow) (told : Told) (id : ℕ) → Ascend (λ (row : SubRow). row.id) subs
+pub sub_goes : (subs : List SubRow) (queryables : List QueryableRow) (told : RemoteEntities) (id : ℕ) → Ascend (λ (row : SubRow). row.id) subs
     → Moves (option_map own_sub (find (λ (row : SubRow). row.id == id) subs)) None (candidates subs queryables told) (candidates (filter (λ (row : SubRow). not (row.id == id)) subs) queryables told)
 sub_goes subs queryables told id up = record {
   each = λ l.
@@ -82,7 +82,7 @@ sub_goes subs queryables told id up = record {
       ∙ count_without (λ (row : SubRow). row.id) (λ s. suits (own_sub s) l) id subs up ∙ sym (plus_none _));
 }
 
-pub queryable_comes : (subs : List SubRow) (queryables : List QueryableRow) (told : Told) (row : QueryableRow)
+pub queryable_comes : (subs : List SubRow) (queryables : List QueryableRow) (told : RemoteEntities) (row : QueryableRow)
     → Moves None (Some (own_queryable row)) (candidates subs queryables told) (candidates subs (queryables ++ row ∷ []) told)
 queryable_comes subs queryables told row = record {
   each = λ l.
@@ -90,7 +90,7 @@ queryable_comes subs queryables told row = record {
       (plus_none _ ∙ count_push (λ q. suits (own_queryable q) l) queryables row);
 }
 
-pub queryable_goes : (subs : List SubRow) (queryables : List QueryableRow) (told : Told) (id : ℕ) → Ascend (λ (row : QueryableRow). row.id) queryables
+pub queryable_goes : (subs : List SubRow) (queryables : List QueryableRow) (told : RemoteEntities) (id : ℕ) → Ascend (λ (row : QueryableRow). row.id) queryables
     → Moves (option_map own_queryable (find (λ (row : QueryableRow). row.id == id) queryables)) None (candidates subs queryables told)
     (candidates subs (filter (λ (row : QueryableRow). not (row.id == id)) queryables) told)
 queryable_goes subs queryables told id up = record {
@@ -101,48 +101,48 @@ queryable_goes subs queryables told id up = record {
       ∙ count_without (λ (row : QueryableRow). row.id) (λ q. suits (own_queryable q) l) id queryables up ∙ sym (plus_none _));
 }
 
-pub told_sub_comes : (subs : List SubRow) (queryables : List QueryableRow) (told : Told) (row : ToldSub) → Ascend (λ (s : ToldSub). s.number) told.subs
-    → Moves (option_map told_sub (find (λ (s : ToldSub). s.number == row.number) told.subs)) (Some (told_sub row)) (candidates subs queryables told)
-    (candidates subs queryables (record told { subs = placed_by (λ (s : ToldSub). s.number) row told.subs }))
-told_sub_comes subs queryables told row up = record {
+pub remote_subscriber_comes : (subs : List SubRow) (queryables : List QueryableRow) (told : RemoteEntities) (row : RemoteSubscriber) → Ascend (λ (s : RemoteSubscriber). s.number) told.subs
+    → Moves (option_map remote_subscriber (find (λ (s : RemoteSubscriber). s.number == row.number) told.subs)) (Some (remote_subscriber row)) (candidates subs queryables told)
+    (candidates subs queryables (record told { subs = placed_by (λ (s : RemoteSubscriber). s.number) row told.subs }))
+remote_subscriber_comes subs queryables told row up = record {
   each = λ l.
-      let more = placed_by (λ (s : ToldSub). s.number) row told.subs in
-      third_moves _ _ (told_subs_of l told.subs) (told_subs_of l more) _ _ _ _ _ (counted_apart l subs queryables told) (counted_apart l subs queryables (record told { subs = more }))
-      (ap (λ (b : Bool). told_subs_of l more + one_if b) (suits_found told_sub l (find (λ (s : ToldSub). s.number == row.number) told.subs))
-      ∙ count_placed (λ (s : ToldSub). s.number) (λ s. suits (told_sub s) l) row told.subs up);
+      let more = placed_by (λ (s : RemoteSubscriber). s.number) row told.subs in
+      third_moves _ _ (remote_subscribers_of l told.subs) (remote_subscribers_of l more) _ _ _ _ _ (counted_apart l subs queryables told) (counted_apart l subs queryables (record told { subs = more }))
+      (ap (λ (b : Bool). remote_subscribers_of l more + one_if b) (suits_found remote_subscriber l (find (λ (s : RemoteSubscriber). s.number == row.number) told.subs))
+      ∙ count_placed (λ (s : RemoteSubscriber). s.number) (λ s. suits (remote_subscriber s) l) row told.subs up);
 }
 
-pub told_sub_goes : (subs : List SubRow) (queryables : List QueryableRow) (told : Told) (number : ℕ) → Ascend (λ (s : ToldSub). s.number) told.subs
-    → Moves (option_map told_sub (find (λ (s : ToldSub). s.number == number) told.subs)) None (candidates subs queryables told)
-    (candidates subs queryables (record told { subs = filter (λ (s : ToldSub). not (s.number == number)) told.subs }))
-told_sub_goes subs queryables told number up = record {
+pub remote_subscriber_goes : (subs : List SubRow) (queryables : List QueryableRow) (told : RemoteEntities) (number : ℕ) → Ascend (λ (s : RemoteSubscriber). s.number) told.subs
+    → Moves (option_map remote_subscriber (find (λ (s : RemoteSubscriber). s.number == number) told.subs)) None (candidates subs queryables told)
+    (candidates subs queryables (record told { subs = filter (λ (s : RemoteSubscriber). not (s.number == number)) told.subs }))
+remote_subscriber_goes subs queryables told number up = record {
   each = λ l.
-      let left = filter (λ (s : ToldSub). not (s.number == number)) told.subs in
-      third_moves _ _ (told_subs_of l told.subs) (told_subs_of l left) _ _ _ _ _ (counted_apart l subs queryables told) (counted_apart l subs queryables (record told { subs = left }))
-      (ap (λ (b : Bool). told_subs_of l left + one_if b) (suits_found told_sub l (find (λ (s : ToldSub). s.number == number) told.subs))
-      ∙ count_without (λ (s : ToldSub). s.number) (λ s. suits (told_sub s) l) number told.subs up ∙ sym (plus_none _));
+      let left = filter (λ (s : RemoteSubscriber). not (s.number == number)) told.subs in
+      third_moves _ _ (remote_subscribers_of l told.subs) (remote_subscribers_of l left) _ _ _ _ _ (counted_apart l subs queryables told) (counted_apart l subs queryables (record told { subs = left }))
+      (ap (λ (b : Bool). remote_subscribers_of l left + one_if b) (suits_found remote_subscriber l (find (λ (s : RemoteSubscriber). s.number == number) told.subs))
+      ∙ count_without (λ (s : RemoteSubscriber). s.number) (λ s. suits (remote_subscriber s) l) number told.subs up ∙ sym (plus_none _));
 }
 
-pub told_queryable_comes : (subs : List SubRow) (queryables : List QueryableRow) (told : Told) (row : ToldQueryable) → Ascend (λ (q : ToldQueryable). q.number) told.queryables
-    → Moves (option_map told_queryable (find (λ (q : ToldQueryable). q.number == row.number) told.queryables)) (Some (told_queryable row)) (candidates subs queryables told)
-    (candidates subs queryables (record told { queryables = placed_by (λ (q : ToldQueryable). q.number) row told.queryables }))
-told_queryable_comes subs queryables told row up = record {
+pub remote_queryable_comes : (subs : List SubRow) (queryables : List QueryableRow) (told : RemoteEntities) (row : RemoteQueryable) → Ascend (λ (q : RemoteQueryable). q.number) told.queryables
+    → Moves (option_map remote_queryable (find (λ (q : RemoteQueryable). q.number == row.number) told.queryables)) (Some (remote_queryable row)) (candidates subs queryables told)
+    (candidates subs queryables (record told { queryables = placed_by (λ (q : RemoteQueryable). q.number) row told.queryables }))
+remote_queryable_comes subs queryables told row up = record {
   each = λ l.
-      let more = placed_by (λ (q : ToldQueryable). q.number) row told.queryables in
-      fourth_moves _ _ _ (told_queryables_of l told.queryables) (told_queryables_of l more) _ _ _ _ (counted_apart l subs queryables told) (counted_apart l subs queryables (record told { queryables = more }))
-      (ap (λ (b : Bool). told_queryables_of l more + one_if b) (suits_found told_queryable l (find (λ (q : ToldQueryable). q.number == row.number) told.queryables))
-      ∙ count_placed (λ (q : ToldQueryable). q.number) (λ q. suits (told_queryable q) l) row told.queryables up);
+      let more = placed_by (λ (q : RemoteQueryable). q.number) row told.queryables in
+      fourth_moves _ _ _ (remote_queryables_of l told.queryables) (remote_queryables_of l more) _ _ _ _ (counted_apart l subs queryables told) (counted_apart l subs queryables (record told { queryables = more }))
+      (ap (λ (b : Bool). remote_queryables_of l more + one_if b) (suits_found remote_queryable l (find (λ (q : RemoteQueryable). q.number == row.number) told.queryables))
+      ∙ count_placed (λ (q : RemoteQueryable). q.number) (λ q. suits (remote_queryable q) l) row told.queryables up);
 }
 
-pub told_queryable_goes : (subs : List SubRow) (queryables : List QueryableRow) (told : Told) (number : ℕ) → Ascend (λ (q : ToldQueryable). q.number) told.queryables
-    → Moves (option_map told_queryable (find (λ (q : ToldQueryable). q.number == number) told.queryables)) None (candidates subs queryables told)
-    (candidates subs queryables (record told { queryables = filter (λ (q : ToldQueryable). not (q.number == number)) told.queryables }))
-told_queryable_goes subs queryables told number up = record {
+pub remote_queryable_goes : (subs : List SubRow) (queryables : List QueryableRow) (told : RemoteEntities) (number : ℕ) → Ascend (λ (q : RemoteQueryable). q.number) told.queryables
+    → Moves (option_map remote_queryable (find (λ (q : RemoteQueryable). q.number == number) told.queryables)) None (candidates subs queryables told)
+    (candidates subs queryables (record told { queryables = filter (λ (q : RemoteQueryable). not (q.number == number)) told.queryables }))
+remote_queryable_goes subs queryables told number up = record {
   each = λ l.
-      let left = filter (λ (q : ToldQueryable). not (q.number == number)) told.queryables in
-      fourth_moves _ _ _ (told_queryables_of l told.queryables) (told_queryables_of l left) _ _ _ _ (counted_apart l subs queryables told) (counted_apart l subs queryables (record told { queryables = left }))
-      (ap (λ (b : Bool). told_queryables_of l left + one_if b) (suits_found told_queryable l (find (λ (q : ToldQueryable). q.number == number) told.queryables))
-      ∙ count_without (λ (q : ToldQueryable). q.number) (λ q. suits (told_queryable q) l) number told.queryables up ∙ sym (plus_none _));
+      let left = filter (λ (q : RemoteQueryable). not (q.number == number)) told.queryables in
+      fourth_moves _ _ _ (remote_queryables_of l told.queryables) (remote_queryables_of l left) _ _ _ _ (counted_apart l subs queryables told) (counted_apart l subs queryables (record told { queryables = left }))
+      (ap (λ (b : Bool). remote_queryables_of l left + one_if b) (suits_found remote_queryable l (find (λ (q : RemoteQueryable). q.number == number) told.queryables))
+      ∙ count_without (λ (q : RemoteQueryable). q.number) (λ q. suits (remote_queryable q) l) number told.queryables up ∙ sym (plus_none _));
 }
 
 -- a listener for which someone came or went

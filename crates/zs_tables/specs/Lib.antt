@@ -6,7 +6,7 @@ pub mod Recipients
 pub mod Lists
 pub mod NumberRows
 pub mod Queryables
-pub mod Told
+pub mod RemoteEntities
 pub mod Laws
 pub mod Matching
 pub mod Listeners

@@ -12,10 +12,10 @@ pub use Rattle.zs_tables.specs.declared.listener.Listener.{Listener}
 use Rattle.zs_tables.specs.declared.recount.Recount.{Recount}
 use Rattle.zs_tables.specs.declared.subscriber.SubRow.{SubRow}
 use Rattle.zs_tables.specs.declared.queryable.QueryableRow.{QueryableRow}
-use Rattle.zs_tables.specs.declared.told_row.ToldSub.{ToldSub}
-use Rattle.zs_tables.specs.declared.told_row.ToldQueryable.{ToldQueryable}
+use Rattle.zs_tables.specs.declared.remote_row.RemoteSubscriber.{RemoteSubscriber}
+use Rattle.zs_tables.specs.declared.remote_row.RemoteQueryable.{RemoteQueryable}
 use Rattle.zs_tables.specs.Recipients.{takes}
-use Rattle.zs_tables.specs.Told.{Told}
+use Rattle.zs_tables.specs.RemoteEntities.{RemoteEntities}
 
 -- someone whom listeners may listen for: of this session or of the network, a subscriber or a queryable, on this text
 pub record Candidate : Type 0 where
@@ -50,15 +50,15 @@ own_sub row = record { local = true; offer = Subscriber; text = row.key.text }
 abbrev pub own_queryable : QueryableRow → Candidate
 own_queryable row = record { local = true; offer = Queryable row.complete; text = row.key.text }
 
-abbrev pub told_sub : ToldSub → Candidate
-told_sub row = record { local = false; offer = Subscriber; text = row.key.text }
+abbrev pub remote_subscriber : RemoteSubscriber → Candidate
+remote_subscriber row = record { local = false; offer = Subscriber; text = row.key.text }
 
-abbrev pub told_queryable : ToldQueryable → Candidate
-told_queryable row = record { local = false; offer = Queryable row.complete; text = row.key.text }
+abbrev pub remote_queryable : RemoteQueryable → Candidate
+remote_queryable row = record { local = false; offer = Queryable row.complete; text = row.key.text }
 
-abbrev pub candidates : List SubRow → List QueryableRow → Told → List Candidate
+abbrev pub candidates : List SubRow → List QueryableRow → RemoteEntities → List Candidate
 candidates subs queryables told =
-    map own_sub subs ++ map own_queryable queryables ++ map told_sub told.subs ++ map told_queryable told.queryables
+    map own_sub subs ++ map own_queryable queryables ++ map remote_subscriber told.subs ++ map remote_queryable told.queryables
 
 -- whether anyone matches, and how many do
 abbrev pub status : List Candidate → ListenerRow → Bool

@@ -5,11 +5,11 @@ use Rattle.zs_tables.specs.declared.listener.ListenerRow.{ListenerRow}
 use Rattle.zs_tables.specs.declared.recount.Recount.{Recount}
 use Rattle.zs_tables.specs.declared.subscriber.SubRow.{SubRow}
 use Rattle.zs_tables.specs.declared.queryable.QueryableRow.{QueryableRow}
-use Rattle.zs_tables.specs.declared.told_row.ToldSub.{ToldSub}
-use Rattle.zs_tables.specs.declared.told_row.ToldQueryable.{ToldQueryable}
+use Rattle.zs_tables.specs.declared.remote_row.RemoteSubscriber.{RemoteSubscriber}
+use Rattle.zs_tables.specs.declared.remote_row.RemoteQueryable.{RemoteQueryable}
 use Rattle.zs_tables.specs.Ascending.{Ascend, placed_by}
-use Rattle.zs_tables.specs.Told.{Told}
-use Rattle.zs_tables.specs.Matching.{Candidate, Listener, own_sub, own_queryable, told_sub, told_queryable, candidates, status, count_of, AreCounted, suits_if, recounts, recounted, is_heard}
+use Rattle.zs_tables.specs.RemoteEntities.{RemoteEntities}
+use Rattle.zs_tables.specs.Matching.{Candidate, Listener, own_sub, own_queryable, remote_subscriber, remote_queryable, candidates, status, count_of, AreCounted, suits_if, recounts, recounted, is_heard}
 
 -- one, if it is so
 abbrev pub one_if : Bool → ℕ
@@ -22,7 +22,7 @@ pub record Moves (goes comes : Option Candidate) (old new : List Candidate) : Ty
 -- a subscriber of this session comes, and one goes
 abbrev pub SubsMove : Type 0
 SubsMove =
-    (subs : List SubRow) (queryables : List QueryableRow) (told : Told) → Ascend (λ row. row.id) subs
+    (subs : List SubRow) (queryables : List QueryableRow) (told : RemoteEntities) → Ascend (λ row. row.id) subs
     → ((row : SubRow) → Moves None (Some (own_sub row)) (candidates subs queryables told) (candidates (subs ++ row ∷ []) queryables told))
     × ((id : ℕ)
     → Moves (option_map own_sub (find (λ row. row.id == id) subs)) None (candidates subs queryables told)
@@ -31,32 +31,32 @@ SubsMove =
 -- a queryable of this session
 abbrev pub QueryablesMove : Type 0
 QueryablesMove =
-    (subs : List SubRow) (queryables : List QueryableRow) (told : Told) → Ascend (λ row. row.id) queryables
+    (subs : List SubRow) (queryables : List QueryableRow) (told : RemoteEntities) → Ascend (λ row. row.id) queryables
     → ((row : QueryableRow) → Moves None (Some (own_queryable row)) (candidates subs queryables told) (candidates subs (queryables ++ row ∷ []) told))
     × ((id : ℕ)
     → Moves (option_map own_queryable (find (λ row. row.id == id) queryables)) None (candidates subs queryables told)
     (candidates subs (filter (λ row. not (row.id == id)) queryables) told))
 
 -- a subscriber of the other side comes in place of the one of its number, if there is one, and one goes
-abbrev pub ToldSubsMove : Type 0
-ToldSubsMove =
-    (subs : List SubRow) (queryables : List QueryableRow) (told : Told) → Ascend (λ row. row.number) told.subs
-    → ((row : ToldSub)
-    → Moves (option_map told_sub (find (λ other. other.number == row.number) told.subs)) (Some (told_sub row)) (candidates subs queryables told)
+abbrev pub RemoteSubscribersMove : Type 0
+RemoteSubscribersMove =
+    (subs : List SubRow) (queryables : List QueryableRow) (told : RemoteEntities) → Ascend (λ row. row.number) told.subs
+    → ((row : RemoteSubscriber)
+    → Moves (option_map remote_subscriber (find (λ other. other.number == row.number) told.subs)) (Some (remote_subscriber row)) (candidates subs queryables told)
     (candidates subs queryables (record told { subs = placed_by (λ other. other.number) row told.subs })))
     × ((number : ℕ)
-    → Moves (option_map told_sub (find (λ row. row.number == number) told.subs)) None (candidates subs queryables told)
+    → Moves (option_map remote_subscriber (find (λ row. row.number == number) told.subs)) None (candidates subs queryables told)
     (candidates subs queryables (record told { subs = filter (λ row. not (row.number == number)) told.subs })))
 
 -- a queryable of the other side
-abbrev pub ToldQueryablesMove : Type 0
-ToldQueryablesMove =
-    (subs : List SubRow) (queryables : List QueryableRow) (told : Told) → Ascend (λ row. row.number) told.queryables
-    → ((row : ToldQueryable)
-    → Moves (option_map told_queryable (find (λ other. other.number == row.number) told.queryables)) (Some (told_queryable row)) (candidates subs queryables told)
+abbrev pub RemoteQueryablesMove : Type 0
+RemoteQueryablesMove =
+    (subs : List SubRow) (queryables : List QueryableRow) (told : RemoteEntities) → Ascend (λ row. row.number) told.queryables
+    → ((row : RemoteQueryable)
+    → Moves (option_map remote_queryable (find (λ other. other.number == row.number) told.queryables)) (Some (remote_queryable row)) (candidates subs queryables told)
     (candidates subs queryables (record told { queryables = placed_by (λ other. other.number) row told.queryables })))
     × ((number : ℕ)
-    → Moves (option_map told_queryable (find (λ row. row.number == number) told.queryables)) None (candidates subs queryables told)
+    → Moves (option_map remote_queryable (find (λ row. row.number == number) told.queryables)) None (candidates subs queryables told)
     (candidates subs queryables (record told { queryables = filter (λ row. not (row.number == number)) told.queryables })))
 
 -- counts that are recounted, of those listeners alone for which one came or went, are the counts of all that are there then

@@ -9,7 +9,7 @@ use Rattle.zs_tables.specs.declared.subscriber.SubRow.{SubRow}
 use Rattle.zs_tables.specs.declared.queryable.QueryableRow.{QueryableRow}
 use Rattle.zs_tables.specs.Recipients.{takes}
 use Rattle.zs_tables.specs.Queryables.{answers_for}
-use Rattle.zs_tables.specs.Told.{Told, answers}
+use Rattle.zs_tables.specs.RemoteEntities.{RemoteEntities, answers}
 
 -- of this session
 abbrev pub own_sought : Sought → List ℕ → List SubRow → List QueryableRow → ℕ
@@ -21,10 +21,10 @@ abbrev pub own_count : List SubRow → List QueryableRow → ListenerRow → ℕ
 own_count subs queryables row = if takes true row.destination then own_sought row.sought row.key.text subs queryables else 0
 
 -- of the other side
-abbrev pub told_sought : Sought → List ℕ → Told → ℕ
-told_sought Subscribers text told = count_by (λ row. intersects row.key.text text) told.subs
-told_sought Queryables text told = count_by (answers false text) told.queryables
-told_sought CompleteQueryables text told = count_by (answers true text) told.queryables
+abbrev pub remote_sought : Sought → List ℕ → RemoteEntities → ℕ
+remote_sought Subscribers text told = count_by (λ row. intersects row.key.text text) told.subs
+remote_sought Queryables text told = count_by (answers false text) told.queryables
+remote_sought CompleteQueryables text told = count_by (answers true text) told.queryables
 
-abbrev pub told_count : Told → ListenerRow → ℕ
-told_count told row = if takes false row.destination then told_sought row.sought row.key.text told else 0
+abbrev pub remote_count : RemoteEntities → ListenerRow → ℕ
+remote_count told row = if takes false row.destination then remote_sought row.sought row.key.text told else 0

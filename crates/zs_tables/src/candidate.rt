@@ -1,11 +1,11 @@
 ghost use Rattle.std.specs.Prelude.{◌≡◌};
-ghost use Rattle.zs_tables.specs.Matching.{own_sub, own_queryable, told_sub, told_queryable, seen, is_sought, suits};
+ghost use Rattle.zs_tables.specs.Matching.{own_sub, own_queryable, remote_subscriber, remote_queryable, seen, is_sought, suits};
 
 use crate::listener::{ListenerRow, Sought};
 use crate::queryable::QueryableRow;
 use crate::recipients::takes;
+use crate::remote_row::{RemoteQueryable, RemoteSubscriber};
 use crate::subscriber::SubRow;
-use crate::told_row::{ToldQueryable, ToldSub};
 use zs_keys::KeyExpr;
 
 /// What someone is whom listeners may listen for.
@@ -51,8 +51,8 @@ impl<'a> Candidate<'a> {
     }
 
     /// A subscriber that the other side declared.
-    pub fn told_sub(row: &'a ToldSub) -> Candidate<'a>
-        ensures { seen result ≡ told_sub row.now }
+    pub fn remote_subscriber(row: &'a RemoteSubscriber) -> Candidate<'a>
+        ensures { seen result ≡ remote_subscriber row.now }
     {
         Candidate {
             local: false,
@@ -62,8 +62,8 @@ impl<'a> Candidate<'a> {
     }
 
     /// A queryable that the other side declared.
-    pub fn told_queryable(row: &'a ToldQueryable) -> Candidate<'a>
-        ensures { seen result ≡ told_queryable row.now }
+    pub fn remote_queryable(row: &'a RemoteQueryable) -> Candidate<'a>
+        ensures { seen result ≡ remote_queryable row.now }
     {
         Candidate {
             local: false,

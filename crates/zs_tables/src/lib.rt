@@ -10,19 +10,19 @@ pub use listener::{Listener, ListenerRow, Sought};
 pub use listener_table::ListenerTable;
 pub use matching_laws::{
     changes_are_heard, queryables_move, recounts_are_current, recounts_keep_listeners,
-    status_is_count, subs_move, told_queryables_move, told_subs_move,
+    remote_queryables_move, remote_subscribers_move, status_is_count, subs_move,
 };
 pub use present::Present;
 pub use queryable::QueryableRow;
 pub use queryable_table::QueryableTable;
 pub use recount::Recount;
+pub use remote_row::{RemoteQueryable, RemoteSubscriber};
+pub use remote_table::RemoteTable;
 pub use subscriber::SubRow;
 pub use tables::Tables;
-pub use told_row::{ToldQueryable, ToldSub};
-pub use told_table::ToldTable;
 pub use zs_grouped::{GroupKind, Groups};
 pub use zs_liveliness::{
-    LivelinessGet, LivelinessGets, LivelinessSub, LivelinessSubs, ToldToken, ToldTokens,
+    LivelinessGet, LivelinessGets, LivelinessSub, LivelinessSubs, RemoteToken, RemoteTokens,
 };
 
 mod candidate;
@@ -43,8 +43,8 @@ mod queryable;
 mod queryable_table;
 mod recipients;
 mod recount;
+mod remote_row;
+mod remote_table;
 mod subscriber;
 mod tables;
 mod texts;
-mod told_row;
-mod told_table;

@@ -1,6 +1,6 @@
 //! Laws of matching. Each function does nothing: its contract is the law, whatever there is.
 
-ghost use Rattle.zs_tables.specs.MatchingLaws.{SubsMove, QueryablesMove, ToldSubsMove, ToldQueryablesMove, RecountsAreCurrent, RecountsKeepListeners, StatusIsCount, ChangesAreHeard};
+ghost use Rattle.zs_tables.specs.MatchingLaws.{SubsMove, QueryablesMove, RemoteSubscribersMove, RemoteQueryablesMove, RecountsAreCurrent, RecountsKeepListeners, StatusIsCount, ChangesAreHeard};
 
 /// A subscriber of this session that comes or goes changes the counts of those who listen for it.
 pub fn subs_move()
@@ -13,13 +13,13 @@ pub fn queryables_move()
 {}
 
 /// A subscriber that the other side declares, in place of one of its number or not, or ends.
-pub fn told_subs_move()
-    ensures { ToldSubsMove }
+pub fn remote_subscribers_move()
+    ensures { RemoteSubscribersMove }
 {}
 
 /// And a queryable.
-pub fn told_queryables_move()
-    ensures { ToldQueryablesMove }
+pub fn remote_queryables_move()
+    ensures { RemoteQueryablesMove }
 {}
 
 /// To look at those listeners alone for which someone came or went is to look at all.

@@ -1,13 +1,13 @@
 ghost use Rattle.std.specs.Prelude.{◌≡◌, ◌<◌, length, IfOk, OnOk};
 ghost use Rattle.zs_tables.specs.Matching.{candidates, count_of};
-ghost use Rattle.zs_tables.specs.Present.{own_count, told_count, own_sought, told_sought};
+ghost use Rattle.zs_tables.specs.Present.{own_count, remote_count, own_sought, remote_sought};
 ghost use Rattle.zs_tables.specs.Recipients.{matches};
 
 use crate::listener::{ListenerRow, Sought};
 use crate::queryable_table::QueryableTable;
 use crate::recipients::takes;
+use crate::remote_table::RemoteTable;
 use crate::tables::Tables;
-use crate::told_table::ToldTable;
 use std::alloc::{AllocError, Global};
 use std::marker::Brand;
 use std::sync::ledger::{Blank, Ledger};
@@ -18,7 +18,7 @@ use zs_keys::{KeyExpr, Steps};
 pub struct Present<'a> {
     pub tables: &'a Tables,
     pub queryables: &'a QueryableTable,
-    pub told: &'a ToldTable,
+    pub remote_entities: &'a RemoteTable,
 }
 
 impl Present<'_> {
@@ -28,10 +28,10 @@ impl Present<'_> {
     ///
     /// Want of memory. So is a count above 2^64 - 1.
     pub fn count(&self, alloc: Global, listener: &ListenerRow) -> Result<usize, AllocError>
-        ensures { IfOk result (λ n. n ≡ count_of (candidates self.now.tables.now.rows self.now.queryables.now self.now.told.now) listener.now) }
+        ensures { IfOk result (λ n. n ≡ count_of (candidates self.now.tables.now.rows self.now.queryables.now self.now.remote_entities.now) listener.now) }
     {
         let own = self.count_own(alloc, listener)?;
-        let told = self.count_told(alloc, listener)?;
+        let told = self.count_remote(alloc, listener)?;
         let Some(count) = own.checked_add(told) else {
             return Err(AllocError);
         };
@@ -62,25 +62,29 @@ impl Present<'_> {
     }
 
     /// How many of the other side.
-    fn count_told(&self, alloc: Global, listener: &ListenerRow) -> Result<usize, AllocError>
-        ensures { IfOk result (λ n. n ≡ told_count self.now.told.now listener.now) }
+    fn count_remote(&self, alloc: Global, listener: &ListenerRow) -> Result<usize, AllocError>
+        ensures { IfOk result (λ n. n ≡ remote_count self.now.remote_entities.now listener.now) }
     {
         if !takes(false, listener.destination) {
             return Ok(0);
         }
         let mut numbers = Vec::new(alloc);
-        self.told_into(listener, &mut numbers)?;
+        self.remote_into(listener, &mut numbers)?;
         Ok(numbers.len())
     }
 
     /// Makes a list the numbers of those of the other side.
-    fn told_into(&self, listener: &ListenerRow, numbers: &mut Vec<u32>) -> Result<(), AllocError>
-        ensures { OnOk result (length numbers.new.items ≡ told_sought listener.now.sought listener.now.key.text self.now.told.now) }
+    fn remote_into(&self, listener: &ListenerRow, numbers: &mut Vec<u32>) -> Result<(), AllocError>
+        ensures { OnOk result (length numbers.new.items ≡ remote_sought listener.now.sought listener.now.key.text self.now.remote_entities.now) }
     {
         match listener.sought {
-            Sought::Subscribers => self.told.subs_into(&listener.key, numbers),
-            Sought::Queryables => self.told.answering_into(&listener.key, false, numbers),
-            Sought::CompleteQueryables => self.told.answering_into(&listener.key, true, numbers),
+            Sought::Subscribers => self.remote_entities.subs_into(&listener.key, numbers),
+            Sought::Queryables => self
+                .remote_entities
+                .answering_into(&listener.key, false, numbers),
+            Sought::CompleteQueryables => self
+                .remote_entities
+                .answering_into(&listener.key, true, numbers),
         }
     }
 }

@@ -112,7 +112,9 @@ fn parent_ended(event: &Event) -> Option<Key>
             kind: EntityKind::Querier,
             id,
         } => Some(Key::Of(Kind::Querier, *id)),
-        Event::Cancel { token } => Some(Key::CancelToken(*token)),
+        Event::Cancel {
+            cancellation_token: token,
+        } => Some(Key::CancelToken(*token)),
         _ => None,
     }
 }

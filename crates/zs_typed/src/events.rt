@@ -46,7 +46,9 @@ pub fn type_event(event: &Event)
             type_update(update.get());
         }
         Event::CancelToken => {}
-        Event::Cancel { token } => type_number(*token),
+        Event::Cancel {
+            cancellation_token: token,
+        } => type_number(*token),
         Event::Get {
             key,
             settings,

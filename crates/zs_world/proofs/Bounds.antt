@@ -8,7 +8,7 @@ use Rattle.std.proofs.lemmas.Bool.Decides.{nat_tests}
 use Rattle.std.proofs.lemmas.List.Elements.{recursion_from_All, All-from_recursion}
 use Rattle.zs_keys.specs.Key.{Key}
 use Rattle.zs_tables.specs.Groups.{Group, has_text, members_of, with_group, joined, left, without_member, has_members, AllGroups}
-use Rattle.zs_tables.specs.Told.{Told}
+use Rattle.zs_tables.specs.RemoteEntities.{RemoteEntities}
 use Rattle.zs_tables.specs.declared.listener.Listener.{Listener}
 use Rattle.zs_tables.specs.declared.subscriber.SubRow.{SubRow}
 use Rattle.zs_tables.specs.declared.queryable.QueryableRow.{QueryableRow}
@@ -76,7 +76,7 @@ left_below next id text gs below =
 
 -- an entity with the next number joins
 pub more_below : (next after : ℕ) (aggregates : List Key) (x : Shared) (gs : List Group) → next ≤ after → x.id < after → GroupsBelow next gs → GroupsBelow after (joined_by aggregates x gs)
-more_below next after aggregates x gs le less below = go x.told
+more_below next after aggregates x gs le less below = go x.is_announced
   where
     go : (b : Bool) → GroupsBelow after (if b then joined (share_text aggregates x.text) x.id gs else gs)
     go true = joined_below after x.id (share_text aggregates x.text) gs less (groups_weaker next after gs le below)
@@ -85,7 +85,7 @@ more_below next after aggregates x gs le less below = go x.told
 -- one leaves
 pub less_below : (next : ℕ) (aggregates : List Key) (x : Option Shared) (gs : List Group) → GroupsBelow next gs → GroupsBelow next (left_found aggregates x gs)
 less_below next aggregates None gs below = below
-less_below next aggregates (Some x) gs below = go x.told
+less_below next aggregates (Some x) gs below = go x.is_announced
   where
     go : (b : Bool) → GroupsBelow next (if b then left (share_text aggregates x.text) x.id gs else gs)
     go true = left_below next x.id (share_text aggregates x.text) gs below
@@ -122,7 +122,7 @@ rows_up number next after rows le all =
     All-from_recursion (λ r. number r < after) rows
     (all_weaker (λ r. number r < next) (λ r. number r < after) (λ r less. omega (arith, less, le)) rows (recursion_from_All (λ r. number r < next) rows all))
 
-pub below_weaker : (next after : ℕ) (rows : List SubRow) (publishers : List PubRow) (queryables : List QueryableRow) (queriers : List QuerierRow) (groups : AllGroups) (told : Told) (listeners : List Listener) → next ≤ after
+pub below_weaker : (next after : ℕ) (rows : List SubRow) (publishers : List PubRow) (queryables : List QueryableRow) (queriers : List QuerierRow) (groups : AllGroups) (told : RemoteEntities) (listeners : List Listener) → next ≤ after
     → AreBelow next rows publishers queryables queriers groups told listeners → AreBelow after rows publishers queryables queriers groups told listeners
 below_weaker next after rows publishers queryables queriers groups told listeners le b = record {
   subs = rows_up (λ (row : SubRow). row.id) next after rows le b.subs;

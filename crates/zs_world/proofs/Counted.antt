@@ -12,7 +12,7 @@ use Rattle.zs_tables.specs.MatchingLaws.{Moves}
 use Rattle.zs_tables.proofs.Ascending.{all_map, all_unmap, all_filter}
 use Rattle.zs_keyed.proofs.Ascending.{by_test}
 use Rattle.zs_tables.proofs.Moving.{current, listeners_stay}
-use Rattle.zs_tables.specs.Told.{Told}
+use Rattle.zs_tables.specs.RemoteEntities.{RemoteEntities}
 use Rattle.zs_tables.specs.declared.subscriber.SubRow.{SubRow}
 use Rattle.zs_tables.specs.declared.queryable.QueryableRow.{QueryableRow}
 use Rattle.zs_world.specs.MatchingTables.{Kept, shown}
@@ -49,17 +49,17 @@ rows_under next id ls is all =
     (all_map (λ (l : Listener). l.row.id < next) (λ (row : ListenerRow). row.id < next) (λ (l : Listener). l.row) (λ l less. less) ls (recursion_from_All (λ (l : Listener). l.row.id < next) ls all))
 
 -- where the told ones change and then the counts are set, the numbers stay
-pub below_told : (next : ℕ) (told : Told) (rs : List Recount) (kept changed set : Kept) → changed ≡ record kept { told = told } → set ≡ record changed { listeners = recounted rs changed.listeners }
+pub below_told : (next : ℕ) (told : RemoteEntities) (rs : List Recount) (kept changed set : Kept) → changed ≡ record kept { remote_entities = told } → set ≡ record changed { listeners = recounted rs changed.listeners }
     → All (λ (l : Listener). l.row.id < next) kept.listeners → All (λ (l : Listener). l.row.id < next) set.listeners
 below_told next told rs kept changed set is then all = rw (then, is) (below_recounted next rs kept.listeners all)
 
 -- and the counts are those of all who are there then
-pub counted_told : (subs : List SubRow) (queryables : List QueryableRow) (told : Told) (goes comes : Option Candidate) (rs : List Recount) (kept changed set : Kept)
-    → changed ≡ record kept { told = told } → set ≡ record changed { listeners = recounted rs changed.listeners } → rs ≡ recounts goes comes kept.listeners → Ascend (λ (l : Listener). l.row.id) kept.listeners
-    → Moves goes comes (candidates subs queryables kept.told) (candidates subs queryables told) → AreCounted (candidates subs queryables kept.told) kept.listeners
-    → AreCounted (candidates subs queryables set.told) set.listeners
+pub counted_told : (subs : List SubRow) (queryables : List QueryableRow) (told : RemoteEntities) (goes comes : Option Candidate) (rs : List Recount) (kept changed set : Kept)
+    → changed ≡ record kept { remote_entities = told } → set ≡ record changed { listeners = recounted rs changed.listeners } → rs ≡ recounts goes comes kept.listeners → Ascend (λ (l : Listener). l.row.id) kept.listeners
+    → Moves goes comes (candidates subs queryables kept.remote_entities) (candidates subs queryables told) → AreCounted (candidates subs queryables kept.remote_entities) kept.listeners
+    → AreCounted (candidates subs queryables set.remote_entities) set.listeners
 counted_told subs queryables told goes comes rs kept changed set is then all up m counted =
-    rw (then, is) (counted_then goes comes (candidates subs queryables kept.told) (candidates subs queryables told) kept.listeners all up m counted)
+    rw (then, is) (counted_then goes comes (candidates subs queryables kept.remote_entities) (candidates subs queryables told) kept.listeners all up m counted)
 
 -- what follows from what holds of an accepted call
 pub ok_then : {T E : Type 0} (r : Result T E) (P Q : Type 0) → (P → Q) → OnOk r P → OnOk r Q
@@ -69,10 +69,10 @@ ok_then (Err e) P Q f h = tt
 -- where subscribers or queryables change and the counts are set
 pub counted_moved : (subs subs' : List SubRow) (queryables queryables' : List QueryableRow) (goes comes : Option Candidate) (rs : List Recount) (kept set : Kept)
     → set ≡ record kept { listeners = recounted rs kept.listeners } → rs ≡ recounts goes comes kept.listeners → Ascend (λ (l : Listener). l.row.id) kept.listeners
-    → Moves goes comes (candidates subs queryables kept.told) (candidates subs' queryables' kept.told) → AreCounted (candidates subs queryables kept.told) kept.listeners
-    → AreCounted (candidates subs' queryables' set.told) set.listeners
+    → Moves goes comes (candidates subs queryables kept.remote_entities) (candidates subs' queryables' kept.remote_entities) → AreCounted (candidates subs queryables kept.remote_entities) kept.listeners
+    → AreCounted (candidates subs' queryables' set.remote_entities) set.listeners
 counted_moved subs subs' queryables queryables' goes comes rs kept set then all up m counted =
-    rw then (counted_then goes comes (candidates subs queryables kept.told) (candidates subs' queryables' kept.told) kept.listeners all up m counted)
+    rw then (counted_then goes comes (candidates subs queryables kept.remote_entities) (candidates subs' queryables' kept.remote_entities) kept.listeners all up m counted)
 
 -- the numbers stay then
 pub below_set : (next : ℕ) (rs : List Recount) (kept set : Kept) → set ≡ record kept { listeners = recounted rs kept.listeners } → All (λ (l : Listener). l.row.id < next) kept.listeners
@@ -81,14 +81,14 @@ below_set next rs kept set then all = rw then (below_recounted next rs kept.list
 
 -- what is shown where the counts are set, one comes, or some go
 pub rows_set : (kept : Kept) (rs : List Recount) → shown (record kept { listeners = recounted rs kept.listeners }) ≡ shown kept
-rows_set kept rs = λ i. record { listeners = listeners_stay rs kept.listeners i; left = kept.left; told = kept.told }
+rows_set kept rs = λ i. record { listeners = listeners_stay rs kept.listeners i; left = kept.left; remote_entities = kept.remote_entities }
 
 rows_push : (ls : List Listener) (l : Listener) → map (λ (k : Listener). k.row) (ls ++ l ∷ []) ≡ map (λ (k : Listener). k.row) ls ++ l.row ∷ []
 rows_push [] l = refl
 rows_push (k ∷ ls) l = ap (λ (rest : List ListenerRow). k.row ∷ rest) (rows_push ls l)
 
 pub rows_more : (kept : Kept) (l : Listener) → shown (record kept { listeners = kept.listeners ++ l ∷ [] }) ≡ record (shown kept) { listeners = (shown kept).listeners ++ l.row ∷ [] }
-rows_more kept l = λ i. record { listeners = rows_push kept.listeners l i; left = kept.left; told = kept.told }
+rows_more kept l = λ i. record { listeners = rows_push kept.listeners l i; left = kept.left; remote_entities = kept.remote_entities }
 
 rows_filter : (keep : ListenerRow → Bool) (ls : List Listener) → map (λ (k : Listener). k.row) (filter (λ (k : Listener). keep k.row) ls) ≡ filter keep (map (λ (k : Listener). k.row) ls)
 rows_filter keep [] = refl
@@ -96,7 +96,7 @@ rows_filter keep (k ∷ ls) =
     by_test (keep k.row) (λ is. rw is (ap (λ (rest : List ListenerRow). k.row ∷ rest) (rows_filter keep ls))) (λ is. rw is (rows_filter keep ls))
 
 pub rows_left : (kept : Kept) (keep : ListenerRow → Bool) → shown (record kept { listeners = filter (λ (k : Listener). keep k.row) kept.listeners }) ≡ record (shown kept) { listeners = filter keep (shown kept).listeners }
-rows_left kept keep = λ i. record { listeners = rows_filter keep kept.listeners i; left = kept.left; told = kept.told }
+rows_left kept keep = λ i. record { listeners = rows_filter keep kept.listeners i; left = kept.left; remote_entities = kept.remote_entities }
 
 -- where one comes
 counted_push : (cs : List Candidate) (ls : List Listener) (l : Listener) → l.count ≡ count_of cs l.row → AreCounted cs ls → AreCounted cs (ls ++ l ∷ [])
@@ -104,8 +104,8 @@ counted_push cs [] l is all = (is, tt)
 counted_push cs (k ∷ ls) l is all = (all.0, counted_push cs ls l is all.1)
 
 pub counted_added : (subs : List SubRow) (queryables : List QueryableRow) (l : Listener) (kept added : Kept) → added ≡ record kept { listeners = kept.listeners ++ l ∷ [] }
-    → l.count ≡ count_of (candidates subs queryables kept.told) l.row → AreCounted (candidates subs queryables kept.told) kept.listeners → AreCounted (candidates subs queryables added.told) added.listeners
-counted_added subs queryables l kept added then is all = rw then (counted_push (candidates subs queryables kept.told) kept.listeners l is all)
+    → l.count ≡ count_of (candidates subs queryables kept.remote_entities) l.row → AreCounted (candidates subs queryables kept.remote_entities) kept.listeners → AreCounted (candidates subs queryables added.remote_entities) added.listeners
+counted_added subs queryables l kept added then is all = rw then (counted_push (candidates subs queryables kept.remote_entities) kept.listeners l is all)
 
 pub below_added : (next : ℕ) (l : Listener) (kept added : Kept) → added ≡ record kept { listeners = kept.listeners ++ l ∷ [] } → l.row.id ≡ next → All (λ (k : Listener). k.row.id < next) kept.listeners
     → All (λ (k : Listener). k.row.id < next + 1) added.listeners
@@ -113,9 +113,9 @@ below_added next l kept added then id all = rw then (bounds_push (λ (k : Listen
 
 -- where some end
 pub counted_fewer : (subs : List SubRow) (queryables : List QueryableRow) (keep : Listener → Bool) (kept fewer : Kept) → fewer ≡ record kept { listeners = filter keep kept.listeners }
-    → AreCounted (candidates subs queryables kept.told) kept.listeners → AreCounted (candidates subs queryables fewer.told) fewer.listeners
+    → AreCounted (candidates subs queryables kept.remote_entities) kept.listeners → AreCounted (candidates subs queryables fewer.remote_entities) fewer.listeners
 counted_fewer subs queryables keep kept fewer then all =
-    rw then (all_filter (λ (l : Listener). l.count ≡ count_of (candidates subs queryables kept.told) l.row) keep kept.listeners all)
+    rw then (all_filter (λ (l : Listener). l.count ≡ count_of (candidates subs queryables kept.remote_entities) l.row) keep kept.listeners all)
 
 pub below_fewer : (next : ℕ) (keep : Listener → Bool) (kept fewer : Kept) → fewer ≡ record kept { listeners = filter keep kept.listeners } → All (λ (l : Listener). l.row.id < next) kept.listeners
     → All (λ (l : Listener). l.row.id < next) fewer.listeners

@@ -10,7 +10,7 @@ use Rattle.zs_model.specs.declared.publisher.PubRow.{PubRow}
 use Rattle.zs_world.specs.declared.change.Change.TheVariants.{Nothing}
 use Rattle.zs_world.specs.World.{World}
 use Rattle.zs_model.specs.Publishers.{is_pub, pub_at, published_by, content_of}
-use Rattle.zs_world.specs.Turns.{decision_of, refused_if, first_cause, published_effects, published_decision}
+use Rattle.zs_world.specs.Decisions.{decision_of, refused_if, first_cause, published_effects, published_decision}
 
 -- one that is found is there, and one that is not found is not
 found_there : (id : ℕ) (rows : List PubRow) (row : PubRow) → pub_at id rows ≡ Some row → is_pub id rows ≡ true

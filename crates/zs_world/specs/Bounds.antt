@@ -6,7 +6,7 @@ use Rattle.zs_tables.specs.declared.subscriber.SubRow.{SubRow}
 use Rattle.zs_tables.specs.declared.queryable.QueryableRow.{QueryableRow}
 use Rattle.zs_model.specs.declared.publisher.PubRow.{PubRow}
 use Rattle.zs_model.specs.declared.querier.QuerierRow.{QuerierRow}
-use Rattle.zs_tables.specs.Told.{Told}
+use Rattle.zs_tables.specs.RemoteEntities.{RemoteEntities}
 use Rattle.zs_tables.specs.declared.listener.Listener.{Listener}
 use Rattle.zs_tables.specs.Matching.{candidates, AreCounted}
 
@@ -15,7 +15,7 @@ abbrev pub GroupsBelow : ℕ → List Group → Type 0
 GroupsBelow next gs = AllByRecursion (λ g. AllByRecursion (λ member. member < next) g.members) gs
 
 -- all numbers of entities are below the next one, and each listener's count is that of those who match
-pub record AreBelow (next : ℕ) (rows : List SubRow) (publishers : List PubRow) (queryable_rows : List QueryableRow) (querier_rows : List QuerierRow) (groups : AllGroups) (told : Told) (listeners : List Listener) : Type 0 where
+pub record AreBelow (next : ℕ) (rows : List SubRow) (publishers : List PubRow) (queryable_rows : List QueryableRow) (querier_rows : List QuerierRow) (groups : AllGroups) (told : RemoteEntities) (listeners : List Listener) : Type 0 where
   pub subs : All (λ row. row.id < next) rows
   pub pubs : All (λ row. row.id < next) publishers
   pub queryables : All (λ row. row.id < next) queryable_rows

@@ -56,14 +56,14 @@ use Rattle.zs_model.specs.Cancelling.{last_cancellation_token}
 use Rattle.zs_world.specs.CancellationChanges.{cancelling_after, asking_cancelled}
 use Rattle.zs_model.specs.Groups.{no_groups}
 use Rattle.zs_model.specs.Liveliness.{shut_liveliness}
-use Rattle.zs_world.specs.LivelinessChanges.{asking_change, told_change, answered_change, liveliness_after, liveliness_by, liveliness_cancelled, next_behind, LivelinessFits}
+use Rattle.zs_world.specs.LivelinessChanges.{asking_change, remote_token_change, answered_change, liveliness_after, liveliness_by, liveliness_cancelled, next_behind, LivelinessFits}
 use Rattle.zs_model.specs.Listeners.{listening}
 use Rattle.zs_world.specs.MatchingTables.{shut_matching}
-use Rattle.zs_world.specs.MatchingChanges.{listen_change, told_sub_change, told_queryable_change, matching_after}
+use Rattle.zs_world.specs.MatchingChanges.{listen_change, remote_subscriber_change, remote_queryable_change, matching_after}
 use Rattle.zs_world.specs.EntityChanges.{next_entity_after, entities_after, groups_after, asking_left, liveliness_declared, matching_declared, EntitiesFit}
 use Rattle.zs_world.specs.World.{World}
 use Rattle.zs_world.specs.Keys.{key_of, wire_of, text_of}
-use Rattle.zs_world.specs.DeclaredKeys.{raised, lowered, own_left}
+use Rattle.zs_world.specs.DeclaredKeys.{raised, lowered, local_resources_left}
 
 -- a declared text is held once more, or else it draws the next number
 abbrev pub key_change_by : World → List ℕ → Option ℕ → Change
@@ -72,7 +72,7 @@ key_change_by w text None = OfKeys (Declare w.counters.key (undeclared text))
 
 abbrev pub key_change : World → Option (List ℕ) → Change
 key_change w None = Nothing
-key_change w (Some text) = key_change_by w text (number_at text w.keys.own)
+key_change w (Some text) = key_change_by w text (number_at text w.keys.local_resources)
 
 -- an entity that is declared on a key, by its row for the text of that
 abbrev pub added : (List ℕ → EntityRow) → Option (List ℕ) → Change
@@ -130,11 +130,11 @@ message_change w (DeclareKeyExpr number wire) = tell_change number (wire_of w wi
 message_change w (request_message request) = request_change w request (wire_of w request.wire)
 message_change w (response_message response) = response_change response response.answered (text_of w (response_key response.answered response.wire))
 message_change w (ResponseFinal rid) = OfGets (Final rid)
-message_change w (token_message id wire interest) = told_change w.liveliness.gets id interest (wire_of w wire)
+message_change w (token_message id wire interest) = remote_token_change w.liveliness.gets id interest (wire_of w wire)
 message_change w (token_end_message id wire interest) = OfLiveliness (ForgetToken id)
-message_change w (DeclareSubscriber id wire) = told_sub_change id (wire_of w wire)
+message_change w (DeclareSubscriber id wire) = remote_subscriber_change id (wire_of w wire)
 message_change w (UndeclareSubscriber id) = OfMatching (ForgetSub id)
-message_change w (DeclareQueryable id complete wire) = told_queryable_change id complete (wire_of w wire)
+message_change w (DeclareQueryable id complete wire) = remote_queryable_change id complete (wire_of w wire)
 message_change w (UndeclareQueryable id) = OfMatching (ForgetQueryable id)
 message_change w (DeclareFinal interest) = answered_change interest
 message_change w message = Nothing
@@ -174,10 +174,10 @@ next_key_after (Declare number key) next = next + 1
 next_key_after change next = next
 
 -- the numbers that stand for a declared key, given how many held each before
-abbrev pub own_after : KeyChange → List KeyHolders → List NumberedKey → List NumberedKey
-own_after (Declare number key) holders rows = placed (record { number = number; key = key }) rows
-own_after (Hold number) holders rows = rows
-own_after (Release number) holders rows = own_left number holders rows
+abbrev pub local_resources_after : KeyChange → List KeyHolders → List NumberedKey → List NumberedKey
+local_resources_after (Declare number key) holders rows = placed (record { number = number; key = key }) rows
+local_resources_after (Hold number) holders rows = rows
+local_resources_after (Release number) holders rows = local_resources_left number holders rows
 
 -- how many hold each number
 abbrev pub holders_after : KeyChange → List KeyHolders → List KeyHolders
@@ -186,8 +186,8 @@ holders_after (Hold number) rows = raised number rows
 holders_after (Release number) rows = lowered number rows
 
 -- the numbers that the network told
-abbrev pub told_after : NetworkChange → List NumberedKey → List NumberedKey
-told_after (TellKey number key) rows = placed (record { number = number; key = key }) rows
+abbrev pub remote_resources_after : NetworkChange → List NumberedKey → List NumberedKey
+remote_resources_after (TellKey number key) rows = placed (record { number = number; key = key }) rows
 
 -- the gets, with the counter of their numbers and the moment
 abbrev pub asking_after : GetChange → Asking → Asking
@@ -221,7 +221,7 @@ with_change Nothing w = w
 with_change (OfKeys change) w = record w {
   counters = record w.counters { key = next_key_after change w.counters.key };
   keys = record w.keys {
-    own = own_after change w.keys.holders w.keys.own;
+    local_resources = local_resources_after change w.keys.holders w.keys.local_resources;
     holders = holders_after change w.keys.holders;
   };
 }
@@ -233,7 +233,7 @@ with_change (OfEntities change) w = record w {
   liveliness = liveliness_declared change w.liveliness;
   matching = matching_declared change w.matching;
 }
-with_change (OfNetwork change) w = record w { keys = record w.keys { told = told_after change w.keys.told } }
+with_change (OfNetwork change) w = record w { keys = record w.keys { remote_resources = remote_resources_after change w.keys.remote_resources } }
 with_change (OfGets change) w = record w { asking = asking_after change w.asking; liveliness = liveliness_by change w.liveliness }
 with_change (OfLiveliness change) w = record w {
   counters = record w.counters { entity = next_behind change w.counters.entity };
@@ -252,7 +252,7 @@ with_change (OfCancellation change) w = record w {
 with_change Shut w = record w {
   closed = true;
   entities = record w.entities { subs = []; pubs = []; queryables = []; queriers = [] };
-  keys = record w.keys { own = []; holders = [] };
+  keys = record w.keys { local_resources = []; holders = [] };
   groups = no_groups;
   asking = all_ended w.asking;
   liveliness = shut_liveliness w.liveliness;
@@ -262,9 +262,9 @@ with_change Shut w = record w {
 -- what a change takes for granted: a number that it draws is the next one, and is there; a number that it names stands for a key
 abbrev pub KeysFit : World → KeyChange → Type 0
 KeysFit w (Declare number key) =
-    (number ≡ w.counters.key) × (is_spent last_key w.counters.key ≡ false) × (number_at key.text w.keys.own ≡ None)
-KeysFit w (Hold number) = is_some (key_at number w.keys.own) ≡ true
-KeysFit w (Release number) = is_some (key_at number w.keys.own) ≡ true
+    (number ≡ w.counters.key) × (is_spent last_key w.counters.key ≡ false) × (number_at key.text w.keys.local_resources ≡ None)
+KeysFit w (Hold number) = is_some (key_at number w.keys.local_resources) ≡ true
+KeysFit w (Release number) = is_some (key_at number w.keys.local_resources) ≡ true
 
 abbrev pub GetsFit : World → GetChange → Type 0
 GetsFit w (Ask row) = (row.number ≡ w.asking.next) × (is_spent last_query w.asking.next ≡ false) × (row.mode ≢ Auto)

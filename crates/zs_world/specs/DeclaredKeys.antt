@@ -41,5 +41,5 @@ abbrev pub lowered : ℕ → List KeyHolders → List KeyHolders
 lowered number rows = if is_last number rows then filter (λ row. not (row.number == number)) rows else map (one_less number) rows
 
 -- the numbers that stand for a key still where one of this number is given back, given how many held each
-abbrev pub own_left : ℕ → List KeyHolders → List NumberedKey → List NumberedKey
-own_left number holders rows = if is_last number holders then without number rows else rows
+abbrev pub local_resources_left : ℕ → List KeyHolders → List NumberedKey → List NumberedKey
+local_resources_left number holders rows = if is_last number holders then without number rows else rows

@@ -23,7 +23,7 @@ text_with_suffix suffix key = option_map (λ k. k.text ++ encode_utf8_all suffix
 -- the text that a key stands for at this moment, as bytes, if it stands for one
 abbrev pub key_of : World → KeyArg → Option (List ℕ)
 key_of w (Text text) = Some (encode_utf8_all text)
-key_of w (Number number suffix) = text_with_suffix suffix (key_at number w.keys.own)
+key_of w (Number number suffix) = text_with_suffix suffix (key_at number w.keys.local_resources)
 key_of w (Declared text number prefix_len) = Some (encode_utf8_all text)
 
 -- the numbers of the side that a wire expression's mapping names: the network's, or this session's
@@ -53,7 +53,7 @@ is_key_of text (Some key) = bytes_eq key.text text
 abbrev pub has_claim : World → Option ℕ → Option (List ℕ) → Bool
 has_claim w None text = true
 has_claim w (Some number) None = false
-has_claim w (Some number) (Some text) = is_key_of text (key_at number w.keys.own)
+has_claim w (Some number) (Some text) = is_key_of text (key_at number w.keys.local_resources)
 
 -- a key argument that names a number, with nothing behind it
 abbrev pub is_number : KeyArg → Bool

@@ -10,4 +10,4 @@ pub mod Changes
 pub mod LivelinessChanges
 pub mod MatchingChanges
 pub mod CancellationChanges
-pub mod Turns
+pub mod Decisions

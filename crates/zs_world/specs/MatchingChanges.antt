@@ -17,19 +17,19 @@ listen_change [] = Nothing
 listen_change (row ∷ rows) = OfEntities (AddEntity (new_listener row))
 
 -- what the network tells of a subscriber and of a queryable
-abbrev pub told_sub_change : ℕ → Option (List ℕ) → Change
-told_sub_change id None = Nothing
-told_sub_change id (Some text) = OfMatching (TellSub (record { number = id; key = undeclared text }))
+abbrev pub remote_subscriber_change : ℕ → Option (List ℕ) → Change
+remote_subscriber_change id None = Nothing
+remote_subscriber_change id (Some text) = OfMatching (TellSub (record { number = id; key = undeclared text }))
 
-abbrev pub told_queryable_change : ℕ → Bool → Option (List ℕ) → Change
-told_queryable_change id complete None = Nothing
-told_queryable_change id complete (Some text) = OfMatching (TellQueryable (record { number = id; complete = complete; key = undeclared text }))
+abbrev pub remote_queryable_change : ℕ → Bool → Option (List ℕ) → Change
+remote_queryable_change id complete None = Nothing
+remote_queryable_change id complete (Some text) = OfMatching (TellQueryable (record { number = id; complete = complete; key = undeclared text }))
 
 -- the tables behind a change
 abbrev pub matching_after : MatchingChange → Matching → Matching
-matching_after (TellSub row) m = record m { told = record m.told { subs = placed_by (λ s. s.number) row m.told.subs } }
-matching_after (ForgetSub number) m = record m { told = record m.told { subs = filter (λ s. not (s.number == number)) m.told.subs } }
-matching_after (TellQueryable row) m = record m { told = record m.told { queryables = placed_by (λ q. q.number) row m.told.queryables } }
+matching_after (TellSub row) m = record m { remote_entities = record m.remote_entities { subs = placed_by (λ s. s.number) row m.remote_entities.subs } }
+matching_after (ForgetSub number) m = record m { remote_entities = record m.remote_entities { subs = filter (λ s. not (s.number == number)) m.remote_entities.subs } }
+matching_after (TellQueryable row) m = record m { remote_entities = record m.remote_entities { queryables = placed_by (λ q. q.number) row m.remote_entities.queryables } }
 matching_after (ForgetQueryable number) m = record m {
-  told = record m.told { queryables = filter (λ q. not (q.number == number)) m.told.queryables };
+  remote_entities = record m.remote_entities { queryables = filter (λ q. not (q.number == number)) m.remote_entities.queryables };
 }

@@ -34,9 +34,9 @@ pub record Entities : Type 0 where
 -- the keys that numbers stand for: those that this session declared, how many hold each of them, and those that the
 -- network told
 pub record DeclaredKeys : Type 0 where
-  pub own : List NumberedKey
+  pub local_resources : List NumberedKey
   pub holders : List KeyHolders
-  pub told : List NumberedKey
+  pub remote_resources : List NumberedKey
 
 -- all that a session is at a moment, as plain lists and counters
 pub record World : Type 0 where
@@ -55,11 +55,11 @@ pub record World : Type 0 where
 
 -- the tables that find subscribers by number, as they are at this moment
 abbrev pub tables_of : World → Contents
-tables_of w = record { rows = w.entities.subs; own = w.keys.own; told = w.keys.told }
+tables_of w = record { rows = w.entities.subs; own = w.keys.local_resources; told = w.keys.remote_resources }
 
 -- all that a listener may listen for
 abbrev pub present_at : World → List Candidate
-present_at w = candidates w.entities.subs w.entities.queryables w.matching.told
+present_at w = candidates w.entities.subs w.entities.queryables w.matching.remote_entities
 
 -- a session in which nothing is declared
 abbrev pub new_world : Settings → World
@@ -68,7 +68,7 @@ new_world s = record {
   closed = false;
   counters = record { entity = s.entity_start + 1; key = s.key_start };
   entities = record { subs = []; pubs = []; queryables = []; queriers = []; left_subs = []; left_queryables = [] };
-  keys = record { own = []; holders = []; told = [] };
+  keys = record { local_resources = []; holders = []; remote_resources = [] };
   groups = no_groups;
   asking = record { gets = []; next = s.query_start; moment = 0 };
   liveliness = no_liveliness;

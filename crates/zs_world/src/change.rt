@@ -1,7 +1,7 @@
 //! What an accepted event changes, part by part.
 
 ghost use Rattle.std.specs.Prelude.{◌≡◌, [], Some, None};
-ghost use Rattle.zs_world.specs.Turns.{decision_of};
+ghost use Rattle.zs_world.specs.Decisions.{decision_of};
 
 use crate::met::Met;
 use std::alloc::Global;
@@ -11,8 +11,8 @@ use zs_model::{PubRow, QuerierRow};
 use zs_query::{GetRow, RequestRow};
 use zs_sample::Reply;
 use zs_tables::{
-    ListenerRow, LivelinessGet, LivelinessSub, QueryableRow, SubRow, ToldQueryable, ToldSub,
-    ToldToken,
+    ListenerRow, LivelinessGet, LivelinessSub, QueryableRow, RemoteQueryable, RemoteSubscriber,
+    RemoteToken, SubRow,
 };
 
 /// What an accepted event makes of the keys that the session declared.
@@ -66,7 +66,7 @@ pub enum LivelinessChange {
     /// A get of tokens has had all, and ends.
     EndAsking { number: u32 },
     /// The network told a token.
-    RecordToken { token: ToldToken },
+    RecordToken { token: RemoteToken },
     /// The network ended a token.
     ForgetToken { number: u32 },
 }
@@ -111,21 +111,21 @@ pub enum ValueChange {
 /// What an accepted event makes of the cancellation tokens.
 #[derive(Drop)]
 pub enum CancellationChange {
-    /// A token is made: it draws a number.
+    /// A cancellation token is made: it draws a number.
     Draw,
-    /// A token is taken, and its gets end.
-    Take { token: u32 },
+    /// A cancellation token is taken, and its gets end.
+    Take { cancellation_token: u32 },
 }
 
 /// What an accepted event makes of those whom the network tells and a listener can match.
 #[derive(Drop)]
 pub enum MatchingChange {
     /// The network tells a subscriber, in place of one of its number.
-    TellSub { row: ToldSub },
+    TellSub { row: RemoteSubscriber },
     /// The network ends a subscriber.
     ForgetSub { number: u32 },
     /// The network tells a queryable, in place of one of its number.
-    TellQueryable { row: ToldQueryable },
+    TellQueryable { row: RemoteQueryable },
     /// The network ends a queryable.
     ForgetQueryable { number: u32 },
 }

@@ -19,7 +19,7 @@ pub trait Entity: Drop {
 
     /// Whom it is for: where the network is among them, it is told of the entity.
     fn destination(&self) -> Locality
-        ensures { has_network result ≡ (shared self.now).told };
+        ensures { has_network result ≡ (shared self.now).is_announced };
 
     /// Its key.
     fn key(&self) -> &KeyExpr<'static>

@@ -15,7 +15,7 @@ pub use liveliness::Liveliness;
 pub use matching::Matching;
 pub use met::Met;
 pub use session_tables::{
-    SessionTables, own_queryable_of, own_sub_of, told_queryable_of, told_sub_of,
+    SessionTables, own_queryable_of, own_sub_of, remote_queryable_of, remote_subscriber_of,
 };
 
 mod change;

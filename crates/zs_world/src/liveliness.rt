@@ -6,13 +6,13 @@ ghost use Rattle.zs_model.specs.Liveliness.{no_liveliness, shut_liveliness};
 ghost use Rattle.zs_world.specs.LivelinessChanges.{liveliness_after, next_behind, LivelinessFits};
 ghost use Rattle.zs_tables.specs.Ascending.{placed_by};
 ghost use Rattle.zs_tables.specs.Liveliness.{put_new};
-ghost use Rattle.zs_tables.specs.LivelinessGets.{waiting_at, without_token};
+ghost use Rattle.zs_tables.specs.LivelinessGets.{waiting_at, without_cancellation_token};
 
 use crate::change::LivelinessChange;
 use crate::id_set::IdSet;
 use std::alloc::{AllocError, Global};
 use std::marker::Model;
-use zs_tables::{LivelinessGets, LivelinessSub, LivelinessSubs, ToldTokens};
+use zs_tables::{LivelinessGets, LivelinessSub, LivelinessSubs, RemoteTokens};
 
 /// What a session knows of liveliness. No call that answers want of memory has changed anything.
 #[derive(Drop)]
@@ -21,7 +21,7 @@ pub struct Liveliness {
     tokens: IdSet,
     subs: LivelinessSubs,
     left: IdSet,
-    told: ToldTokens,
+    remote_tokens: RemoteTokens,
     gets: LivelinessGets,
 }
 
@@ -30,7 +30,7 @@ impl Model for Liveliness {
 
     ghost Value = { Liveliness };
 
-    ghost view = { λ l. record { tokens = l.tokens; subs = l.subs; left = l.left; told = l.told; gets = l.gets } };
+    ghost view = { λ l. record { tokens = l.tokens; subs = l.subs; left = l.left; remote_tokens = l.remote_tokens; gets = l.gets } };
 }
 
 impl Liveliness {
@@ -41,7 +41,7 @@ impl Liveliness {
             tokens: IdSet::new(alloc),
             subs: LivelinessSubs::new(alloc),
             left: IdSet::new(alloc),
-            told: ToldTokens::new(alloc),
+            remote_tokens: RemoteTokens::new(alloc),
             gets: LivelinessGets::new(alloc),
         }
     }
@@ -68,10 +68,10 @@ impl Liveliness {
     }
 
     /// The tokens that the network told.
-    pub fn told(&self) -> &ToldTokens
-        ensures { result.now ≡ self.now.told }
+    pub fn remote_tokens(&self) -> &RemoteTokens
+        ensures { result.now ≡ self.now.remote_tokens }
     {
-        &self.told
+        &self.remote_tokens
     }
 
     /// The open gets of tokens.
@@ -130,9 +130,9 @@ impl Liveliness {
                 self.gets.end(number);
                 Ok(())
             }
-            LivelinessChange::RecordToken { token } => self.told.record(token),
+            LivelinessChange::RecordToken { token } => self.remote_tokens.record(token),
             LivelinessChange::ForgetToken { number } => {
-                self.told.forget(number);
+                self.remote_tokens.forget(number);
                 Ok(())
             }
         }
@@ -146,10 +146,10 @@ impl Liveliness {
     }
 
     /// Ends the gets that have a cancellation token.
-    pub fn end_token(&mut self, token: u32)
-        ensures { self.new ≡ record self.old { gets = without_token token self.old.gets } }
+    pub fn end_cancelled_by(&mut self, cancellation_token: u32)
+        ensures { self.new ≡ record self.old { gets = without_cancellation_token cancellation_token self.old.gets } }
     {
-        self.gets.end_token(token);
+        self.gets.end_cancelled_by(cancellation_token);
     }
 
     /// Nothing that the application declared or asked lives any more.

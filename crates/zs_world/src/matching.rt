@@ -8,7 +8,9 @@ ghost use Rattle.zs_world.specs.MatchingTables.{none_kept, shown};
 use crate::id_set::IdSet;
 use std::alloc::{AllocError, Global};
 use std::marker::Model;
-use zs_tables::{ListenerRow, ListenerTable, Recount, ToldQueryable, ToldSub, ToldTable};
+use zs_tables::{
+    ListenerRow, ListenerTable, Recount, RemoteQueryable, RemoteSubscriber, RemoteTable,
+};
 
 /// What a session knows of matching: its listeners, each with how many match, those of them that were left to themselves,
 /// and whom the network told. No call that answers want of memory has changed anything.
@@ -16,7 +18,7 @@ use zs_tables::{ListenerRow, ListenerTable, Recount, ToldQueryable, ToldSub, Tol
 pub struct Matching {
     listeners: ListenerTable,
     left: IdSet,
-    told: ToldTable,
+    remote_entities: RemoteTable,
 }
 
 impl Model for Matching {
@@ -24,7 +26,7 @@ impl Model for Matching {
 
     ghost Value = { Kept };
 
-    ghost view = { λ m. record { listeners = m.listeners; left = m.left; told = m.told } };
+    ghost view = { λ m. record { listeners = m.listeners; left = m.left; remote_entities = m.remote_entities } };
 }
 
 impl Matching {
@@ -34,7 +36,7 @@ impl Matching {
         Matching {
             listeners: ListenerTable::new(alloc),
             left: IdSet::new(alloc),
-            told: ToldTable::new(alloc),
+            remote_entities: RemoteTable::new(alloc),
         }
     }
 
@@ -53,10 +55,10 @@ impl Matching {
     }
 
     /// The subscribers and queryables that the network told.
-    pub fn told(&self) -> &ToldTable
-        ensures { result.now ≡ self.now.told }
+    pub fn remote_entities(&self) -> &RemoteTable
+        ensures { result.now ≡ self.now.remote_entities }
     {
-        &self.told
+        &self.remote_entities
     }
 
     /// A listener is there, whom so many match.
@@ -94,33 +96,33 @@ impl Matching {
     }
 
     /// The network tells a subscriber.
-    pub fn tell_sub(&mut self, row: ToldSub) -> Result<(), AllocError>
-        ensures ok { OnOk result (self.new ≡ record self.old { told = record self.old.told { subs = placed_by (λ s. s.number) row self.old.told.subs } }) }
+    pub fn tell_sub(&mut self, row: RemoteSubscriber) -> Result<(), AllocError>
+        ensures ok { OnOk result (self.new ≡ record self.old { remote_entities = record self.old.remote_entities { subs = placed_by (λ s. s.number) row self.old.remote_entities.subs } }) }
         ensures err { OnErr result (self.new ≡ self.old) }
     {
-        self.told.set_sub(row)
+        self.remote_entities.set_sub(row)
     }
 
     /// The network ends a subscriber.
     pub fn forget_sub(&mut self, number: u32)
-        ensures { self.new ≡ record self.old { told = record self.old.told { subs = filter (λ s. not (s.number == number)) self.old.told.subs } } }
+        ensures { self.new ≡ record self.old { remote_entities = record self.old.remote_entities { subs = filter (λ s. not (s.number == number)) self.old.remote_entities.subs } } }
     {
-        self.told.unset_sub(number);
+        self.remote_entities.unset_sub(number);
     }
 
     /// The network tells a queryable.
-    pub fn tell_queryable(&mut self, row: ToldQueryable) -> Result<(), AllocError>
-        ensures ok { OnOk result (self.new ≡ record self.old { told = record self.old.told { queryables = placed_by (λ q. q.number) row self.old.told.queryables } }) }
+    pub fn tell_queryable(&mut self, row: RemoteQueryable) -> Result<(), AllocError>
+        ensures ok { OnOk result (self.new ≡ record self.old { remote_entities = record self.old.remote_entities { queryables = placed_by (λ q. q.number) row self.old.remote_entities.queryables } }) }
         ensures err { OnErr result (self.new ≡ self.old) }
     {
-        self.told.set_queryable(row)
+        self.remote_entities.set_queryable(row)
     }
 
     /// The network ends a queryable.
     pub fn forget_queryable(&mut self, number: u32)
-        ensures { self.new ≡ record self.old { told = record self.old.told { queryables = filter (λ q. not (q.number == number)) self.old.told.queryables } } }
+        ensures { self.new ≡ record self.old { remote_entities = record self.old.remote_entities { queryables = filter (λ q. not (q.number == number)) self.old.remote_entities.queryables } } }
     {
-        self.told.unset_queryable(number);
+        self.remote_entities.unset_queryable(number);
     }
 
     /// Sets how many match.

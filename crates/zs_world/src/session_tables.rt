@@ -11,7 +11,7 @@ use crate::id_set::IdSet;
 use crate::key_holders::KeyHolderCounts;
 use crate::liveliness::Liveliness;
 use crate::matching::Matching;
-pub use candidates::{own_queryable_of, own_sub_of, told_queryable_of, told_sub_of};
+pub use candidates::{own_queryable_of, own_sub_of, remote_queryable_of, remote_subscriber_of};
 use std::alloc::{AllocError, Global};
 use std::marker::Model;
 use zs_model::{PubRow, QuerierRow, Settings};
@@ -117,7 +117,7 @@ impl Model for SessionTables {
         left_subs = s.left_subs;
         left_queryables = s.left_queryables;
       };
-      keys = record { own = s.tables.own; holders = s.holders.rows; told = s.tables.told };
+      keys = record { local_resources = s.tables.own; holders = s.holders.rows; remote_resources = s.tables.told };
       groups = s.groups;
       asking = s.asking;
       liveliness = s.liveliness;
@@ -128,7 +128,7 @@ impl Model for SessionTables {
 
     ghost use Rattle.zs_world.specs.Bounds.{AreBelow};
 
-    ghost invariant = { λ s. AreBelow s.next_entity s.tables.rows s.publishers s.queryables s.queriers s.groups s.matching.told s.matching.listeners };
+    ghost invariant = { λ s. AreBelow s.next_entity s.tables.rows s.publishers s.queryables s.queriers s.groups s.matching.remote_entities s.matching.listeners };
 }
 
 impl SessionTables {

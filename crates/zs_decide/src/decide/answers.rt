@@ -4,7 +4,7 @@ ghost use Rattle.std.specs.Prelude.{◌≡◌, ◌∷◌, [], Some, None, true, 
 ghost use Rattle.zs_keys.specs.Key.{undeclared};
 ghost use Rattle.zs_events.specs.declared.turn.Effect.{Effect};
 ghost use Rattle.zs_wire.specs.declared.message.Message.{Message};
-ghost use Rattle.zs_world.specs.Turns.{known_at, own_keys_at, decision_of, replied_by, answered_by, answer_decision, error_answer_decision};
+ghost use Rattle.zs_world.specs.Decisions.{known_at, own_keys_at, decision_of, replied_by, answered_by, answer_decision, error_answer_decision};
 ghost use Rattle.zs_model.specs.Effects.{answering, key_wire};
 ghost use Rattle.zs_world.specs.Changes.{replied_change};
 ghost use Rattle.zs_model.specs.Answers.{quality_of, replier_of, is_refused_on};

@@ -2,7 +2,7 @@
 
 ghost use Rattle.std.specs.Prelude.{◌≡◌, IfOk};
 ghost use Rattle.zs_model.specs.Cancelling.{is_drawn, is_any, is_among};
-ghost use Rattle.zs_world.specs.Turns.{open_decision};
+ghost use Rattle.zs_world.specs.Decisions.{open_decision};
 
 use std::alloc::AllocError;
 use zs_events::{Effects, Event, Refusal};
@@ -21,36 +21,46 @@ pub(super) fn decide_cancel_token(world: &SessionTables) -> Result<Decision, All
     Ok(Decision::quiet(world.alloc, Some(number), change))
 }
 
-pub(super) fn decide_cancel(world: &SessionTables, token: u32) -> Result<Decision, AllocError>
-    ensures { IfOk result (λ made. made ≡ open_decision world.now (Event.Cancel token)) }
+pub(super) fn decide_cancel(
+    world: &SessionTables,
+    cancellation_token: u32,
+) -> Result<Decision, AllocError>
+    ensures { IfOk result (λ made. made ≡ open_decision world.now (Event.Cancel cancellation_token)) }
 {
-    if !is_drawn(world, Some(token)) {
+    if !is_drawn(world, Some(cancellation_token)) {
         return Ok(Decision::refused(world.alloc, Refusal::NotFound));
     }
     let mut effects = Effects::new(world.alloc);
-    let asking = world.liveliness.gets().numbers_with(world.alloc, token)?;
-    push_cut_gets(world.asking.gets(), Ender::Token(token), &mut effects)?;
+    let asking = world
+        .liveliness
+        .gets()
+        .numbers_with(world.alloc, cancellation_token)?;
+    push_cut_gets(
+        world.asking.gets(),
+        Ender::CancellationToken(cancellation_token),
+        &mut effects,
+    )?;
     push_asking_ends(&asking, &mut effects)?;
-    let change = Change::OfCancellation(CancellationChange::Take { token });
+    let change = Change::OfCancellation(CancellationChange::Take { cancellation_token });
     Ok(Decision::of(effects, change))
 }
 
-/// Whether a token was drawn, if one is named.
-pub(super) fn is_drawn(world: &SessionTables, token: Option<u32>) -> bool
-    ensures { result ≡ is_drawn world.now.cancelling.next token }
+/// Whether a cancellation token was drawn, if one is named.
+pub(super) fn is_drawn(world: &SessionTables, cancellation_token: Option<u32>) -> bool
+    ensures { result ≡ is_drawn world.now.cancelling.next cancellation_token }
 {
-    match token {
-        Some(token) => token < world.next_cancellation_token,
+    match cancellation_token {
+        Some(cancellation_token) => cancellation_token < world.next_cancellation_token,
         None => true,
     }
 }
 
-/// Whether a token was taken, if one is named.
-pub(super) fn was_cancelled(world: &SessionTables, token: Option<u32>) -> bool
-    ensures { result ≡ is_any (is_among world.now.cancelling.taken) token }
+/// Whether a cancellation token was taken, if one is named.
+pub(super) fn was_cancelled(world: &SessionTables, cancellation_token: Option<u32>) -> bool
+    ensures { result ≡ is_any (is_among world.now.cancelling.taken) cancellation_token }
 {
-    match token {
-        Some(token) => world.taken_cancellation_tokens.contains(token),
+    match cancellation_token {
+        Some(cancellation_token) => world.taken_cancellation_tokens.contains(cancellation_token),
         None => false,
     }
 }

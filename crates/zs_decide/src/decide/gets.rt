@@ -3,7 +3,7 @@
 ghost use Rattle.std.specs.Prelude.{◌≡◌, Some, None, true, IfOk, IsOk};
 ghost use Rattle.zs_keys.specs.Text.{is_canonical};
 ghost use Rattle.zs_keys.specs.Key.{undeclared};
-ghost use Rattle.zs_world.specs.Turns.{named_wire, open_decision, ask_decision, unmet_decision, met_decision, heard_reply, heard_final, reply_decision_on, reply_decision, error_decision};
+ghost use Rattle.zs_world.specs.Decisions.{named_wire, open_decision, ask_decision, unmet_decision, met_decision, heard_reply, heard_final, reply_decision_on, reply_decision, error_decision};
 ghost use Rattle.zs_model.specs.Gets.{sample_reply, error_reply, is_unmet, is_unwanted};
 ghost use Rattle.zs_model.specs.GetEffects.{request_sends, unmet_effects};
 ghost use Rattle.zs_model.specs.Values.{met_by_get};

@@ -2,7 +2,7 @@
 
 ghost use Rattle.std.specs.Prelude.{◌≡◌, ◌∷◌, [], Some, None, IfOk};
 ghost use Rattle.zs_events.specs.declared.chan.Chan.{Chan};
-ghost use Rattle.zs_world.specs.Turns.{own_keys_at, open_decision};
+ghost use Rattle.zs_world.specs.Decisions.{own_keys_at, open_decision};
 ghost use Rattle.zs_model.specs.Effects.{key_wire, lsub_mode, token_interest};
 ghost use Rattle.zs_model.specs.LivelinessEffects.{history_hands};
 ghost use Rattle.zs_events.specs.declared.turn.Effect.{Effect};
@@ -139,7 +139,7 @@ pub(super) fn decide_liveliness_get(
     let row = LivelinessGet {
         number,
         key: into_owned(world.alloc, resolved)?,
-        token,
+        cancellation_token: token,
         deadline: world.asking.moment().saturating_add(timeout),
     };
     let change = Change::OfLiveliness(LivelinessChange::AskTokens { row });
@@ -179,13 +179,13 @@ fn lsub_effects(
 ) -> Result<Effects, AllocError>
     ensures { IfOk result (λ effects. effects
         ≡ Effect.Send (token_interest (lsub_mode history) id (key_wire (own_keys_at world.now) resolved.now.text key.now))
-        ∷ history_hands history (Some id) (Some resolved.now.text) world.now.liveliness.told) }
+        ∷ history_hands history (Some id) (Some resolved.now.text) world.now.liveliness.remote_tokens) }
 {
     let mut effects = ask_of_tokens(world, id, lsub_mode(history), key, resolved)?;
     if !history {
         return Ok(effects);
     }
-    let keys = world.liveliness.told().met_keys(resolved)?;
+    let keys = world.liveliness.remote_tokens().met_keys(resolved)?;
     hand_keys(world.alloc, id, keys, &mut effects)?;
     Ok(effects)
 }

@@ -1,15 +1,15 @@
 //! Messages from the network.
 
 ghost use Rattle.std.specs.Prelude.{◌≡◌, IfOk};
-ghost use Rattle.zs_world.specs.Turns.{open_decision};
+ghost use Rattle.zs_world.specs.Decisions.{open_decision};
 
 use super::gets::{decide_response, decide_response_final};
-use super::tokens::{decide_answered, decide_ended_token, decide_told_token};
+use super::tokens::{decide_answered, decide_ended_token, decide_remote_token};
 use super::values::decide_request;
 use std::alloc::AllocError;
 use zs_announcing::{
-    decide_ended_queryable, decide_ended_sub, decide_incoming, decide_told_queryable,
-    decide_told_sub, resolve_wire,
+    decide_ended_queryable, decide_ended_sub, decide_incoming, decide_remote_queryable,
+    decide_remote_subscriber, resolve_wire,
 };
 use zs_events::{Event, Refusal};
 use zs_making::content::incoming_content;
@@ -30,14 +30,14 @@ pub(super) fn decide_message(
             let content = incoming_content(world.alloc, push)?;
             decide_incoming(world, &push.wire, content)
         }
-        Message::DeclareSubscriber { id, wire } => decide_told_sub(world, *id, wire),
+        Message::DeclareSubscriber { id, wire } => decide_remote_subscriber(world, *id, wire),
         Message::DeclareQueryable { id, complete, wire } => {
-            decide_told_queryable(world, *id, *complete, wire)
+            decide_remote_queryable(world, *id, *complete, wire)
         }
         Message::UndeclareSubscriber { id } => decide_ended_sub(world, *id),
         Message::UndeclareQueryable { id } => decide_ended_queryable(world, *id),
         Message::DeclareToken { id, wire, interest } => {
-            decide_told_token(world, *id, wire, *interest)
+            decide_remote_token(world, *id, wire, *interest)
         }
         Message::UndeclareToken { id, wire, interest } => {
             decide_ended_token(world, *id, wire, *interest)

@@ -3,9 +3,9 @@
 ghost use Rattle.std.specs.Prelude.{◌≡◌, ◌==◌, [], Some, None, IfOk};
 ghost use Rattle.std.specs.List.{find};
 ghost use Rattle.zs_keys.specs.Key.{undeclared};
-ghost use Rattle.zs_world.specs.Turns.{watch_at, open_decision, decision_of, told_decision, ended_decision, ended_on};
+ghost use Rattle.zs_world.specs.Decisions.{watch_at, open_decision, decision_of, remote_token_decision, ended_decision, ended_on};
 ghost use Rattle.zs_model.specs.Tokens.{answers};
-ghost use Rattle.zs_model.specs.LivelinessEffects.{token_sample, end_asking, token_hands, told_hands};
+ghost use Rattle.zs_model.specs.LivelinessEffects.{token_sample, end_asking, token_hands, declared_hands};
 
 use std::alloc::AllocError;
 use zs_announcing::resolve_wire;
@@ -15,12 +15,12 @@ use zs_making::keys::is_blank;
 use zs_making::tokens::{answer, end_asking, hand_copies, token_sample};
 use zs_model::into_owned;
 use zs_sample::SampleKind;
-use zs_tables::ToldToken;
+use zs_tables::RemoteToken;
 use zs_wire::{Message, WireExpr};
 use zs_world::{Change, Decision, LivelinessChange, SessionTables};
 
 /// A token that the network tells.
-pub(super) fn decide_told_token(
+pub(super) fn decide_remote_token(
     world: &SessionTables,
     id: u32,
     wire: &WireExpr,
@@ -42,15 +42,15 @@ fn hear_token(
     interest: Option<u32>,
 ) -> Result<Decision, AllocError>
     requires { key ≡ undeclared key.text }
-    ensures { IfOk result (λ made. made ≡ told_decision world.now id interest key.entry.text) }
+    ensures { IfOk result (λ made. made ≡ remote_token_decision world.now id interest key.entry.text) }
 {
     if answers_get(world, interest) {
         let effects = answer(world.alloc, interest, key)?;
         return Ok(Decision::of(effects, Change::Nothing));
     }
-    let effects = hand_told(world, id, interest, &key)?;
+    let effects = hand_declared(world, id, interest, &key)?;
     let key = into_owned(world.alloc, key)?;
-    let token = ToldToken { number: id, key };
+    let token = RemoteToken { number: id, key };
     let change = Change::OfLiveliness(LivelinessChange::RecordToken { token });
     Ok(Decision::of(effects, change))
 }
@@ -66,15 +66,15 @@ fn answers_get(world: &SessionTables, interest: Option<u32>) -> bool
 }
 
 /// A told token is for the subscribers that hear of it, unless its number is known.
-fn hand_told(
+fn hand_declared(
     world: &SessionTables,
     id: u32,
     interest: Option<u32>,
     key: &KeyExpr<'_>,
 ) -> Result<Effects, AllocError>
-    ensures { IfOk result (λ effects. effects ≡ told_hands (watch_at world.now) id interest (Some key.now.text)) }
+    ensures { IfOk result (λ effects. effects ≡ declared_hands (watch_at world.now) id interest (Some key.now.text)) }
 {
-    if world.liveliness.told().has(id) {
+    if world.liveliness.remote_tokens().has(id) {
         return Ok(Effects::new(world.alloc));
     }
     hand_token(world, SampleKind::Put, interest.is_some(), key)
@@ -89,7 +89,7 @@ pub(super) fn decide_ended_token(
 ) -> Result<Decision, AllocError>
     ensures { IfOk result (λ made. made ≡ open_decision world.now (Event.Net (Message.UndeclareToken id wire.now interest))) }
 {
-    if let Some(token) = world.liveliness.told().find(id) {
+    if let Some(token) = world.liveliness.remote_tokens().find(id) {
         return end_token(world, id, &token.key, interest);
     }
     match wire {
@@ -105,7 +105,7 @@ fn decide_ended_by(
     wire: &WireExpr,
     interest: Option<u32>,
 ) -> Result<Decision, AllocError>
-    requires { find (λ token. token.number == id) world.now.liveliness.told ≡ None }
+    requires { find (λ token. token.number == id) world.now.liveliness.remote_tokens ≡ None }
     ensures { IfOk result (λ made. made ≡ open_decision world.now (Event.Net (Message.UndeclareToken id (Some wire.now) interest))) }
 {
     if is_blank(wire) {

@@ -5,7 +5,7 @@ ghost use Rattle.zs_query.specs.Unfinished.{value_at, values_from, finished_as};
 ghost use Rattle.zs_tables.specs.Queryables.{met};
 ghost use Rattle.zs_world.specs.Changes.{HasRoom};
 ghost use Rattle.zs_model.specs.GetEffects.{hand_query};
-ghost use Rattle.zs_world.specs.Turns.{open_decision, finished_decision};
+ghost use Rattle.zs_world.specs.Decisions.{open_decision, finished_decision};
 ghost use Rattle.zs_model.specs.Values.{wants_complete, met_by_request, network_request, lacks_values};
 ghost use Rattle.zs_model.specs.ValueEffects.{requested_effects, finish_effects};
 ghost use Rattle.zs_query.specs.Types.{Finished};

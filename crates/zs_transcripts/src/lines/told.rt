@@ -76,7 +76,9 @@ fn asking_told(alloc: Global, event: &Event) -> Result<String, AllocError> {
         Event::Listen { parent, id } => format!(in alloc; "listen {parent:?} {id}"),
         Event::Status { parent, id } => format!(in alloc; "status {parent:?} {id}"),
         Event::CancelToken => String::from_str(alloc, "ctoken"),
-        Event::Cancel { token } => format!(in alloc; "cancel {token}"),
+        Event::Cancel {
+            cancellation_token: token,
+        } => format!(in alloc; "cancel {token}"),
         Event::Token { key } => keyed(alloc, "token", key),
         Event::Lsub { history, key } => lsub_told(alloc, *history, key),
         Event::LivelinessGet {

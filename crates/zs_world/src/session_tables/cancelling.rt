@@ -21,18 +21,20 @@ impl SessionTables {
                 self.next_cancellation_token += 1;
                 Ok(())
             }
-            CancellationChange::Take { token } => self.take_cancellation_token(token),
+            CancellationChange::Take { cancellation_token } => self.take_cancellation_token(
+                cancellation_token,
+            ),
         }
     }
 
-    /// A token is taken, and its gets end, those of tokens too.
-    fn take_cancellation_token(&mut self, token: u32) -> Result<(), AllocError>
-        ensures ok { OnOk result (self.new ≡ with_change (Change.OfCancellation (CancellationChange.Take token)) self.old) }
+    /// A cancellation token is taken, and its gets end, those of tokens too.
+    fn take_cancellation_token(&mut self, cancellation_token: u32) -> Result<(), AllocError>
+        ensures ok { OnOk result (self.new ≡ with_change (Change.OfCancellation (CancellationChange.Take cancellation_token)) self.old) }
         ensures err { OnErr result (self.new ≡ self.old) }
     {
-        self.taken_cancellation_tokens.insert(token)?;
-        self.asking.end_token(token);
-        self.liveliness.end_token(token);
+        self.taken_cancellation_tokens.insert(cancellation_token)?;
+        self.asking.end_cancelled_by(cancellation_token);
+        self.liveliness.end_cancelled_by(cancellation_token);
         Ok(())
     }
 }

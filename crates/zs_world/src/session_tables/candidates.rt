@@ -3,10 +3,10 @@
 ghost use Rattle.std.specs.Prelude.{◌≡◌, ◌==◌, IfOk, option_map};
 ghost use Rattle.std.specs.List.{find};
 ghost use Rattle.zs_tables.specs.Ascending.{Ascend};
-ghost use Rattle.zs_tables.specs.Matching.{own_sub, own_queryable, told_sub, told_queryable, seen_if, recounts};
+ghost use Rattle.zs_tables.specs.Matching.{own_sub, own_queryable, remote_subscriber, remote_queryable, seen_if, recounts};
 
 use std::alloc::AllocError;
-use zs_tables::{Candidate, ListenerTable, QueryableTable, Recount, Tables, ToldTable};
+use zs_tables::{Candidate, ListenerTable, QueryableTable, Recount, RemoteTable, Tables};
 
 /// What becomes of the counts where one candidate goes and another one comes.
 pub(super) fn recounts_of(
@@ -42,21 +42,21 @@ pub fn own_queryable_of(queryables: &QueryableTable, id: u32) -> Option<Candidat
 }
 
 /// The subscriber that the network told of that number.
-pub fn told_sub_of(told: &ToldTable, number: u32) -> Option<Candidate<'_>>
-    ensures { seen_if result ≡ option_map told_sub (find (λ row. row.number == number) told.now.subs) }
+pub fn remote_subscriber_of(told: &RemoteTable, number: u32) -> Option<Candidate<'_>>
+    ensures { seen_if result ≡ option_map remote_subscriber (find (λ row. row.number == number) told.now.subs) }
 {
     match told.find_sub(number) {
-        Some(row) => Some(Candidate::told_sub(row)),
+        Some(row) => Some(Candidate::remote_subscriber(row)),
         None => None,
     }
 }
 
 /// The queryable that the network told of that number.
-pub fn told_queryable_of(told: &ToldTable, number: u32) -> Option<Candidate<'_>>
-    ensures { seen_if result ≡ option_map told_queryable (find (λ row. row.number == number) told.now.queryables) }
+pub fn remote_queryable_of(told: &RemoteTable, number: u32) -> Option<Candidate<'_>>
+    ensures { seen_if result ≡ option_map remote_queryable (find (λ row. row.number == number) told.now.queryables) }
 {
     match told.find_queryable(number) {
-        Some(row) => Some(Candidate::told_queryable(row)),
+        Some(row) => Some(Candidate::remote_queryable(row)),
         None => None,
     }
 }

@@ -30,10 +30,10 @@ pub(super) fn add_to_group<R: Entity>(
     ensures same_groups { OnErr result (groups.new ≡ groups.old) }
 {
     let id = row.id();
-    let told = has_network(row.destination());
+    let is_announced = has_network(row.destination());
     let key = copy_of(alloc, row.key())?;
     table.add(row)?;
-    if let Err(error) = join_group(groups, kind, aggregates, told, &key, id) {
+    if let Err(error) = join_group(groups, kind, aggregates, is_announced, &key, id) {
         table.remove(id);
         return Err(error);
     }
@@ -50,8 +50,8 @@ pub(super) fn leave_found<R: Entity>(
     ensures { groups.new ≡ with_groups kind (left_found aggregates.now (option_map R.shared (option_copied row.entry)) (groups_of kind groups.old)) groups.old }
 {
     if let Some(row) = row {
-        let told = has_network(row.destination());
-        leave_group(groups, kind, aggregates, told, row.key(), row.id());
+        let is_announced = has_network(row.destination());
+        leave_group(groups, kind, aggregates, is_announced, row.key(), row.id());
     }
 }
 
@@ -60,16 +60,16 @@ pub(super) fn join_group(
     groups: &mut Groups,
     kind: GroupKind,
     aggregates: &KeyList,
-    told: bool,
+    is_announced: bool,
     key: &KeyExpr<'static>,
     id: u32,
 ) -> Result<(), AllocError>
     requires { All (λ member. member ≢ id) (members_of (share_text aggregates.now key.now.text) (groups_of kind groups.old)) }
     ensures ok { OnOk result (groups.new ≡ with_groups kind
-        (joined_by aggregates.now (record { id = id; told = told; text = key.now.text }) (groups_of kind groups.old)) groups.old) }
+        (joined_by aggregates.now (record { id = id; is_announced = is_announced; text = key.now.text }) (groups_of kind groups.old)) groups.old) }
     ensures err { OnErr result (groups.new ≡ groups.old) }
 {
-    if !told {
+    if !is_announced {
         return Ok(());
     }
     groups.join(kind, share_text(aggregates, key), id)?;
@@ -81,14 +81,14 @@ fn leave_group(
     groups: &mut Groups,
     kind: GroupKind,
     aggregates: &KeyList,
-    told: bool,
+    is_announced: bool,
     key: &KeyExpr<'static>,
     id: u32,
 )
     ensures { groups.new ≡ with_groups kind
-        (left_by aggregates.now (record { id = id; told = told; text = key.now.text }) (groups_of kind groups.old)) groups.old }
+        (left_by aggregates.now (record { id = id; is_announced = is_announced; text = key.now.text }) (groups_of kind groups.old)) groups.old }
 {
-    if told {
+    if is_announced {
         groups.leave(kind, share_text(aggregates, key), id);
     }
 }

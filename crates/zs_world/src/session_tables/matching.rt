@@ -7,21 +7,21 @@ ghost use Rattle.zs_world.specs.Changes.{with_change};
 ghost use Rattle.zs_world.specs.EntityChanges.{EntitiesFit};
 
 use super::SessionTables;
-use super::candidates::{recounts_of, told_queryable_of, told_sub_of};
+use super::candidates::{recounts_of, remote_queryable_of, remote_subscriber_of};
 use crate::change::{Change, EntityChange, EntityRow, MatchingChange};
 use std::alloc::AllocError;
 use zs_events::EntityKind;
-use zs_tables::{Candidate, ListenerRow, Present, ToldQueryable, ToldSub};
+use zs_tables::{Candidate, ListenerRow, Present, RemoteQueryable, RemoteSubscriber};
 
 impl SessionTables {
     /// Those whom a listener may listen for.
     pub fn present(&self) -> Present<'_>
-        ensures { candidates result.tables.now.rows result.queryables.now result.told.now ≡ present_at self.now }
+        ensures { candidates result.tables.now.rows result.queryables.now result.remote_entities.now ≡ present_at self.now }
     {
         Present {
             tables: &self.tables,
             queryables: &self.queryables,
-            told: self.matching.told(),
+            remote_entities: self.matching.remote_entities(),
         }
     }
 
@@ -55,13 +55,13 @@ impl SessionTables {
         self.matching.end(id);
     }
 
-    fn tell_sub(&mut self, row: ToldSub) -> Result<(), AllocError>
+    fn tell_sub(&mut self, row: RemoteSubscriber) -> Result<(), AllocError>
         ensures ok { OnOk result (self.new ≡ with_change (Change.OfMatching (MatchingChange.TellSub row)) self.old) }
         ensures err { OnErr result (self.new ≡ self.old) }
     {
-        let _ascending = self.matching.told().sub_count();
-        let goes = told_sub_of(self.matching.told(), row.number);
-        let comes = Some(Candidate::told_sub(&row));
+        let _ascending = self.matching.remote_entities().sub_count();
+        let goes = remote_subscriber_of(self.matching.remote_entities(), row.number);
+        let comes = Some(Candidate::remote_subscriber(&row));
         let recounts = recounts_of(self.matching.listeners(), goes, comes)?;
         self.matching.tell_sub(row)?;
         self.matching.recount(&recounts);
@@ -72,21 +72,21 @@ impl SessionTables {
         ensures ok { OnOk result (self.new ≡ with_change (Change.OfMatching (MatchingChange.ForgetSub number)) self.old) }
         ensures err { OnErr result (self.new ≡ self.old) }
     {
-        let _ascending = self.matching.told().sub_count();
-        let goes = told_sub_of(self.matching.told(), number);
+        let _ascending = self.matching.remote_entities().sub_count();
+        let goes = remote_subscriber_of(self.matching.remote_entities(), number);
         let recounts = recounts_of(self.matching.listeners(), goes, None)?;
         self.matching.forget_sub(number);
         self.matching.recount(&recounts);
         Ok(())
     }
 
-    fn tell_queryable(&mut self, row: ToldQueryable) -> Result<(), AllocError>
+    fn tell_queryable(&mut self, row: RemoteQueryable) -> Result<(), AllocError>
         ensures ok { OnOk result (self.new ≡ with_change (Change.OfMatching (MatchingChange.TellQueryable row)) self.old) }
         ensures err { OnErr result (self.new ≡ self.old) }
     {
-        let _ascending = self.matching.told().queryable_count();
-        let goes = told_queryable_of(self.matching.told(), row.number);
-        let comes = Some(Candidate::told_queryable(&row));
+        let _ascending = self.matching.remote_entities().queryable_count();
+        let goes = remote_queryable_of(self.matching.remote_entities(), row.number);
+        let comes = Some(Candidate::remote_queryable(&row));
         let recounts = recounts_of(self.matching.listeners(), goes, comes)?;
         self.matching.tell_queryable(row)?;
         self.matching.recount(&recounts);
@@ -97,8 +97,8 @@ impl SessionTables {
         ensures ok { OnOk result (self.new ≡ with_change (Change.OfMatching (MatchingChange.ForgetQueryable number)) self.old) }
         ensures err { OnErr result (self.new ≡ self.old) }
     {
-        let _ascending = self.matching.told().queryable_count();
-        let goes = told_queryable_of(self.matching.told(), number);
+        let _ascending = self.matching.remote_entities().queryable_count();
+        let goes = remote_queryable_of(self.matching.remote_entities(), number);
         let recounts = recounts_of(self.matching.listeners(), goes, None)?;
         self.matching.forget_queryable(number);
         self.matching.recount(&recounts);

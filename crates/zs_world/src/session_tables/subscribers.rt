@@ -85,10 +85,17 @@ fn add_to_group(
     ensures same_groups { OnErr result (groups.new ≡ groups.old) }
 {
     let id = row.id;
-    let told = has_network(row.origin);
+    let is_announced = has_network(row.origin);
     let key = copy_of(alloc, &row.key)?;
     tables.add(row)?;
-    if let Err(error) = join_group(groups, GroupKind::Subscribers, aggregates, told, &key, id) {
+    if let Err(error) = join_group(
+        groups,
+        GroupKind::Subscribers,
+        aggregates,
+        is_announced,
+        &key,
+        id,
+    ) {
         tables.remove(id);
         return Err(error);
     }

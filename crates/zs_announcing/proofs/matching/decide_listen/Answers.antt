@@ -8,7 +8,7 @@ use Rattle.zs_model.specs.Settings.{last_entity}
 use Rattle.zs_model.specs.Counters.{is_spent}
 use Rattle.zs_world.specs.World.{World}
 use Rattle.zs_model.specs.Listeners.{listening}
-use Rattle.zs_world.specs.Turns.{decision_of}
+use Rattle.zs_world.specs.Decisions.{decision_of}
 use Rattle.zs_announcing.proofs.Listening.{listen_missing, listen_there, listen_spent, spent_is, unspent_is}
 use Rattle.zs_announcing.proofs.matching.decide_listen.Goals as goal
 

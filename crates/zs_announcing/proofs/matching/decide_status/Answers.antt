@@ -8,7 +8,7 @@ use Rattle.zs_world.specs.declared.change.Change.TheVariants.{Nothing}
 use Rattle.zs_world.specs.World.{World, present_at}
 use Rattle.zs_model.specs.Listeners.{listening}
 use Rattle.zs_model.specs.Matching.{as_number}
-use Rattle.zs_world.specs.Turns.{decision_of}
+use Rattle.zs_world.specs.Decisions.{decision_of}
 use Rattle.zs_announcing.proofs.Listening.{status_missing, status_there}
 use Rattle.zs_announcing.proofs.matching.decide_status.Goals as goal
 

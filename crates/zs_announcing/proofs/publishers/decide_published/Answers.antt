@@ -3,7 +3,7 @@ use Rattle.zs_keys.specs.Key.{Key as a_key}
 use Rattle.zs_events.specs.Kinds.{OwnContent}
 use Rattle.zs_events.specs.declared.turn.Effect.{Effect}
 use Rattle.zs_world.specs.declared.change.Change.TheVariants.{Nothing}
-use Rattle.zs_world.specs.Turns.{decision_of, published_effects}
+use Rattle.zs_world.specs.Decisions.{decision_of, published_effects}
 use Rattle.zs_world.specs.World.{World}
 use Rattle.zs_model.specs.Publishers.{pub_at}
 use Rattle.zs_world.proofs.Publishers.{unpublished, published}

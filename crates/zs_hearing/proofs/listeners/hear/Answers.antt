@@ -5,7 +5,7 @@ use Rattle.zs_tables.specs.Matching.{candidates}
 use Rattle.zs_world.specs.declared.change.Change.{Change}
 use Rattle.zs_world.specs.World.{present_at}
 use Rattle.zs_world.specs.Changes.{with_change}
-use Rattle.zs_world.specs.Turns.{listener_effects_at}
+use Rattle.zs_world.specs.Decisions.{listener_effects_at}
 use Rattle.zs_world.proofs.Hearing.{quiet, between_none}
 use Rattle.zs_hearing.proofs.listeners.hear.Goals as goal
 
@@ -13,7 +13,7 @@ pub returns-in-Shut : goal.returns-in-Shut
 returns-in-Shut c =
     let s = c.world.inside in
     let rows = map (λ (l : Listener). l.row) s.matching.listeners in
-    let ended = between_none rows (candidates s.tables.rows s.queryables s.matching.told) (candidates [] [] s.matching.told) in
+    let ended = between_none rows (candidates s.tables.rows s.queryables s.matching.remote_entities) (candidates [] [] s.matching.remote_entities) in
     rw (c.in-Shut.is, ← c.world.view_is) (rw (c.listeners.ensures, sym ended) at c.push_ends.ensures)
 
 pub returns-in-Nothing : goal.returns-in-Nothing

@@ -4,7 +4,7 @@ use Rattle.zs_events.specs.declared.entity_kind.EntityKind.{EntityKind}
 use Rattle.zs_world.specs.declared.change.EntityChange.TheVariants.{End}
 use Rattle.zs_world.specs.World.{present_at}
 use Rattle.zs_world.specs.Changes.{with_change}
-use Rattle.zs_world.specs.Turns.{listener_effects_at}
+use Rattle.zs_world.specs.Decisions.{listener_effects_at}
 use Rattle.zs_world.proofs.Hearing.{quiet}
 use Rattle.zs_hearing.proofs.listeners.hear_end.Goals as goal
 

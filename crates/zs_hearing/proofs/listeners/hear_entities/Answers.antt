@@ -3,7 +3,7 @@ use Rattle.zs_world.specs.declared.change.Change.TheVariants.{OfEntities}
 use Rattle.zs_world.specs.declared.change.EntityChange.{EntityChange}
 use Rattle.zs_world.specs.World.{present_at}
 use Rattle.zs_world.specs.Changes.{with_change}
-use Rattle.zs_world.specs.Turns.{listener_effects_at}
+use Rattle.zs_world.specs.Decisions.{listener_effects_at}
 use Rattle.zs_world.proofs.Hearing.{quiet}
 use Rattle.zs_hearing.proofs.listeners.hear_entities.Goals as goal
 

@@ -12,5 +12,5 @@ returns c =
     let s = c.world.inside in
     let ls = s.matching.listeners in
     let up = ascend_map (λ (row : ListenerRow). row.id) (λ (l : Listener). l.row) ls (rw c.listeners.ensures at c.push_ends_of.ensures.ascending) in
-    let ended = between_without (λ (row : ListenerRow). row.parent == c.args.id) (map (λ (l : Listener). l.row) ls) (candidates s.tables.rows s.queryables s.matching.told) up in
+    let ended = between_without (λ (row : ListenerRow). row.parent == c.args.id) (map (λ (l : Listener). l.row) ls) (candidates s.tables.rows s.queryables s.matching.remote_entities) up in
     rw (← c.world.view_is) (rw (c.listeners.ensures, sym ended) at c.push_ends_of.ensures.ends)

@@ -1,6 +1,6 @@
 use Rattle.std.proofs.Common.{◌≡◌, ap, subst}
 use Rattle.zs_world.specs.World.{World}
-use Rattle.zs_world.specs.Turns.{decision, with_listeners}
+use Rattle.zs_world.specs.Decisions.{decision, with_listeners}
 use Rattle.zs_standing.proofs.Steps.{alone_fits}
 use Rattle.zs_core.proofs.state.SessionState.decide.Goals as goal
 

@@ -2,7 +2,7 @@ use Rattle.std.proofs.Common.{◌≡◌, Ok, Err, Result, IfOk}
 use Rattle.zs_events.specs.declared.event.Event.{Event}
 use Rattle.zs_world.specs.declared.change.Decision.{Decision}
 use Rattle.zs_world.specs.World.{World}
-use Rattle.zs_world.specs.Turns.{decision, with_listeners}
+use Rattle.zs_world.specs.Decisions.{decision, with_listeners}
 use Rattle.zs_standing.specs.Plans.{Plans}
 use Rattle.zs_standing.proofs.Steps.{plans_on}
 use Rattle.zs_core.proofs.state.SessionState.plan.Goals as goal

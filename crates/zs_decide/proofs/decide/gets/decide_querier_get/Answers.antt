@@ -7,7 +7,7 @@ use Rattle.zs_model.specs.Cancelling.{is_drawn}
 use Rattle.zs_model.specs.Queriers.{querier_at, question_of}
 use Rattle.zs_making.specs.Spoken.{question_by}
 use Rattle.zs_events.specs.declared.chan.Chan.TheVariants.{Print}
-use Rattle.zs_world.specs.Turns.{ask_decision}
+use Rattle.zs_world.specs.Decisions.{ask_decision}
 use Rattle.zs_decide.proofs.Asking.{unqueried, queried}
 use Rattle.zs_decide.proofs.decide.gets.decide_querier_get.Goals as goal
 

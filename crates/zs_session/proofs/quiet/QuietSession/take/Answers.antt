@@ -1,6 +1,6 @@
 use Rattle.std.proofs.Common.{Err, refl, sym, ◌∙◌, ap, subst}
 use Rattle.zs_core.specs.World.{World}
-use Rattle.zs_core.specs.Stands.{Steps}
+use Rattle.zs_core.specs.Stands.{TakesStep}
 use Rattle.zs_session_cell.specs.Cells.{CellSeen}
 use Rattle.zs_session_cell.specs.declared.no_handler.NoHandler.{NoHandler}
 use Rattle.zs_session.specs.Quiet.{IsQuiet}
@@ -33,7 +33,7 @@ returns-clause-ok c =
     elim c.match-take.branch [
       | in-Ok w ↦
           rw w.result-is (rw w.turn_alone.ensures
-          (subst (λ (x : World). Steps x c.take.new.self.world c.args.event.now w.in-Ok.taken.turn) c.self.view_is
+          (subst (λ (x : World). TakesStep x c.take.new.self.world c.args.event.now w.in-Ok.taken.turn) c.self.view_is
           (steps_so c.self.inside.cell.world c.take.new.self.world c.args.event.now w.in-Ok.taken.turn w.in-Ok.ensures.ok.steps)))
       | in-Err-NoMemory w ↦ rw w.result-is tt
     ]

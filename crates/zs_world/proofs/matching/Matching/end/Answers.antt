@@ -8,6 +8,6 @@ use Rattle.zs_world.proofs.matching.Matching.end.Goals as goal
 
 pub returns-clause-rows : goal.returns-clause-rows
 returns-clause-rows c =
-    let kept : Kept = record { listeners = c.self.inside.listeners; left = c.self.inside.left; told = c.self.inside.told } in
-    ap (λ (ls : List Listener). shown (record { listeners = ls; left = c.self.inside.left; told = c.self.inside.told })) c.remove.ensures.rows ∙ rows_left kept (λ row. not (row.id == c.args.id))
+    let kept : Kept = record { listeners = c.self.inside.listeners; left = c.self.inside.left; remote_entities = c.self.inside.remote_entities } in
+    ap (λ (ls : List Listener). shown (record { listeners = ls; left = c.self.inside.left; remote_entities = c.self.inside.remote_entities })) c.remove.ensures.rows ∙ rows_left kept (λ row. not (row.id == c.args.id))
     ∙ ap (λ (k : Kept). record (shown k) { listeners = filter (λ (row : ListenerRow). not (row.id == c.args.id)) (shown k).listeners }) c.self.view_is

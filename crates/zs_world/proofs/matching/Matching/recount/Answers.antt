@@ -6,5 +6,5 @@ use Rattle.zs_world.proofs.matching.Matching.recount.Goals as goal
 
 pub returns-clause-rows : goal.returns-clause-rows
 returns-clause-rows c =
-    let kept : Kept = record { listeners = c.self.inside.listeners; left = c.self.inside.left; told = c.self.inside.told } in
-    ap (λ (ls : List Listener). shown (record { listeners = ls; left = c.self.inside.left; told = c.self.inside.told })) c.recount.ensures ∙ rows_set kept c.args.all.now ∙ ap shown c.self.view_is
+    let kept : Kept = record { listeners = c.self.inside.listeners; left = c.self.inside.left; remote_entities = c.self.inside.remote_entities } in
+    ap (λ (ls : List Listener). shown (record { listeners = ls; left = c.self.inside.left; remote_entities = c.self.inside.remote_entities })) c.recount.ensures ∙ rows_set kept c.args.all.now ∙ ap shown c.self.view_is

@@ -17,7 +17,7 @@ invariant_of-self-2 c =
     let id : c.args.row.id ≡ next = c.requires.0 ∙ sym (ap (λ (w : World). w.counters.entity) c.self.view_is) in
     let up : next ≤ next + 1 = omega arith in
     let l : Listener = record { row = c.args.row; count = c.in_ok-count.count } in
-    let many : c.in_ok-count.count ≡ count_of (candidates s.tables.rows s.queryables s.matching.told) c.args.row =
+    let many : c.in_ok-count.count ≡ count_of (candidates s.tables.rows s.queryables s.matching.remote_entities) c.args.row =
     c.in_ok-count.ensures ∙ ap (λ (cs : List Candidate). count_of cs c.args.row) (c.present.ensures ∙ ap present_at (sym c.self.view_is)) in
     record {
       subs = rows_weaker (λ (row : SubRow). row.id) next s.tables.rows c.self.invariant.subs;

@@ -39,5 +39,5 @@ invariant_of-self-2 c =
           (groups_weaker c.self.inside.next_entity (c.self.inside.next_entity + 1) c.self.inside.groups.queriers up c.self.invariant.querier_groups);
       listening = rows_weaker (λ (l : Listener). l.row.id) c.self.inside.next_entity _ (below_set c.self.inside.next_entity c.deref.result.now c.self.inside.matching _ c.recount.ensures.kept c.self.invariant.listening);
       counted = rw (ap (λ (t : Contents). t.rows) c.in_ok-add_to_group.ensures.tables)
-          (counted_moved c.self.inside.tables.rows _ c.self.inside.queryables c.self.inside.queryables _ _ _ c.self.inside.matching _ c.recount.ensures.kept (c.deref.ensures.value ∙ all) seen (sub_comes c.self.inside.tables.rows c.self.inside.queryables c.self.inside.matching.told c.args.row) c.self.invariant.counted);
+          (counted_moved c.self.inside.tables.rows _ c.self.inside.queryables c.self.inside.queryables _ _ _ c.self.inside.matching _ c.recount.ensures.kept (c.deref.ensures.value ∙ all) seen (sub_comes c.self.inside.tables.rows c.self.inside.queryables c.self.inside.matching.remote_entities c.args.row) c.self.invariant.counted);
     }

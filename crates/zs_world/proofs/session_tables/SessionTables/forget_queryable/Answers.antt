@@ -1,13 +1,13 @@
 use Rattle.std.proofs.Common.{◌∙◌}
-use Rattle.zs_tables.proofs.Moving.{told_queryable_goes}
+use Rattle.zs_tables.proofs.Moving.{remote_queryable_goes}
 use Rattle.zs_world.proofs.Counted.{below_told, counted_told}
 use Rattle.zs_world.proofs.session_tables.SessionTables.forget_queryable.Goals as goal
 
 pub invariant_of-self : goal.invariant_of-self
 invariant_of-self c =
     let s = c.self.inside in
-    let moves = told_queryable_goes s.tables.rows s.queryables s.matching.told c.args.number (rw c.told.ensures at c.queryable_count-ascending.ensures.ascending) in
-    let all = rw (c.told_queryable_of-goes.ensures, c.told-2.ensures, c.listeners.ensures) at c.in_ok-recounts.ensures.all in
+    let moves = remote_queryable_goes s.tables.rows s.queryables s.matching.remote_entities c.args.number (rw c.remote_entities.ensures at c.queryable_count-ascending.ensures.ascending) in
+    let all = rw (c.remote_queryable_of-goes.ensures, c.remote_entities-2.ensures, c.listeners.ensures) at c.in_ok-recounts.ensures.all in
     let seen = rw c.listeners.ensures at c.recounts_of.ensures.ascending in
     record {
       subs = c.self.invariant.subs;

@@ -1,0 +1,10 @@
+use Rattle.zs_tables.proofs.Moving.{remote_subscriber_comes}
+use Rattle.zs_world.proofs.Hearing.{heard_between}
+use Rattle.zs_hearing.proofs.listeners.hear_remote_subscriber.Goals as goal
+
+pub returns : goal.returns
+returns c =
+    let s = c.world.inside in
+    let moves = remote_subscriber_comes s.tables.rows s.queryables s.matching.remote_entities c.args.row.now (rw c.remote_entities.ensures at c.sub_count-ascending.ensures.ascending) in
+    let heard = heard_between _ _ _ _ s.matching.listeners moves c.world.invariant.counted in
+    rw (← c.world.view_is) (rw (c.listeners.ensures, c.remote_subscriber_of-goes.ensures, c.remote_entities-2.ensures, c.remote_subscriber.ensures, heard) at c.push_heard.ensures)

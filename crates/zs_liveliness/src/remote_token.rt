@@ -1,0 +1,24 @@
+use zs_keyed::Keyed;
+use zs_keys::KeyExpr;
+
+/// A liveliness token that the other side told.
+#[derive(Drop)]
+pub struct RemoteToken {
+    /// The other side's number for it.
+    pub number: u32,
+    pub key: KeyExpr<'static>,
+}
+
+impl Keyed for RemoteToken {
+    ghost number = { λ row. row.number };
+
+    ghost text = { λ row. row.key.text };
+
+    fn number(&self) -> u32 {
+        self.number
+    }
+
+    fn key(&self) -> &KeyExpr<'static> {
+        &self.key
+    }
+}

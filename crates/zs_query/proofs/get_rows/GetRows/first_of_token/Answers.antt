@@ -1,5 +1,0 @@
-use Rattle.zs_query.proofs.Indexed.{token_get}
-use Rattle.zs_query.proofs.get_rows.GetRows.first_of_token.Goals as goal
-
-pub returns : goal.returns
-returns c = rw (← c.self.view_is) (rw c.from.ensures at (token_get c.from.result c.self.inside.rows c.self.inside.marks c.self.invariant c.first_under.result c.first_under.ensures.found))

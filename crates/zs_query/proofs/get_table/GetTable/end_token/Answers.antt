@@ -1,6 +1,0 @@
-use Rattle.zs_query.specs.Asked.{CancelledBy}
-use Rattle.zs_query.proofs.Tabling.{below_after}
-use Rattle.zs_query.proofs.get_table.GetTable.end_token.Goals as goal
-
-pub invariant_of-self : goal.invariant_of-self
-invariant_of-self c = rw c.end_token.ensures (below_after c.self.inside.next (CancelledBy c.args.token) c.self.inside.gets c.self.invariant)
