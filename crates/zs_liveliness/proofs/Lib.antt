@@ -1,1 +1,4 @@
 pub mod Telling
+pub mod Marks
+pub mod Asking
+pub mod Behind

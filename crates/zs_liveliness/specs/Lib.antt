@@ -1,3 +1,4 @@
 pub mod LivelinessGets
 pub mod Liveliness
 pub mod RemoteTokens
+pub mod Asking

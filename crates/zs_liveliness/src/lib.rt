@@ -8,6 +8,8 @@ pub use liveliness_subs::LivelinessSubs;
 pub use remote_token::RemoteToken;
 pub use remote_tokens::RemoteTokens;
 
+mod asking_gets;
+mod asking_marks;
 mod liveliness_get;
 mod liveliness_gets;
 mod liveliness_sub;

@@ -1,0 +1,11 @@
+use Rattle.std.proofs.Common.{◌≡◌, length}
+use Rattle.std.specs.Prelude.{filter, not}
+use Rattle.zs_liveliness.specs.declared.liveliness_get.LivelinessGet.{LivelinessGet}
+use Rattle.zs_liveliness.specs.LivelinessGets.{is_own}
+use Rattle.zs_liveliness.proofs.liveliness_gets.LivelinessGets.end_cancelled_by.Given as goal
+
+abbrev pub invariant-gets : goal.invariant-gets
+invariant-gets l = filter (λ (g : LivelinessGet). not (is_own l.cancellation_token g.cancellation_token)) l.self-inside.gets ≡ filter (λ (g : LivelinessGet). not (is_own l.cancellation_token g.cancellation_token)) l.fn.self
+
+abbrev pub decreases-gets : goal.decreases-gets
+decreases-gets l = length l.self-inside.gets
