@@ -1,6 +1,7 @@
--- What clauses see of the receiving end of a fifo's channel, and of the futures and streams that have it.
+-- What clauses see of the ends of a fifo's channel, and of the futures and streams that have the receiving one.
 use Rattle.std.specs.Prelude.{ℕ}
 use Rattle.std.specs.Arc.{arc_value}
+use Rattle.zs_handlers.specs.declared.fifo.FifoSender.{FifoSender}
 use Rattle.zs_handlers.specs.declared.fifo.FifoChannelHandler.{FifoChannelHandler}
 use Rattle.zs_handlers.specs.declared.place.Place.{Place}
 use Rattle.zs_handlers.specs.declared.place.Place.TheVariants.{Lent, Own}
@@ -11,6 +12,10 @@ module _ {T : Type 0} where
   -- the source that fires where an item comes and at the end
   abbrev pub source_of : FifoChannelHandler T → ℕ
   source_of h = (arc_value h.shared).source.id
+
+  -- the one that the sender fires
+  abbrev pub fired_by : FifoSender T → ℕ
+  fired_by s = (arc_value s.shared).source.id
 
   -- how many items the fifo can hold
   abbrev pub capacity_of : FifoChannelHandler T → ℕ

@@ -1,6 +1,6 @@
 //! The channels that a program names where a callback is wanted.
 ghost use Rattle.std.specs.Prelude.{◌≡◌, ◌≢◌, ◌↔◌, IfOk};
-ghost use Rattle.zs_handlers.specs.Ends.{capacity_of};
+ghost use Rattle.zs_handlers.specs.Ends.{capacity_of, fired_by, source_of};
 ghost use Rattle.zs_handlers.specs.declared.channel.TheConstants.{DEFAULT_CAPACITY};
 
 use crate::error::ChannelError;
@@ -58,6 +58,7 @@ impl FifoChannel {
         self,
         alloc: Global,
     ) -> Result<(FifoSender<T>, FifoChannelHandler<T>), ChannelError>
+        ensures one { IfOk result (λ ends. fired_by ends.0 ≡ source_of ends.1) }
         ensures ok { IfOk result (λ ends. capacity_of ends.1 ≡ self) }
         ensures zero { (result ≡ Err ChannelError.ZeroCapacity) ↔ (self ≡ 0) }
     {
@@ -106,6 +107,7 @@ impl DefaultHandler {
         self,
         alloc: Global,
     ) -> Result<(FifoSender<T>, FifoChannelHandler<T>), ChannelError>
+        ensures one { IfOk result (λ ends. fired_by ends.0 ≡ source_of ends.1) }
         ensures ok { IfOk result (λ ends. capacity_of ends.1 ≡ DEFAULT_CAPACITY) }
         ensures err { result ≢ Err ChannelError.ZeroCapacity }
     {

@@ -1,6 +1,5 @@
 //! The two ends of a fifo's channel.
-ghost use Rattle.std.specs.Prelude.{◌≡◌, ◌↔◌, [], IfOk};
-ghost use Rattle.zs_handlers.specs.Handled.{IfEvicted};
+ghost use Rattle.std.specs.Prelude.{◌≡◌, ◌↔◌, [], IfOk, IfSome};
 ghost use Rattle.futures.specs.Task.{Covers, Keeps};
 ghost use Rattle.futures.specs.Poll.{OnPending};
 
@@ -49,6 +48,7 @@ pub struct FifoChannelHandler<T: Drop> {
 
 impl<T: Drop> FifoShared<T> {
     fn new(state: FifoState<T>, capacity: usize) -> FifoShared<T>
+        requires { state.queue.capacity ≡ capacity }
         ensures { result.capacity ≡ capacity }
     {
         FifoShared {
@@ -145,13 +145,14 @@ impl<T: Drop> FifoShared<T> {
 }
 
 impl<T: Drop> FifoSender<T> {
-    ghost use Rattle.zs_handlers.specs.Ends.{capacity_of};
+    ghost use Rattle.zs_handlers.specs.Ends.{capacity_of, fired_by, source_of};
 
     // The two ends of a new channel.
     pub(crate) fn pair(
         alloc: Global,
         capacity: usize,
     ) -> Result<(FifoSender<T>, FifoChannelHandler<T>), ChannelError>
+        ensures one { IfOk result (λ ends. fired_by ends.0 ≡ source_of ends.1) }
         ensures ok { IfOk result (λ ends. capacity_of ends.1 ≡ capacity) }
         ensures zero { (result ≡ Err ChannelError.ZeroCapacity) ↔ (capacity ≡ 0) }
     {
@@ -167,10 +168,11 @@ impl<T: Drop> FifoSender<T> {
 impl<T: Drop> Handler<T> for FifoSender<T> {
     type Done = Took;
 
+    // Only the item itself is given up.
+    ghost gives = { λ _ item back. IfSome back (λ b. b ≡ item) };
+
     /// Appends the item, and waits for room where the fifo is full. Where the fifo has ended, the item itself comes back.
-    fn on<R: Wait>(&self, rt: &R, _inside: &Inside, item: T) -> Handled<T, Took>
-        ensures { IfEvicted result (λ back. back ≡ item) }
-    {
+    fn on<R: Wait>(&self, rt: &R, _inside: &Inside, item: T) -> Handled<T, Took> {
         let shared = &*self.shared;
         let mut state = shared.state.lock(rt);
         let mut item = item;

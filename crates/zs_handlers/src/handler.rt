@@ -1,6 +1,6 @@
 //! What takes the items of a callback.
-ghost use Rattle.std.specs.Prelude.{◌≡◌, Bool, true, false};
-ghost use Rattle.zs_handlers.specs.Handled.{IsTaken};
+ghost use Rattle.std.specs.Prelude.{◌≡◌, Bool, true, false, Option, ⊤};
+ghost use Rattle.zs_handlers.specs.Handled.{IsTaken, given_up};
 
 use std::sync::Wait;
 use zs_gate::{Drained, Inside};
@@ -34,9 +34,17 @@ pub trait Handler<T> {
     // Whether items may be given up. A handler that says no takes each item.
     ghost evicts: { Bool } = { true };
 
+    // What a call with an item may give up, as told by the handler, the item and what comes back: `None` where nothing does.
+    // A handler that leaves this out may give up whatever it likes.
+    //
+    // Code over any handler has no other proof of this than a call: so whatever shows it was told by a call of that handler
+    // with that item, and tells what that call gave up.
+    ghost gives: { Self → T → Option T → Type 0 } = { λ _ _ _. ⊤ };
+
     /// Takes an item. The caller is inside of the callback's gate, so the callback ends only after this call.
     fn on<R: Wait>(&self, rt: &R, inside: &Inside, item: T) -> Handled<T, Self::Done>
-        ensures { evicts ≡ false → IsTaken result };
+        ensures kept { evicts ≡ false → IsTaken result }
+        ensures gives { gives self.now item (given_up result) };
 
     /// Hears that the callback has ended: no call of `on` is under way any more, and none will be.
     fn ended<R: Wait>(&self, rt: &R, drained: &Drained) -> Self::Done;

@@ -1,6 +1,7 @@
 -- Passes that come back from calls, and the posts that get them back.
 use Rattle.std.proofs.Common.{◌≡◌, List, [], ◌∷◌, ◌++◌, map, length, Option, Some, None, refl, sym, ap, ◌∙◌, subst, append_assoc, append-nil, arith}
 use Rattle.std.specs.Option.{option_to_list}
+use Rattle.std.specs.Arc.{arc_value}
 use Rattle.atomic_table.specs.Seated.{TableId}
 use Rattle.zs_posts.specs.declared.call.Call.{Call}
 use Rattle.zs_posts.specs.declared.passes.Passes.{Passes}
@@ -33,8 +34,8 @@ back_room room lent back same all =
           (all_append (λ l. l.room ≡ room) (option_to_list back.parent) (option_to_list back.token) (same_room room lent.parent back.parent same.parent two.0) (same_room room lent.token back.token same.token two.1)),
     )
 
-module _ {H T D : Type 0} where
-  pub rooms_back : (room : TableId) (calls : List (Call H T)) (ran : List (RanCall T D)) → AnswersAll calls ran → AreOfRoom room (all_lents (map call_seen calls)) → AreOfRoom room (ran_lents ran)
+module _ {H T D : Type 0} (gives : H → T → Option T → Type 0) where
+  pub rooms_back : (room : TableId) (calls : List (Call H T)) (ran : List (RanCall T D)) → AnswersAll gives calls ran → AreOfRoom room (all_lents (map call_seen calls)) → AreOfRoom room (ran_lents ran)
   rooms_back room [] [] told all = tt
   rooms_back room [] (r ∷ ran) told all = absurd told
   rooms_back room (call ∷ calls) [] told all = tt
@@ -44,12 +45,12 @@ module _ {H T D : Type 0} where
 
   -- one call more
   pub told_more : (calls left rest : List (Call H T)) (call : Call H T) (ran : List (RanCall T D)) (r : RanCall T D) → left ≡ call ∷ rest
-      → ((more : List (RanCall T D)) → AnswersAll left more → AnswersAll calls (ran ++ more)) → Answers call.item call.passes r → (more : List (RanCall T D)) → AnswersAll rest more → AnswersAll calls ((ran ++ r ∷ []) ++ more)
+      → ((more : List (RanCall T D)) → AnswersAll gives left more → AnswersAll gives calls (ran ++ more)) → Answers (gives (arc_value call.handler)) call.item call.passes r → (more : List (RanCall T D)) → AnswersAll gives rest more → AnswersAll gives calls ((ran ++ r ∷ []) ++ more)
   told_more calls left rest call ran r is told one more others =
-      subst (AnswersAll calls) (sym (append_assoc ran (r ∷ []) more)) (told (r ∷ more) (subst (λ (cs : List (Call H T)). AnswersAll cs (r ∷ more)) (sym is) (one, others)))
+      subst (AnswersAll gives calls) (sym (append_assoc ran (r ∷ []) more)) (told (r ∷ more) (subst (λ (cs : List (Call H T)). AnswersAll gives cs (r ∷ more)) (sym is) (one, others)))
 
-  pub told_all : (calls left : List (Call H T)) (ran : List (RanCall T D)) → length left ≡ 0 → ((more : List (RanCall T D)) → AnswersAll left more → AnswersAll calls (ran ++ more)) → AnswersAll calls ran
-  told_all calls [] ran none told = subst (AnswersAll calls) (append-nil ran) (told [] tt)
+  pub told_all : (calls left : List (Call H T)) (ran : List (RanCall T D)) → length left ≡ 0 → ((more : List (RanCall T D)) → AnswersAll gives left more → AnswersAll gives calls (ran ++ more)) → AnswersAll gives calls ran
+  told_all calls [] ran none told = subst (AnswersAll gives calls) (append-nil ran) (told [] tt)
   told_all calls (call ∷ left) ran none told = absurd (omega arith)
 
 module _ {H : Type 0} where

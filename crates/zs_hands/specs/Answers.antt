@@ -1,6 +1,7 @@
 -- What a call inside of its gates tells.
 use Rattle.std.specs.Prelude.{◌≡◌, ℕ, Bool, true, false, ◌||◌, List, [], ◌∷◌, ◌++◌, Option, Some, None, option_map}
 use Rattle.std.specs.List.{AllByRecursion}
+use Rattle.std.specs.Arc.{arc_value}
 use Rattle.atomic_table.specs.Seated.{TableId}
 use Rattle.zs_posts.specs.Passes.{LentSeen}
 use Rattle.zs_posts.specs.Calls.{passes_lents}
@@ -49,11 +50,11 @@ pub record AreBack (lent back : Passes) : Type 0 where
   pub own : unnoted lent.own ≡ unnoted back.own
 
 module _ {T D : Type 0} where
-  -- the handler was called unless a gate gave its pass back, and then the item comes back
-  abbrev pub IsFor : T → Bool → Handed T D → Type 0
-  IsFor item noted (Called done) = noted ≡ false
-  IsFor item noted (Evicted other done) = noted ≡ false
-  IsFor item noted (Skipped back) = (noted ≡ true) × (back ≡ item)
+  -- the handler was called with the item and gave up what is told, unless a gate gave its pass back, and then the item comes back
+  abbrev pub IsFor : (T → Option T → Type 0) → T → Bool → Handed T D → Type 0
+  IsFor gives item noted (Called done) = (noted ≡ false) × gives item None
+  IsFor gives item noted (Evicted other done) = (noted ≡ false) × gives item (Some other)
+  IsFor gives item noted (Skipped back) = (noted ≡ true) × (back ≡ item)
 
   -- where the handler was called, that was inside of these gates
   abbrev pub IsInside : Under → Handed T D → Option Under → Type 0
@@ -68,17 +69,17 @@ module _ {T D : Type 0} where
   IsKept (Skipped back) = Unit {0}
 
   -- what a call with that item and those passes tells
-  pub record Answers (item : T) (lent : Passes) (ran : RanCall T D) : Type 0 where
-    pub report : IsFor item (is_any_noted ran.passes) ran.report
+  pub record Answers (gives : T → Option T → Type 0) (item : T) (lent : Passes) (ran : RanCall T D) : Type 0 where
+    pub report : IsFor gives item (is_any_noted ran.passes) ran.report
     pub inside : IsInside (numbers_of lent) ran.report ran.under
     pub passes : AreBack lent ran.passes
 
-  -- of calls in turn
-  abbrev pub AnswersAll : {H : Type 0} → List (Call H T) → List (RanCall T D) → Type 0
-  AnswersAll [] [] = Unit {0}
-  AnswersAll [] (ran ∷ more) = ⊥
-  AnswersAll (call ∷ calls) [] = ⊥
-  AnswersAll (call ∷ calls) (ran ∷ more) = Answers call.item call.passes ran × AnswersAll calls more
+  -- of calls in turn, each of its own handler
+  abbrev pub AnswersAll : {H : Type 0} → (H → T → Option T → Type 0) → List (Call H T) → List (RanCall T D) → Type 0
+  AnswersAll gives [] [] = Unit {0}
+  AnswersAll gives [] (ran ∷ more) = ⊥
+  AnswersAll gives (call ∷ calls) [] = ⊥
+  AnswersAll gives (call ∷ calls) (ran ∷ more) = Answers (gives (arc_value call.handler)) call.item call.passes ran × AnswersAll gives calls more
 
   -- of all calls that ran
   abbrev pub AreKept : List (RanCall T D) → Type 0

@@ -1,5 +1,6 @@
 //! A call of a handler, and which gates it was made inside of.
 ghost use Rattle.std.specs.Prelude.{◌≡◌, false, option_map};
+ghost use Rattle.std.specs.Arc.{arc_value};
 ghost use Rattle.zs_hands.specs.Answers.{IsFor, IsKept};
 
 use crate::handed::Handed;
@@ -35,7 +36,7 @@ fn told_by<T, H: Handler<T>, R: Wait>(
     inside: &Inside,
     item: T,
 ) -> Handed<T, H::Done>
-    ensures report { IsFor item false result }
+    ensures report { IsFor (H.gives (arc_value handler.now)) item false result }
     ensures kept { H.evicts ≡ false → IsKept result }
 {
     match handler.on(rt, inside, item) {
@@ -54,7 +55,7 @@ pub(crate) fn call<T, H: Handler<T>, R: Wait>(
     token: Option<&Within>,
     own: &Within,
 ) -> (Handed<T, H::Done>, Under)
-    ensures report { IsFor item false result.0 }
+    ensures report { IsFor (H.gives (arc_value handler.now)) item false result.0 }
     ensures kept { H.evicts ≡ false → IsKept result.0 }
     ensures session { result.1.session ≡ option_map (λ w. w.now.number) session.entry }
     ensures parent { result.1.parent ≡ option_map (λ w. w.now.number) parent.entry }

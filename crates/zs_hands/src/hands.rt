@@ -79,7 +79,7 @@ impl<H: Drop, T: Drop, D: Drop> Hands<H, T, D> {
     pub fn run<R: Wait>(self, rt: &R) -> Ran<T, D>
     where
         H: Handler<T, Done = D>,
-        ensures told { AnswersAll self.calls.items result.ran.items }
+        ensures told { AnswersAll H.gives self.calls.items result.ran.items }
         ensures kept { H.evicts ≡ false → AreKept result.ran.items }
         ensures room { (room : TableId) → AreOfRoom room (all_lents (map call_seen self.calls.items)) → AreOfRoom room (ran_lents result.ran.items) }
     {

@@ -1,5 +1,6 @@
 //! One call inside of its gates: a function a gate, each straight through.
 ghost use Rattle.std.specs.Prelude.{◌≡◌, false, ◌||◌, option_map};
+ghost use Rattle.std.specs.Arc.{arc_value};
 ghost use Rattle.zs_hands.specs.Answers.{unnoted, is_noted, number_lent, AreSame, IsFor, IsInside, IsKept, Answers};
 
 use crate::calling::{Under, call};
@@ -18,7 +19,7 @@ fn in_own<T, H: Handler<T>, R: Wait>(
     token: Option<&Within>,
     own: Lent,
 ) -> (Handed<T, H::Done>, Option<Under>, Lent)
-    ensures report { IsFor item result.2.noted result.0 }
+    ensures report { IsFor (H.gives (arc_value handler.now)) item result.2.noted result.0 }
     ensures inside { IsInside (record { session = option_map (λ w. w.now.number) session.entry; parent = option_map (λ w. w.now.number) parent.entry; token = option_map (λ w. w.now.number) token.entry; own = own.number }) result.0 result.1 }
     ensures kept { H.evicts ≡ false → IsKept result.0 }
     ensures own { unnoted own ≡ unnoted result.2 }
@@ -42,7 +43,7 @@ fn in_token<T, H: Handler<T>, R: Wait>(
     token: Option<Lent>,
     own: Lent,
 ) -> (Handed<T, H::Done>, Option<Under>, Option<Lent>, Lent)
-    ensures report { IsFor item (is_noted result.2 || result.3.noted) result.0 }
+    ensures report { IsFor (H.gives (arc_value handler.now)) item (is_noted result.2 || result.3.noted) result.0 }
     ensures inside { IsInside (record { session = option_map (λ w. w.now.number) session.entry; parent = option_map (λ w. w.now.number) parent.entry; token = number_lent token; own = own.number }) result.0 result.1 }
     ensures kept { H.evicts ≡ false → IsKept result.0 }
     ensures token { AreSame token result.2 }
@@ -85,7 +86,7 @@ fn in_parent<T, H: Handler<T>, R: Wait>(
     Option<Lent>,
     Lent,
 )
-    ensures report { IsFor item (is_noted result.2 || (is_noted result.3 || result.4.noted)) result.0 }
+    ensures report { IsFor (H.gives (arc_value handler.now)) item (is_noted result.2 || (is_noted result.3 || result.4.noted)) result.0 }
     ensures inside { IsInside (record { session = option_map (λ w. w.now.number) session.entry; parent = number_lent parent; token = number_lent token; own = own.number }) result.0 result.1 }
     ensures kept { H.evicts ≡ false → IsKept result.0 }
     ensures parent { AreSame parent result.2 }
@@ -120,7 +121,7 @@ fn in_session<T, H: Handler<T>, R: Wait>(
     item: T,
     passes: Passes,
 ) -> RanCall<T, H::Done>
-    ensures told { Answers item passes result }
+    ensures told { Answers (H.gives (arc_value handler.now)) item passes result }
     ensures kept { H.evicts ≡ false → IsKept result.report }
 {
     let Passes {
@@ -186,7 +187,7 @@ pub(crate) fn run_call<T, H: Handler<T> + Drop, R: Wait>(
     rt: &R,
     call: Call<H, T>,
 ) -> RanCall<T, H::Done>
-    ensures told { Answers call.item call.passes result }
+    ensures told { Answers (H.gives (arc_value call.handler)) call.item call.passes result }
     ensures kept { H.evicts ≡ false → IsKept result.report }
 {
     let Call {

@@ -60,7 +60,7 @@ impl<H: Drop, D: Drop> Handing<H, D> {
     pub fn run<R: Wait>(self, rt: &R) -> Ran<Item, D>
     where
         H: Handler<Item, Done = D>,
-        ensures calls { AnswersAll self.calls result.ran.items }
+        ensures calls { AnswersAll H.gives self.calls result.ran.items }
         ensures kept { H.evicts ≡ false → AreKept result.ran.items }
         ensures room { (room : TableId) → AreOfRoom room (all_lents (map call_seen self.calls)) → AreOfRoom room (ran_lents result.ran.items) }
     {
