@@ -1,6 +1,5 @@
 //! The handlers of a token that is cancelled.
-ghost use Rattle.std.specs.Prelude.{◌≡◌, List};
-ghost use Rattle.zs_cancel.specs.declared.entry.Entry.{Entry as EntrySeen};
+ghost use Rattle.std.specs.Prelude.{◌≡◌};
 ghost use Rattle.zs_cancel.specs.Runs.{Runs};
 
 use crate::entry::Entry;
@@ -37,16 +36,10 @@ impl<J: Job> Handlers<J> {
         }
     }
 
-    /// Runs the handlers in turn, up to the first that fails. Those after it are dropped, unrun.
-    pub fn run(mut self) -> Outcome
-        ensures { (rest : List (EntrySeen J)) × Runs J.fails self result rest }
-    {
-        self.run_to_failure()
-    }
-
-    // Runs the handlers in turn, up to the first that fails. Those after it stay.
+    /// Runs the handlers in turn, up to the first that fails. Those behind it stay here, unrun; another call would run
+    /// them, and whoever lets go of the value drops them.
     #[tactic(auto, using(crate::proofs::Running::runs_more))]
-    fn run_to_failure(&mut self) -> Outcome
+    pub fn run(&mut self) -> Outcome
         ensures { Runs J.fails self.old result self.new }
     {
         while let Some(Entry { number, job }) = self.entries.next() {

@@ -127,7 +127,7 @@ fn takes_four(state: &mut TokenState<Write>, words: &Words) -> Result<bool, Allo
 fn run_all(state: &mut TokenState<Write>) -> Option<Outcome>
     requires { state.old.outcome ≡ None }
 {
-    let handlers = state.begin()?;
+    let mut handlers = state.begin()?;
     let outcome = handlers.run();
     state.finish(outcome);
     Some(outcome)
@@ -148,7 +148,7 @@ fn runs_in_order_up_to_the_first_failure(rt: HostRuntime) -> Result<(), Fail> {
 
 // How the handlers of a state end that are taken now.
 fn run_taken(state: &mut TokenState<Write>) -> Option<Outcome> {
-    let handlers = state.begin()?;
+    let mut handlers = state.begin()?;
     Some(handlers.run())
 }
 

@@ -94,11 +94,12 @@ impl<J: Job> Shared<J> {
         (begun, result)
     }
 
-    // Runs the handlers and tells the outcome.
-    fn run<R: Wait>(&self, rt: &R, handlers: Handlers<J>, permit: Permit) -> Outcome
+    // Runs the handlers, lets go of those that weren't run, and tells the outcome.
+    fn run<R: Wait>(&self, rt: &R, mut handlers: Handlers<J>, permit: Permit) -> Outcome
         requires { permit ≡ self.now.lock.key.value }
     {
         let outcome = handlers.run();
+        drop(handlers);
         let (mut locked, taken) = self.lock.take(rt);
         locked.finish(permit, outcome);
         taken.put(locked);

@@ -3,7 +3,7 @@ use Rattle.std.proofs.lemmas.List.{nil_from_length}
 use Rattle.std.specs.Vec.Iter.{into_iter_len, into_iter_items}
 use Rattle.zs_cancel.specs.declared.outcome.Outcome.TheVariants.{Done, Failed}
 use Rattle.zs_cancel.proofs.Running.{runs_none, runs_last}
-use Rattle.zs_cancel.proofs.handlers.Handlers.run_to_failure.Goals as goal
+use Rattle.zs_cancel.proofs.handlers.Handlers.run.Goals as goal
 
 pub returns-then-is_err : goal.returns-then-is_err
 returns-then-is_err g c =

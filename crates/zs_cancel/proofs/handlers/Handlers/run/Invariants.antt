@@ -3,7 +3,7 @@ use Rattle.std.specs.Vec.Iter.{into_iter_len, into_iter_items}
 use Rattle.zs_cancel.specs.declared.entry.Entry.{Entry}
 use Rattle.zs_cancel.specs.declared.outcome.Outcome.{Outcome}
 use Rattle.zs_cancel.specs.Runs.{Runs}
-use Rattle.zs_cancel.proofs.handlers.Handlers.run_to_failure.Given as goal
+use Rattle.zs_cancel.proofs.handlers.Handlers.run.Given as goal
 
 abbrev pub invariant-loop-number : goal.invariant-loop-number
 invariant-loop-number g l =
