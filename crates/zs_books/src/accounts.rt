@@ -76,6 +76,8 @@ impl<B: Books> Accounts<B> {
         ensures whole { caller.old.parts ≡ all_parts → IsAll caller.old self.old }
         ensures all { IsAll caller.old self.old → result ≡ true }
         ensures small { self.old.entries < most → result ≡ true → caller.old.count ≡ self.old.entries }
+        ensures small_sent { self.old.sent < most → result ≡ true → caller.old.sent ≡ self.old.sent }
+        ensures small_drained { self.old.drained < most → result ≡ true → caller.old.drained ≡ self.old.drained }
     {
         caller.is_all(&mut self.entries, &mut self.sent, &mut self.drained)
     }

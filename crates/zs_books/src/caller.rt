@@ -169,6 +169,8 @@ impl<B: Books, T: Drop> Caller<B, T> {
         ensures whole { self.old.parts ≡ all_parts → IsAll self.old record { entries = entries.old.total; sent = sent.old.total; drained = drained.old.total } }
         ensures all { IsAll self.old record { entries = entries.old.total; sent = sent.old.total; drained = drained.old.total } → result ≡ true }
         ensures small { entries.old.total < most → result ≡ true → self.old.count ≡ entries.old.total }
+        ensures small_sent { sent.old.total < most → result ≡ true → self.old.sent ≡ sent.old.total }
+        ensures small_drained { drained.old.total < most → result ≡ true → self.old.drained ≡ drained.old.total }
     {
         let entries = entries.is_all(&mut self.entries);
         let sent = sent.is_all(&mut self.sent);

@@ -1,5 +1,5 @@
 -- The books of a session count what it does.
-use Rattle.std.proofs.Common.{◌≡◌, ◌↔◌, ℕ, ◌+◌, ◌-◌, ◌≤◌, true, is_some, IfNone, IfOk, OnErr, Result, Ok, Err, List, [], ◌∷◌, ◌++◌, length, drop, Option, Some, None, refl, sym, ap, ◌∙◌, subst, arith, flat_map}
+use Rattle.std.proofs.Common.{◌≡◌, ◌↔◌, ℕ, ◌+◌, ◌-◌, ◌≤◌, ◌<◌, true, is_some, IfNone, IfOk, OnErr, Result, Ok, Err, List, [], ◌∷◌, ◌++◌, length, drop, Option, Some, None, refl, sym, ap, ◌∙◌, subst, arith, flat_map}
 use Rattle.std.specs.Option.{option_to_list}
 use Rattle.std.proofs.lemmas.List.{length-append, drop-append-le, length-drop, drop-drop, append-nil}
 use Rattle.std.proofs.lemmas.Grind.{flat_map-append}
@@ -13,9 +13,9 @@ use Rattle.zs_exchange.specs.Exchange.{kept_messages}
 use Rattle.zs_session_cell.specs.declared.entry.Entry.{Entry}
 use Rattle.zs_session_cell.specs.Journals.{SessionSeen, Advances}
 use Rattle.std.proofs.lemmas.Bool.{false≢true}
-use Rattle.zs_books.specs.Callers.{AccountsSeen, CallerSeen, IsAll}
+use Rattle.zs_books.specs.Callers.{AccountsSeen, CallerSeen, IsAll, most}
 use Rattle.zs_held.specs.Messages.{turn_messages, messages_of}
-use Rattle.zs_held.specs.Held.{IsBooked, counted}
+use Rattle.zs_held.specs.Held.{HeldSeen, IsBooked, AreFew, CountsAll, counted}
 
 -- the messages of a journal with one entry more
 pub messages-snoc : (entries : List Entry) (entry : Entry) → messages_of (entries ++ entry ∷ []) ≡ messages_of entries ++ turn_messages entry.turn
@@ -132,3 +132,19 @@ module _ {H : Type 0} where
       → IsBooked s new more
   booked-result e handler turn calls (Ok given) b advances is same books_same = booked-more b advances is
   booked-result e handler turn calls (Err why) b advances is same books_same = booked-same b same books_same
+
+  -- whoever counts what the session does counts what its books do, and the other way where the messages are few
+  pub all_by_books : {T : Type 0} {s : Settings} {held : HeldSeen H} {books : AccountsSeen} {caller : CallerSeen T}
+      → IsBooked s held.session books → held.drained ≡ books.drained → CountsAll caller held → IsAll caller books
+  all_by_books {T} {s} {held} {books} {caller} b drained all =
+      record { entries = all.entries ∙ sym b.entries_are; sent = all.sent ∙ sym b.sent_are; drained = all.drained ∙ drained }
+
+  pub books_by_all : {T : Type 0} {s : Settings} {held : HeldSeen H} {books : AccountsSeen} {caller : CallerSeen T}
+      → IsBooked s held.session books → held.drained ≡ books.drained → AreFew held → caller.count ≡ length held.session.journal
+      → (books.sent < most → caller.sent ≡ books.sent) → (books.drained < most → caller.drained ≡ books.drained)
+      → CountsAll caller held
+  books_by_all {T} {s} {held} {books} {caller} b drained few entries sent lent =
+      let sent_few : books.sent < most = subst (λ n. n < most) (sym b.sent_are) few in
+      let within : books.drained ≤ books.sent = b.within in
+      let drained_few : books.drained < most = omega arith in
+      record { entries = entries; sent = sent sent_few ∙ b.sent_are; drained = lent drained_few ∙ sym drained }

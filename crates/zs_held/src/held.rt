@@ -13,7 +13,7 @@ ghost use Rattle.zs_session_cell.specs.Journals.{Advances, Follows, IsOverdrawn,
 ghost use Rattle.zs_books.specs.Callers.{all_parts, new_caller};
 ghost use Rattle.zs_held.specs.Messages.{turn_messages};
 ghost use Rattle.zs_held.specs.Receipts.{asked_of};
-ghost use Rattle.zs_held.specs.Held.{held_with, receipt_of, entered, counted, drained_by};
+ghost use Rattle.zs_held.specs.Held.{held_with, AreFew, receipt_of, entered, counted, drained_by, CountsAll};
 
 use crate::asked::Asked;
 use crate::entries::Entries;
@@ -279,6 +279,8 @@ impl<H: Drop, B: Books> Held<H, B> {
         ensures caller { all.new ≡ all.old }
         ensures len { IfSome result (λ n. (n ≡ all.old.count) × (n ≡ length self.old.session.journal)) }
         ensures whole { all.old.parts ≡ all_parts → result ≡ Some all.old.count }
+        ensures all { CountsAll all.old self.old → IsSome result }
+        ensures only { AreFew self.old → IfSome result (λ _. CountsAll all.old self.old) }
     {
         let count = self.cell.journal().len() as u64;
         if self.accounts.are_all(all) {
@@ -304,6 +306,8 @@ impl<H: Drop, B: Books> Held<H, B> {
         ensures turns { IfOk result (λ found. IfSome found (λ entries. Follows B.Entries.settings [] entries)) }
         ensures len { IfOk result (λ found. IfSome found (λ entries. length entries ≡ all.old.count)) }
         ensures whole { all.old.parts ≡ all_parts → IfOk result (λ found. IsSome found) }
+        ensures all { CountsAll all.old self.old → IfOk result (λ found. IsSome found) }
+        ensures only { AreFew self.old → IfOk result (λ found. IfSome found (λ _. CountsAll all.old self.old)) }
     {
         match self.entries(all) {
             Some(_) => {
