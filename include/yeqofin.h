@@ -90,7 +90,7 @@ typedef struct {
 typedef struct {
     uint8_t refusal; /* 0: it was accepted. Else why not, and nothing follows from it: */
     bool has_number; /* whether it drew a number: of a declared key or entity, a get, a cancellation token, a query */
-    uint32_t number; /* that number */
+    uint32_t number; /* that number; of yq_matching 1 where anyone matches, else 0 */
 } yq_answer;
 
 enum {
@@ -144,7 +144,7 @@ typedef struct {
     uint32_t eid; /* the entity's number there */
 } yq_entity;
 
-/* Who made a sample, and as its how many-th. */
+/* Who made a sample, and its number among the samples of that source. */
 typedef struct {
     yq_entity id;
     uint32_t sn;
@@ -154,7 +154,7 @@ typedef struct {
 typedef struct {
     uint8_t destination; /* whose subscribers are handed it: YQ_ANY, YQ_SESSION_LOCAL or YQ_REMOTE */
     struct {
-        uint8_t priority; /* from 1 to 7, the lowest first; 0 is 5 */
+        uint8_t priority; /* from 1, the most urgent, to 7; 0 is 5 */
         bool blocks;      /* where a queue is full the sender waits; else it is lost */
         bool express;     /* it goes out at once, and isn't batched with others */
     } qos;
@@ -205,7 +205,7 @@ typedef struct {
     uint8_t destination;   /* whose queryables are asked: YQ_ANY, YQ_SESSION_LOCAL or YQ_REMOTE */
     uint8_t target;        /* 0 the best matching ones, 1 all, 2 all that are complete */
     uint8_t consolidation; /* which replies on one key are handed out: 0 as suits the query, 1 all, 2 ever newer ones, 3 the newest */
-    uint8_t priority;      /* from 1 to 7, the lowest first; 0 is 5 */
+    uint8_t priority;      /* from 1, the most urgent, to 7; 0 is 5 */
     bool drops;            /* where a queue is full the query is lost; else the sender waits */
     bool express;          /* it goes out at once, and isn't batched with others */
     bool any_key;          /* replies are taken on any key */
@@ -268,7 +268,7 @@ uint32_t yq_cancel(yq_session *session, uint32_t token, yq_answer *answer);
 
 /* The quality of service of a reply. What is 0 is as its query has it. */
 typedef struct {
-    uint8_t priority;   /* from 1 to 7, the lowest first */
+    uint8_t priority;   /* from 1, the most urgent, to 7 */
     uint8_t congestion; /* where a queue is full: 1 it is lost, 2 the sender waits */
     uint8_t express;    /* 1 it can be batched with others, 2 it goes out at once */
 } yq_reply_quality;
@@ -308,7 +308,7 @@ typedef struct {
     bool is_error;          /* whether a reply is an error */
     bool has_value;         /* whether a query has a payload */
     bool has_attachment;
-    uint8_t priority;       /* from 0 to 7, the lowest first */
+    uint8_t priority;       /* from 0, the most urgent, to 7 */
     bool blocks;            /* where a queue is full the sender waits; else it is lost */
     bool express;
     bool reliable;          /* whether it may not be lost on the way */

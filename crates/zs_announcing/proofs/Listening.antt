@@ -4,7 +4,7 @@ use Rattle.std.proofs.lemmas.Bool.Decides.{nat_tests}
 use Rattle.std.specs.Prelude.{◌==◌, ◌&&◌, ◌||◌, is_some, if◌then◌else◌}
 use Rattle.zs_tables.specs.declared.listener.ListenerRow.{ListenerRow}
 use Rattle.zs_tables.specs.Matching.{status}
-use Rattle.zs_tables.proofs.ByKey.{found_any}
+use Rattle.zs_subscriptions.proofs.ByKey.{found_any}
 use Rattle.zs_events.specs.declared.entity_kind.ParentKind.{ParentKind}
 use Rattle.zs_events.specs.declared.entity_kind.ParentKind.TheVariants.{Pub, Querier}
 use Rattle.zs_events.specs.declared.event.Event.TheVariants.{Listen, Status}

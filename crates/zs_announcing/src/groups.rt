@@ -2,7 +2,7 @@
 
 ghost use Rattle.std.specs.Prelude.{◌≡◌, None, IfOk};
 ghost use Rattle.std.specs.Option.{option_map, option_copied};
-ghost use Rattle.zs_tables.specs.Recipients.{has_network};
+ghost use Rattle.zs_subscriptions.specs.Recipients.{has_network};
 ghost use Rattle.zs_model.specs.Groups.{aggregate_of, aggregates_of, company_at, joins_first, sends_if, last_sends, leaving, declaration_by, end_by};
 ghost use Rattle.zs_model.specs.Sends.{group_wire};
 ghost use Rattle.zs_model.specs.Effects.{key_wire};

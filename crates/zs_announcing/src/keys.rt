@@ -2,7 +2,7 @@
 
 ghost use Rattle.std.specs.Prelude.{◌≡◌, ◌++◌, Some, IfOk};
 ghost use Rattle.zs_events.specs.Kinds.{is_all_of, claim_of};
-ghost use Rattle.zs_tables.specs.Numbers.{key_at};
+ghost use Rattle.zs_subscriptions.specs.Numbers.{key_at};
 ghost use Rattle.zs_world.specs.Keys.{key_of, wire_of, has_claim, is_key_of, resolution};
 
 use std::alloc::{AllocError, Global};

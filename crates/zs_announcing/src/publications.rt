@@ -2,8 +2,8 @@
 
 ghost use Rattle.std.specs.Prelude.{◌≡◌, ◌⊎◌, ◌++◌, ◌<◌, [], Some, None, true, IfOk, OnOk};
 ghost use Rattle.zs_keys.specs.Key.{undeclared};
-ghost use Rattle.zs_tables.specs.Contents.{text_meant, IsByNumber};
-ghost use Rattle.zs_tables.specs.Recipients.{has_session, has_network, recipients};
+ghost use Rattle.zs_subscriptions.specs.Contents.{text_meant, IsByNumber};
+ghost use Rattle.zs_subscriptions.specs.Recipients.{has_session, has_network, recipients};
 ghost use Rattle.zs_events.specs.Kinds.{OwnKey, WireKey, OwnContent, is_nothing, local_content};
 ghost use Rattle.zs_events.specs.Updates.{body_of};
 ghost use Rattle.zs_world.specs.World.{World, tables_of};

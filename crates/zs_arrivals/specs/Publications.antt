@@ -1,7 +1,7 @@
 -- The publications of a history: those that a session's application made, and those that came in from the network.
 use Rattle.std.specs.Prelude.{Bool, true, false, not, ◌&&◌, List, [], ◌∷◌, ◌++◌, map, filter, Option, Some, None}
 use Rattle.zs_sample.specs.declared.sample_fields.SampleFields.{SampleFields}
-use Rattle.zs_tables.specs.Recipients.{has_network}
+use Rattle.zs_subscriptions.specs.Recipients.{has_network}
 use Rattle.zs_events.specs.declared.event.Event.{Event}
 use Rattle.zs_events.specs.declared.turn.Refusal.{Refusal}
 use Rattle.zs_model.specs.declared.settings.Settings.{Settings}

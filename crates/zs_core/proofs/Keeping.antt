@@ -4,12 +4,12 @@ use Rattle.std.specs.Prelude.{◌==◌, not, filter, option_map}
 use Rattle.std.specs.List.{AllByRecursion, find}
 use Rattle.zs_keys.specs.Key.{Key}
 use Rattle.zs_keys.specs.Matching.{intersects}
-use Rattle.zs_tables.specs.Ascending.{Ascend}
+use Rattle.zs_subscriptions.specs.Ascending.{Ascend}
 use Rattle.zs_tables.specs.Groups.{Group, has_text, groups_of}
-use Rattle.zs_tables.specs.Recipients.{matches}
-use Rattle.zs_tables.specs.declared.subscriber.SubRow.{SubRow}
+use Rattle.zs_subscriptions.specs.Recipients.{matches}
+use Rattle.zs_subscriptions.specs.declared.subscriber.SubRow.{SubRow}
 use Rattle.zs_tables.specs.Types.{GroupKind, Subscribers, Publishers, Queriers}
-use Rattle.zs_tables.proofs.Ascending.{all_weaker, all_filter, all_push, ascend_filter, ascend_map, ascend_push, ascend_unmap}
+use Rattle.zs_subscriptions.proofs.Ascending.{all_weaker, all_filter, all_push, ascend_filter, ascend_map, ascend_push, ascend_unmap}
 use Rattle.zs_model.specs.Groups.{Shared, sub_shared, pub_shared, querier_shared, joined_by, left_found, aggregates_of}
 use Rattle.zs_model.specs.declared.settings.Settings.{Settings}
 use Rattle.zs_model.proofs.Groups.{IsOne}

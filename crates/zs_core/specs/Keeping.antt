@@ -2,7 +2,7 @@
 use Rattle.std.specs.Prelude.{◌≡◌, ℕ, ◌<◌, true, List, [], ◌∷◌, map, filter}
 use Rattle.std.specs.List.{AllByRecursion}
 use Rattle.zs_keys.specs.Key.{Key}
-use Rattle.zs_tables.specs.Ascending.{Ascend}
+use Rattle.zs_subscriptions.specs.Ascending.{Ascend}
 use Rattle.zs_tables.specs.Groups.{Group, has_text, has_members, members_of, groups_of}
 use Rattle.zs_tables.specs.Types.{GroupKind, Subscribers, Publishers, Queriers}
 use Rattle.zs_model.specs.Groups.{Shared, sub_shared, pub_shared, querier_shared, sharing, aggregates_of}

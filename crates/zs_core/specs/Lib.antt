@@ -2,10 +2,10 @@ pub mod Types
 pub mod Keeping
 pub use Rattle.zs_world.specs.World
 pub use Rattle.zs_world.specs.Keys
-pub use Rattle.zs_world.specs.DeclaredKeys
-pub use Rattle.zs_world.specs.HolderCounts
-pub use Rattle.zs_world.specs.MatchingTables
-pub use Rattle.zs_world.specs.Bounds
+pub use Rattle.zs_entity_tables.specs.DeclaredKeys
+pub use Rattle.zs_entity_tables.specs.HolderCounts
+pub use Rattle.zs_entity_tables.specs.MatchingTables
+pub use Rattle.zs_entity_tables.specs.Bounds
 pub use Rattle.zs_world.specs.Changes
 pub use Rattle.zs_world.specs.LivelinessChanges
 pub use Rattle.zs_world.specs.MatchingChanges

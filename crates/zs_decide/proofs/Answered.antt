@@ -4,7 +4,7 @@ use Rattle.std.specs.Prelude.{not, ◌||◌, is_some, if◌then◌else◌}
 use Rattle.std.specs.Borrow.{Bor}
 use Rattle.zs_keys.specs.Text.{is_canonical}
 use Rattle.zs_keys.specs.Key.{Key, undeclared}
-use Rattle.zs_tables.proofs.ByKey.{by_test}
+use Rattle.zs_subscriptions.proofs.ByKey.{by_test}
 use Rattle.zs_wire.specs.declared.body.Body.{Body}
 use Rattle.zs_wire.specs.declared.body.Value.{Value}
 use Rattle.zs_query.specs.Types.{QueryValue, RequestRow}

@@ -7,7 +7,7 @@ use Rattle.zs_wire.specs.declared.message.Message.TheVariants.{UndeclareToken}
 use Rattle.zs_events.specs.declared.event.Event.TheVariants.{Net}
 use Rattle.zs_events.specs.Kinds.{is_blank}
 use Rattle.zs_tables.specs.Types.{RemoteToken}
-use Rattle.zs_tables.proofs.ByKey.{found_any}
+use Rattle.zs_subscriptions.proofs.ByKey.{found_any}
 use Rattle.zs_world.specs.declared.change.Change.TheVariants.{OfLiveliness}
 use Rattle.zs_world.specs.declared.change.LivelinessChange.TheVariants.{ForgetToken}
 use Rattle.zs_world.specs.World.{World}

@@ -8,7 +8,7 @@ use Rattle.zs_keys.specs.Text.{is_canonical}
 use Rattle.zs_wire.specs.declared.message.Message.{Message}
 use Rattle.zs_wire.specs.declared.message.Message.TheVariants.{DeclareToken, UndeclareToken}
 use Rattle.zs_wire.specs.declared.wire_expr.WireExpr.{WireExpr}
-use Rattle.zs_tables.specs.Ascending.{placed_by}
+use Rattle.zs_subscriptions.specs.Ascending.{placed_by}
 use Rattle.zs_tables.specs.Liveliness.{put_new}
 use Rattle.zs_tables.specs.Types.{LivelinessGet, RemoteToken}
 use Rattle.zs_events.specs.declared.event.Event.{Event}

@@ -19,10 +19,10 @@ use Rattle.zs_wire.specs.declared.wire_expr.WireExpr.{WireExpr}
 use Rattle.zs_tables.specs.Liveliness.{met_keys, hearers}
 use Rattle.zs_tables.specs.LivelinessGets.{is_asking, is_over, over_at, numbers_with}
 use Rattle.zs_tables.specs.MatchingLaws.{differ}
-use Rattle.zs_tables.specs.Recipients.{has_network}
+use Rattle.zs_subscriptions.specs.Recipients.{has_network}
 use Rattle.zs_tables.specs.declared.listener.ListenerRow.{ListenerRow}
 use Rattle.zs_tables.specs.Types.{LivelinessGet as TokensGet, LivelinessSub, RemoteToken}
-use Rattle.zs_tables.specs.declared.subscriber.SubRow.{SubRow}
+use Rattle.zs_subscriptions.specs.declared.subscriber.SubRow.{SubRow}
 use Rattle.zs_query.specs.declared.open_get.OpenGet.{OpenGet}
 use Rattle.zs_query.specs.declared.outcome.Outcome.{Outcome}
 use Rattle.zs_query.specs.declared.outcome.Outcome.TheVariants as outcome
@@ -33,9 +33,9 @@ use Rattle.zs_query.specs.declared.side.Side.TheVariants.{Local, Network}
 use Rattle.zs_query.specs.Asked.{QuerierEnds, CancelledBy}
 use Rattle.zs_query.specs.Gets.{get_at, peek_at, final_outcome, ends_at, timeout_error}
 use Rattle.zs_query.specs.Unfinished.{value_at, finished}
-use Rattle.zs_tables.proofs.Ascending.{ascend_filter}
+use Rattle.zs_subscriptions.proofs.Ascending.{ascend_filter}
 use Rattle.zs_query.proofs.Ascending.{all_append, all_weaker}
-use Rattle.zs_tables.specs.Ascending.{Ascend}
+use Rattle.zs_subscriptions.specs.Ascending.{Ascend}
 use Rattle.zs_events.specs.declared.event.Event.{Event}
 use Rattle.zs_events.specs.declared.event.Event.TheVariants.{Undeclare, Close, Net, Get, QuerierGet, Cancel, Tick, Reply as reply_event, ReplyErr, Finish, Share}
 use Rattle.zs_events.specs.declared.entity_kind.EntityKind.TheVariants.{Querier as querier_sort}

@@ -18,11 +18,11 @@ use Rattle.zs_tables.specs.Liveliness.{met_keys, hears, hearers}
 use Rattle.zs_tables.specs.Queryables.{is_met, met}
 use Rattle.zs_tables.specs.LivelinessGets.{is_asking, is_over, over_at, is_own, numbers_with}
 use Rattle.zs_tables.specs.MatchingLaws.{differ}
-use Rattle.zs_tables.specs.Recipients.{has_session, has_network}
+use Rattle.zs_subscriptions.specs.Recipients.{has_session, has_network}
 use Rattle.zs_tables.specs.declared.listener.ListenerRow.{ListenerRow}
 use Rattle.zs_tables.specs.Types.{LivelinessGet as TokensGet, LivelinessSub, RemoteToken}
 use Rattle.zs_tables.specs.declared.queryable.QueryableRow.{QueryableRow}
-use Rattle.zs_tables.specs.declared.subscriber.SubRow.{SubRow}
+use Rattle.zs_subscriptions.specs.declared.subscriber.SubRow.{SubRow}
 use Rattle.zs_query.specs.declared.open_get.OpenGet.{OpenGet}
 use Rattle.zs_query.specs.declared.outcome.Outcome.{Outcome}
 use Rattle.zs_query.specs.declared.outcome.Outcome.TheVariants as outcome
@@ -34,9 +34,9 @@ use Rattle.zs_query.specs.Asked.{QuerierEnds, CancelledBy, is_end}
 use Rattle.zs_query.specs.Gets.{get_at, peek_at, final_outcome, is_due, end_of, ends_at, timeout_error}
 use Rattle.zs_query.specs.RequestTable.{Handing}
 use Rattle.zs_query.specs.Unfinished.{value_at, values_from, finished}
-use Rattle.zs_tables.proofs.Ascending.{ascend_filter, ascend_map}
+use Rattle.zs_subscriptions.proofs.Ascending.{ascend_filter, ascend_map}
 use Rattle.zs_query.proofs.Ascending.{all_append}
-use Rattle.zs_tables.specs.Ascending.{Ascend}
+use Rattle.zs_subscriptions.specs.Ascending.{Ascend}
 use Rattle.zs_events.specs.declared.event.Event.{Event}
 use Rattle.zs_events.specs.declared.event.Event.TheVariants.{Publish, PublishBy, Undeclare, Close, Net, Get, QuerierGet, Cancel, Tick, Reply as reply_event, ReplyErr, Finish, Share}
 use Rattle.zs_events.specs.declared.entity_kind.EntityKind.TheVariants.{Sub as sub_kind, Queryable as queryable_sort, Querier as querier_sort, Lsub as lsub_sort}

@@ -3,8 +3,8 @@ use Rattle.std.proofs.Common.{◌≡◌, ◌≤◌, ◌<◌, ℕ, ◌+◌, List,
 use Rattle.std.specs.Prelude.{if◌then◌else◌}
 use Rattle.std.specs.List.{AllByRecursion, flat_map}
 use Rattle.zs_sample.specs.Reply.{Replied}
-use Rattle.zs_tables.specs.Ascending.{Ascend}
-use Rattle.zs_tables.proofs.Ascending.{all_map}
+use Rattle.zs_subscriptions.specs.Ascending.{Ascend}
+use Rattle.zs_subscriptions.proofs.Ascending.{all_map}
 use Rattle.zs_query.proofs.Ascending.{all_append, all_weaker}
 use Rattle.zs_events.specs.declared.turn.Effect.{Effect}
 use Rattle.zs_model.specs.GetEffects.{hand_reply, last_hands}

@@ -1,10 +1,10 @@
 -- What effects are read off stands in ascending order.
 use Rattle.std.proofs.Common.{List}
-use Rattle.zs_tables.specs.Ascending.{Ascend}
+use Rattle.zs_subscriptions.specs.Ascending.{Ascend}
 use Rattle.zs_tables.specs.Types.{LivelinessGet as TokensGet, LivelinessSub}
 use Rattle.zs_tables.specs.declared.queryable.QueryableRow.{QueryableRow}
-use Rattle.zs_tables.specs.declared.subscriber.SubRow.{SubRow}
-use Rattle.zs_tables.proofs.Ascending.{ascend_filter}
+use Rattle.zs_subscriptions.specs.declared.subscriber.SubRow.{SubRow}
+use Rattle.zs_subscriptions.proofs.Ascending.{ascend_filter}
 use Rattle.zs_query.specs.declared.open_get.OpenGet.{OpenGet}
 use Rattle.zs_query.proofs.Hearing.{open_ascend}
 use Rattle.zs_events.specs.declared.event.Event.{Event}

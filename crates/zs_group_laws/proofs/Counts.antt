@@ -4,7 +4,7 @@ use Rattle.std.specs.Prelude.{◌==◌, ◌||◌, not, nat_lt, filter, find}
 use Rattle.std.specs.List.{AllByRecursion, list_any}
 use Rattle.std.proofs.lemmas.Bool.Decides.{nat_tests}
 use Rattle.zs_members.specs.Names.{name_in}
-use Rattle.zs_tables.specs.Ascending.{Ascend, placed_by}
+use Rattle.zs_subscriptions.specs.Ascending.{Ascend, placed_by}
 use Rattle.zs_tables.specs.Types.{RemoteToken}
 use Rattle.zs_group_laws.specs.Groups.{stands_for, one_if, remote_token_count}
 

@@ -4,7 +4,7 @@ use Rattle.std.specs.Prelude.{◌==◌, not, find, filter, is_some, if◌then◌
 use Rattle.std.specs.List.{list_any}
 use Rattle.zs_keys.specs.Key.{undeclared}
 use Rattle.zs_wire.specs.declared.sample_kind.SampleKind.TheVariants.{Put, Delete}
-use Rattle.zs_tables.specs.Ascending.{Ascend, placed_by}
+use Rattle.zs_subscriptions.specs.Ascending.{Ascend, placed_by}
 use Rattle.zs_tables.specs.Types.{LivelinessGet, RemoteToken}
 use Rattle.zs_model.specs.LivelinessEffects.{Watch, token_hands, declared_hands, ended_text, ended_hands}
 use Rattle.zs_model.specs.Tokens.{is_remote_token, with_remote_token}

@@ -3,9 +3,9 @@ use Rattle.std.proofs.Common.{◌≡◌, ◌<◌, ℕ, ◌+◌, Bool, true, fals
 use Rattle.std.specs.Prelude.{◌==◌, not, filter, option_map, encode_utf8_all}
 use Rattle.std.specs.List.{AllByRecursion}
 use Rattle.std.proofs.lemmas.Bool.Decides.{nat_tests}
-use Rattle.zs_tables.specs.Ascending.{Ascend}
+use Rattle.zs_subscriptions.specs.Ascending.{Ascend}
 use Rattle.zs_tables.specs.Types.{RemoteToken}
-use Rattle.zs_tables.proofs.Ascending.{ascend_filter}
+use Rattle.zs_subscriptions.proofs.Ascending.{ascend_filter}
 use Rattle.zs_delivery.specs.Tokens.{told_as}
 use Rattle.zs_members.specs.Names.{name_in}
 use Rattle.zs_group_lines.specs.declared.tokens.Token.{Token}

@@ -6,12 +6,12 @@ use Rattle.zs_events.specs.declared.turn.Effect.{Effect}
 use Rattle.zs_events.specs.declared.turn.Effect.TheVariants.{End}
 use Rattle.zs_events.specs.declared.turn.Kind.TheVariants.{Listener as listener_kind}
 use Rattle.zs_tables.specs.declared.listener.ListenerRow.{ListenerRow}
-use Rattle.zs_tables.specs.Ascending.{Ascend}
+use Rattle.zs_subscriptions.specs.Ascending.{Ascend}
 use Rattle.zs_tables.specs.declared.listener.Listener.{Listener}
-use Rattle.zs_tables.specs.Recipients.{is_behind, first_behind}
-use Rattle.zs_tables.proofs.Ascending.{ascend_map, ascend_filter}
-use Rattle.zs_tables.proofs.ByKey.{by_test}
-use Rattle.zs_tables.proofs.Walking.{ids_next}
+use Rattle.zs_subscriptions.specs.Recipients.{is_behind, first_behind}
+use Rattle.zs_subscriptions.proofs.Ascending.{ascend_map, ascend_filter}
+use Rattle.zs_subscriptions.proofs.ByKey.{by_test}
+use Rattle.zs_subscriptions.proofs.Walking.{ids_next}
 use Rattle.zs_model.specs.Listeners.{listener_ends}
 
 -- the numbers of those that listen to a publisher or querier

@@ -5,9 +5,9 @@ ghost use Rattle.zs_tables.specs.Matching.{own_sub, own_queryable, remote_subscr
 ghost use Rattle.zs_world.specs.Decisions.{listener_effects_at};
 ghost use Rattle.zs_world.specs.Changes.{Fits, with_change};
 ghost use Rattle.zs_world.specs.EntityChanges.{EntitiesFit};
-ghost use Rattle.zs_world.specs.MatchingTables.{heard_effect};
+ghost use Rattle.zs_entity_tables.specs.MatchingTables.{heard_effect};
 ghost use Rattle.zs_model.specs.Listeners.{listener_ends};
-ghost use Rattle.zs_tables.specs.Ascending.{Ascend};
+ghost use Rattle.zs_subscriptions.specs.Ascending.{Ascend};
 
 use std::alloc::AllocError;
 use zs_events::{Effect, Effects, EntityKind, Kind};

@@ -11,7 +11,7 @@ use Rattle.zs_wire.specs.declared.response.Answered.{Answered}
 use Rattle.zs_wire.specs.declared.response.Answered.TheVariants.{Reply, Err as Error}
 use Rattle.zs_wire.specs.declared.response.Response.{Response}
 use Rattle.zs_wire.specs.declared.wire_expr.WireExpr.{WireExpr}
-use Rattle.zs_tables.specs.Recipients.{has_network}
+use Rattle.zs_subscriptions.specs.Recipients.{has_network}
 use Rattle.zs_tables.specs.LivelinessGets.{numbers_with, over_at}
 use Rattle.zs_tables.specs.Types.{LivelinessGet as TokensGet}
 use Rattle.zs_query.specs.declared.get_row.GetRow.{GetRow}

@@ -8,7 +8,7 @@ use Rattle.zs_tables.specs.LivelinessGets.{is_asking}
 use Rattle.zs_tables.specs.declared.listener.ListenerRow.{ListenerRow}
 use Rattle.zs_tables.specs.Types.{LivelinessGet as TokensGet}
 use Rattle.zs_tables.specs.MatchingLaws.{differ}
-use Rattle.zs_tables.proofs.Ascending.{ascend_push}
+use Rattle.zs_subscriptions.proofs.Ascending.{ascend_push}
 use Rattle.zs_query.specs.Ascending.{Ascend}
 use Rattle.zs_query.proofs.Ascending.{all_weaker, all_both, ascend_filter, all_filter}
 use Rattle.zs_wire.specs.declared.message.Message.{Message}

@@ -3,7 +3,7 @@
 use Rattle.std.proofs.Common.{ℕ, List, [], ◌∷◌, ◌++◌, map}
 use Rattle.zs_tables.specs.Types.{LivelinessSub}
 use Rattle.zs_tables.specs.declared.queryable.QueryableRow.{QueryableRow}
-use Rattle.zs_tables.specs.declared.subscriber.SubRow.{SubRow}
+use Rattle.zs_subscriptions.specs.declared.subscriber.SubRow.{SubRow}
 use Rattle.zs_events.specs.declared.entity_kind.EntityKind.TheVariants.{Sub as sub_sort, Queryable as queryable_sort, Lsub as lsub_sort}
 use Rattle.zs_events.specs.declared.event.Event.{Event}
 use Rattle.zs_events.specs.declared.event.Event.TheVariants.{Undeclare, Close}

@@ -5,7 +5,7 @@ use Rattle.std.specs.List.{AllByRecursion, list_any}
 use Rattle.std.proofs.lemmas.Bool.{eqb-true}
 use Rattle.std.proofs.lemmas.List.{length-append, length-map}
 use Rattle.zs_tables.specs.declared.queryable.QueryableRow.{QueryableRow}
-use Rattle.zs_tables.proofs.Ascending.{all_weaker, all_map}
+use Rattle.zs_subscriptions.proofs.Ascending.{all_weaker, all_map}
 use Rattle.zs_query.specs.Types.{QueryValue, RequestRow}
 use Rattle.zs_query.specs.Ascending.{Ascend}
 use Rattle.zs_query.specs.Unfinished.{value_at, values_from}

@@ -1,7 +1,7 @@
 -- A text that is declared again keeps its number, and any other number is new.
 use Rattle.std.proofs.Common.{◌≡◌, ℕ, List, true, false, Option, Some, None, refl, sym, ◌∙◌, ap, arith}
 use Rattle.std.specs.Prelude.{is_some, unwrap_or}
-use Rattle.zs_tables.specs.Numbers.{key_at}
+use Rattle.zs_subscriptions.specs.Numbers.{key_at}
 use Rattle.zs_events.specs.declared.key_arg.KeyArg.{KeyArg}
 use Rattle.zs_model.specs.declared.settings.Settings.{Settings}
 use Rattle.zs_world.specs.World.{World}

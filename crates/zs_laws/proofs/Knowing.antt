@@ -3,12 +3,12 @@ use Rattle.std.proofs.Common.{◌≡◌, ◌≤◌, ◌<◌, ◌+◌, ℕ, Bool,
 use Rattle.std.specs.Prelude.{◌==◌, ◌&&◌, ◌||◌, not, filter, if◌then◌else◌}
 use Rattle.std.specs.List.{AllByRecursion}
 use Rattle.std.proofs.lemmas.Bool.Decides.{nat_tests}
-use Rattle.zs_tables.specs.Ascending.{Ascend}
+use Rattle.zs_subscriptions.specs.Ascending.{Ascend}
 use Rattle.zs_tables.specs.Matching.{status}
 use Rattle.zs_tables.specs.MatchingLaws.{differ}
 use Rattle.zs_tables.specs.declared.listener.ListenerRow.{ListenerRow}
-use Rattle.zs_tables.proofs.Ascending.{all_weaker, all_both, all_filter, all_push, ascend_filter, ascend_push}
-use Rattle.zs_tables.proofs.ByKey.{by_test}
+use Rattle.zs_subscriptions.proofs.Ascending.{all_weaker, all_both, all_filter, all_push, ascend_filter, ascend_push}
+use Rattle.zs_subscriptions.proofs.ByKey.{by_test}
 use Rattle.zs_events.specs.declared.event.Event.{Event}
 use Rattle.zs_events.specs.declared.turn.Effect.{Effect}
 use Rattle.zs_events.specs.declared.turn.Effect.TheVariants.{End}

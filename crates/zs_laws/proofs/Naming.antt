@@ -14,10 +14,10 @@ use Rattle.zs_wire.specs.declared.response.Response.{Response}
 use Rattle.zs_wire.specs.declared.wire_expr.WireExpr.{WireExpr}
 use Rattle.zs_tables.specs.LivelinessGets.{is_over, is_own, numbers_with, over_at}
 use Rattle.zs_tables.specs.Queryables.{met, is_met}
-use Rattle.zs_tables.specs.Recipients.{has_network, has_session}
+use Rattle.zs_subscriptions.specs.Recipients.{has_network, has_session}
 use Rattle.zs_tables.specs.Types.{LivelinessGet as TokensGet}
 use Rattle.zs_tables.specs.declared.queryable.QueryableRow.{QueryableRow}
-use Rattle.zs_tables.proofs.Ascending.{all_map, all_filter}
+use Rattle.zs_subscriptions.proofs.Ascending.{all_map, all_filter}
 use Rattle.zs_query.specs.declared.open_get.OpenGet.{OpenGet}
 use Rattle.zs_query.specs.declared.outcome.Outcome.{Outcome}
 use Rattle.zs_query.specs.declared.outcome.Outcome.TheVariants as outcome

@@ -10,8 +10,8 @@ use Rattle.zs_tables.specs.MatchingLaws.{differ}
 use Rattle.zs_tables.specs.declared.listener.ListenerRow.{ListenerRow}
 use Rattle.zs_tables.specs.Types.{LivelinessGet as TokensGet, LivelinessSub}
 use Rattle.zs_tables.specs.declared.queryable.QueryableRow.{QueryableRow}
-use Rattle.zs_tables.specs.declared.subscriber.SubRow.{SubRow}
-use Rattle.zs_tables.proofs.Ascending.{all_weaker, all_filter}
+use Rattle.zs_subscriptions.specs.declared.subscriber.SubRow.{SubRow}
+use Rattle.zs_subscriptions.proofs.Ascending.{all_weaker, all_filter}
 use Rattle.zs_query.proofs.Ascending.{all_append}
 use Rattle.zs_events.specs.declared.event.Event.{Event}
 use Rattle.zs_events.specs.declared.event.Event.TheVariants.{Undeclare, Lsub, Net}

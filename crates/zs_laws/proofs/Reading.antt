@@ -15,9 +15,9 @@ use Rattle.zs_keys.specs.declared.declaration.Declared.{Declared}
 use Rattle.zs_wire.specs.declared.message.Message.{Message}
 use Rattle.zs_wire.specs.declared.message.Message.TheVariants.{DeclareKeyExpr, Request as request_message, Response as response_message, ResponseFinal}
 use Rattle.zs_keys.specs.Matching.{includes}
-use Rattle.zs_tables.specs.Recipients.{has_network}
+use Rattle.zs_subscriptions.specs.Recipients.{has_network}
 use Rattle.zs_wire.specs.declared.wire_expr.WireExpr.{WireExpr}
-use Rattle.zs_tables.specs.Numbers.{key_at}
+use Rattle.zs_subscriptions.specs.Numbers.{key_at}
 use Rattle.zs_events.specs.declared.event.Event.{Event}
 use Rattle.zs_events.specs.declared.event.Event.TheVariants.{Net, ReplyErr}
 use Rattle.zs_events.specs.declared.key_arg.KeyArg.{KeyArg}

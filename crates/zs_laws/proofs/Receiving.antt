@@ -12,7 +12,7 @@ use Rattle.zs_wire.specs.declared.interest.InterestWhat.TheVariants.{Queryables 
 use Rattle.zs_wire.specs.declared.wire_expr.Mapping.{Mapping}
 use Rattle.zs_wire.specs.declared.wire_expr.Mapping.TheVariants.{Sender, Receiver}
 use Rattle.zs_wire.specs.declared.wire_expr.WireExpr.{WireExpr}
-use Rattle.zs_tables.proofs.Ascending.{all_weaker}
+use Rattle.zs_subscriptions.proofs.Ascending.{all_weaker}
 use Rattle.zs_events.specs.declared.event.Event.{Event}
 use Rattle.zs_events.specs.declared.event.Event.TheVariants.{Net}
 use Rattle.zs_events.specs.declared.turn.Refusal.{Refusal}

@@ -2,9 +2,9 @@
 use Rattle.std.proofs.Common.{◌≡◌, ℕ, List, Option, Some, None, refl, ◌∙◌, ap}
 use Rattle.std.specs.Prelude.{option_map}
 use Rattle.zs_keys.specs.Key.{Key as a_key}
-use Rattle.zs_tables.specs.declared.subscriber.SubRow.{SubRow}
-use Rattle.zs_tables.specs.Numbers.{key_at}
-use Rattle.zs_tables.specs.Recipients.{matches}
+use Rattle.zs_subscriptions.specs.declared.subscriber.SubRow.{SubRow}
+use Rattle.zs_subscriptions.specs.Numbers.{key_at}
+use Rattle.zs_subscriptions.specs.Recipients.{matches}
 use Rattle.zs_world.specs.Keys.{numbers_for}
 use Rattle.zs_model.specs.Past.{past_of}
 use Rattle.zs_model.specs.HeldKeys.{mapped_text}

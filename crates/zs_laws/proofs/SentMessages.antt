@@ -6,7 +6,7 @@ use mathlib.Core.List.{append-nil}
 use Rattle.zs_keys.specs.Key.{Key as a_key}
 use Rattle.zs_wire.specs.declared.message.Message.{Message}
 use Rattle.zs_wire.specs.declared.message.Message.TheVariants.{Request as request_message, Response as response_message, ResponseFinal}
-use Rattle.zs_tables.specs.declared.subscriber.SubRow.{SubRow}
+use Rattle.zs_subscriptions.specs.declared.subscriber.SubRow.{SubRow}
 use Rattle.zs_tables.specs.declared.queryable.QueryableRow.{QueryableRow}
 use Rattle.zs_model.specs.Queryables.{queryable_ends}
 use Rattle.zs_events.specs.declared.event.Event.{Event}

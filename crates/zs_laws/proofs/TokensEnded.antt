@@ -12,7 +12,7 @@ use Rattle.zs_wire.specs.declared.response.Answered.TheVariants.{Reply, Err as E
 use Rattle.zs_wire.specs.declared.response.Response.{Response}
 use Rattle.zs_wire.specs.declared.wire_expr.WireExpr.{WireExpr}
 use Rattle.zs_tables.specs.LivelinessGets.{is_asking, over_at, numbers_with}
-use Rattle.zs_tables.specs.Recipients.{has_network}
+use Rattle.zs_subscriptions.specs.Recipients.{has_network}
 use Rattle.zs_tables.specs.Types.{LivelinessGet as TokensGet}
 use Rattle.zs_query.specs.declared.open_get.OpenGet.{OpenGet}
 use Rattle.zs_query.specs.declared.outcome.Outcome.{Outcome}

@@ -5,7 +5,7 @@ use Rattle.std.specs.List.{list_any}
 use Rattle.std.specs.Option.{option_or}
 use Rattle.std.proofs.lemmas.Bool.{eqb-true}
 use Rattle.zs_keys.specs.Key.{undeclared}
-use Rattle.zs_tables.specs.Ascending.{placed_by}
+use Rattle.zs_subscriptions.specs.Ascending.{placed_by}
 use Rattle.zs_tables.specs.Types.{LivelinessGet, RemoteToken}
 use Rattle.zs_events.specs.declared.event.Event.{Event}
 use Rattle.zs_events.specs.Kinds.{ToLiveliness, NoToken, Subscribes, AsksTokens, TellsToken, EndsToken, EndsAnswers, row_of}

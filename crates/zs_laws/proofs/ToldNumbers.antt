@@ -7,7 +7,7 @@ use Rattle.zs_keys.specs.Key.{Key as a_key, undeclared}
 use Rattle.zs_wire.specs.declared.message.Message.{Message}
 use Rattle.zs_wire.specs.declared.message.Message.TheVariants.{DeclareKeyExpr, UndeclareKeyExpr}
 use Rattle.zs_wire.specs.declared.wire_expr.WireExpr.{WireExpr}
-use Rattle.zs_tables.specs.Numbers.{NumberedKey, key_at, number_at, without}
+use Rattle.zs_subscriptions.specs.Numbers.{NumberedKey, key_at, number_at, without}
 use Rattle.zs_events.specs.declared.event.Event.{Event}
 use Rattle.zs_events.specs.declared.event.Event.TheVariants.{Key, UndeclareKey, Close}
 use Rattle.zs_events.specs.declared.key_arg.KeyArg.TheVariants.{Text, Number, Declared as declared_text}
@@ -21,7 +21,7 @@ use Rattle.zs_world.specs.declared.change.Decision.{Decision}
 use Rattle.zs_world.specs.World.{World}
 use Rattle.zs_model.specs.Entry.{Entry}
 use Rattle.zs_model.specs.Past.{past_of}
-use Rattle.zs_world.specs.DeclaredKeys.{is_last}
+use Rattle.zs_entity_tables.specs.DeclaredKeys.{is_last}
 use Rattle.zs_world.specs.Keys.{key_of}
 use Rattle.zs_world.specs.Changes.{change_for, key_change, key_change_by, with_change}
 use Rattle.zs_model.specs.Publishers.{resolved}

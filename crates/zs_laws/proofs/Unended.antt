@@ -4,8 +4,8 @@ use Rattle.std.specs.Prelude.{not, ◌||◌, filter, if◌then◌else◌}
 use Rattle.std.specs.List.{list_any}
 use mathlib.Core.List.{append-nil}
 use Rattle.zs_keys.specs.Matching.{intersects}
-use Rattle.zs_tables.proofs.Ascending.{ascend_map, ascend_filter}
-use Rattle.zs_tables.specs.declared.subscriber.SubRow.{SubRow}
+use Rattle.zs_subscriptions.proofs.Ascending.{ascend_map, ascend_filter}
+use Rattle.zs_subscriptions.specs.declared.subscriber.SubRow.{SubRow}
 use Rattle.zs_events.specs.declared.event.Event.{Event}
 use Rattle.zs_model.specs.Entry.{Entry}
 use Rattle.zs_model.specs.Listeners.{ends_listener}

@@ -6,7 +6,7 @@ use Rattle.zs_keys.specs.Text.{is_canonical}
 use Rattle.zs_wire.specs.declared.message.Message.{Message}
 use Rattle.zs_wire.specs.declared.message.Message.TheVariants.{Push as push_message}
 use Rattle.zs_wire.specs.declared.push.Push.{Push}
-use Rattle.zs_tables.specs.Recipients.{has_network}
+use Rattle.zs_subscriptions.specs.Recipients.{has_network}
 use Rattle.zs_events.specs.declared.event.Event.{Event}
 use Rattle.zs_events.specs.Kinds.{incoming_content}
 use Rattle.zs_model.specs.declared.settings.Settings.{Settings}

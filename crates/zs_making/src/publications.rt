@@ -2,9 +2,9 @@
 
 ghost use Rattle.std.specs.Prelude.{◌≡◌, ◌+◌, ◌++◌, Some, None, IfOk, OnOk, IsSome};
 ghost use Rattle.std.specs.Option.{ForSome};
-ghost use Rattle.zs_tables.specs.Numbers.{key_at};
-ghost use Rattle.zs_tables.specs.Contents.{text_meant, IsByNumber, numbers_of};
-ghost use Rattle.zs_tables.specs.Recipients.{recipients};
+ghost use Rattle.zs_subscriptions.specs.Numbers.{key_at};
+ghost use Rattle.zs_subscriptions.specs.Contents.{text_meant, IsByNumber, numbers_of};
+ghost use Rattle.zs_subscriptions.specs.Recipients.{recipients};
 ghost use Rattle.zs_model.specs.Sends.{prefix_declaration};
 ghost use Rattle.zs_model.specs.Publications.{hand_to, hands_to};
 

@@ -1,7 +1,7 @@
 -- The tables of cancellation tokens are what the events tell.
 use Rattle.std.proofs.Common.{◌≡◌, ◌+◌, ℕ, List, [], ◌∷◌, Bool, Option, Some, None, refl, ◌∙◌, ap}
 use Rattle.std.specs.Prelude.{◌==◌, ◌||◌, if◌then◌else◌}
-use Rattle.zs_tables.specs.Ascending.{placed_by}
+use Rattle.zs_subscriptions.specs.Ascending.{placed_by}
 use Rattle.zs_events.specs.Kinds.{ToGets, Cancels, Row, row_of}
 use Rattle.zs_model.specs.Entry.{Entry}
 use Rattle.zs_model.specs.Cancelling.{Cancelling, draws_cancellation_token, next_cancellation_token, cancels, is_taken, is_any, is_among}

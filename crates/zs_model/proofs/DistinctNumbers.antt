@@ -7,7 +7,7 @@ use Rattle.std.proofs.lemmas.Bool.{eqb-true}
 use Rattle.std.proofs.lemmas.Bool.Decides.{nat_tests}
 use Rattle.std.proofs.lemmas.Slice.Eq.{bytes_eq-Decides}
 use Rattle.zs_keys.specs.Key.{Key as a_key}
-use Rattle.zs_tables.specs.Numbers.{NumberedKey, key_at, number_at, placed}
+use Rattle.zs_subscriptions.specs.Numbers.{NumberedKey, key_at, number_at, placed}
 
 -- another number and another text
 abbrev pub Differ : NumberedKey → NumberedKey → Type 0

@@ -7,7 +7,7 @@ use Rattle.std.proofs.lemmas.List.Folds.{list_any-append}
 use Rattle.std.proofs.lemmas.List.Elements.{filter-append, filter_agree}
 use Rattle.zs_wire.specs.declared.message.Message.{Message}
 use Rattle.zs_wire.specs.declared.message.Message.TheVariants.{Close as close_message}
-use Rattle.zs_tables.specs.Ascending.{Ascend}
+use Rattle.zs_subscriptions.specs.Ascending.{Ascend}
 use Rattle.zs_events.specs.declared.event.Event.{Event}
 use Rattle.zs_events.specs.declared.turn.Kind.{Kind}
 use Rattle.zs_events.specs.Kinds.{NoEntity, message_row}

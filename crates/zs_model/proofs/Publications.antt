@@ -4,8 +4,8 @@ use Rattle.std.specs.Prelude.{◌&&◌, not, map, filter, if◌then◌else◌}
 use Rattle.zs_keys.specs.Matching.{intersects}
 use Rattle.zs_sample.specs.declared.locality.Locality.{Locality}
 use Rattle.zs_sample.specs.declared.sample_fields.SampleFields.{SampleFields}
-use Rattle.zs_tables.specs.declared.subscriber.SubRow.{SubRow}
-use Rattle.zs_tables.specs.Recipients.{has_session, receives, recipients}
+use Rattle.zs_subscriptions.specs.declared.subscriber.SubRow.{SubRow}
+use Rattle.zs_subscriptions.specs.Recipients.{has_session, receives, recipients}
 use Rattle.zs_model.specs.Publications.{Publication, allows, hands, hand_to, hands_to, reached}
 
 -- those who pass one test are handed it where those who pass another, equal one receive it

@@ -4,7 +4,7 @@ use Rattle.std.specs.Prelude.{◌==◌, ◌&&◌, not, map, filter, bytes_eq, if
 use Rattle.std.specs.List.{AllByRecursion, find}
 use Rattle.std.proofs.lemmas.Bool.{eqb-true}
 use Rattle.zs_keys.specs.Key.{Key}
-use Rattle.zs_tables.specs.Ascending.{Ascend}
+use Rattle.zs_subscriptions.specs.Ascending.{Ascend}
 use Rattle.zs_tables.specs.Groups.{Group, number_of_group, members_of, joined, left}
 use Rattle.zs_model.specs.Groups.{Shared, share_text, shares, sharing, joined_by, left_by}
 use Rattle.zs_model.proofs.Groups.{AreApart, numbered, apart_joined, members_joined, number_joined, number_kept, apart_left, members_left, number_left_is}

@@ -6,10 +6,10 @@ use Rattle.std.specs.Option.{option_or}
 use Rattle.std.proofs.lemmas.Bool.Decides.{nat_tests}
 use Rattle.zs_keys.specs.Key.{undeclared}
 use Rattle.zs_events.specs.Kinds.{ToLiveliness, NoToken, Subscribes, AsksTokens, TellsToken, EndsToken, EndsAnswers, row_of}
-use Rattle.zs_tables.specs.Ascending.{Ascend, placed_by}
+use Rattle.zs_subscriptions.specs.Ascending.{Ascend, placed_by}
 use Rattle.zs_tables.specs.Liveliness.{put_new}
 use Rattle.zs_tables.specs.Types.{LivelinessGet, RemoteToken}
-use Rattle.zs_tables.proofs.Ascending.{ascend_placed, ascend_filter}
+use Rattle.zs_subscriptions.proofs.Ascending.{ascend_placed, ascend_filter}
 use Rattle.zs_model.specs.declared.settings.Settings.{Settings}
 use Rattle.zs_model.specs.Entry.{Entry}
 use Rattle.zs_model.specs.Tokens.{answers, remote_tokens_behind, remote_tokens, text_behind, token_text, asking_now}

@@ -1,6 +1,6 @@
 -- What an event is answered and brings about, told by the events alone.
 use Rattle.std.specs.Prelude.{ℕ, List, [], ◌∷◌, ◌++◌, Option, Some, None, option_map, if◌then◌else◌, Bool, true, false}
-use Rattle.zs_tables.specs.declared.subscriber.SubRow.{SubRow}
+use Rattle.zs_subscriptions.specs.declared.subscriber.SubRow.{SubRow}
 use Rattle.zs_tables.specs.declared.queryable.QueryableRow.{QueryableRow}
 use Rattle.zs_events.specs.declared.event.Event.{Event}
 use Rattle.zs_events.specs.declared.event.Event.TheVariants.{Sub, Pub, Queryable, Querier, Undeclare, Close, Token, Lsub, LivelinessGet}
@@ -24,7 +24,7 @@ use Rattle.zs_wire.specs.declared.interest.InterestMode.TheVariants.{CurrentFutu
 use Rattle.zs_wire.specs.declared.interest.InterestWhat.TheVariants.{Subscribers as of_subscribers, Queryables as of_queryables, Tokens as of_tokens}
 use Rattle.zs_wire.specs.declared.message.Message.{Message}
 use Rattle.zs_wire.specs.declared.interest.InterestMode.{InterestMode}
-use Rattle.zs_tables.specs.Recipients.{has_network}
+use Rattle.zs_subscriptions.specs.Recipients.{has_network}
 use Rattle.zs_tables.specs.Types.{GroupKind, Subscribers, Publishers, Queriers, LivelinessSub}
 use Rattle.zs_model.specs.Subscribers.{sub_at, sub_ends}
 use Rattle.zs_model.specs.Groups.{Company, company_of, sub_shared, pub_shared, querier_shared, joins_first, sends_if, leaving, subscriber_end, interest_end, querier_end}

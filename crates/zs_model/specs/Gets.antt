@@ -6,7 +6,7 @@ use Rattle.zs_wire.specs.declared.body.Value.{Value}
 use Rattle.zs_wire.specs.declared.response.Answered.{Answered}
 use Rattle.zs_wire.specs.declared.response.Answered.TheVariants.{Reply, Err as Error}
 use Rattle.zs_wire.specs.declared.response.Response.{Response}
-use Rattle.zs_tables.specs.Recipients.{has_session}
+use Rattle.zs_subscriptions.specs.Recipients.{has_session}
 use Rattle.zs_query.specs.declared.side.Side.TheVariants.{Local, Network}
 use Rattle.zs_query.specs.declared.open_get.OpenGet.{OpenGet}
 use Rattle.zs_query.specs.declared.outcome.Outcome.{Outcome}

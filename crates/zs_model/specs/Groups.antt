@@ -6,8 +6,8 @@ use Rattle.zs_keys.specs.Key.{Key}
 use Rattle.zs_keys.specs.Matching.{includes}
 use Rattle.zs_tables.specs.Groups.{AllGroups, Group, groups_of, members_of, number_of_group, joined, left}
 use Rattle.zs_tables.specs.Types.{GroupKind, Subscribers, Publishers, Queriers}
-use Rattle.zs_tables.specs.Recipients.{has_network}
-use Rattle.zs_tables.specs.declared.subscriber.SubRow.{SubRow}
+use Rattle.zs_subscriptions.specs.Recipients.{has_network}
+use Rattle.zs_subscriptions.specs.declared.subscriber.SubRow.{SubRow}
 use Rattle.zs_wire.specs.declared.message.Message.{Message}
 use Rattle.zs_wire.specs.declared.message.Message.TheVariants.{DeclareSubscriber, UndeclareSubscriber, Interest}
 use Rattle.zs_wire.specs.declared.interest.InterestMode.TheVariants.{CurrentFuture, Final}

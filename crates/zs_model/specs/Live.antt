@@ -5,7 +5,7 @@ use Rattle.zs_events.specs.declared.event.Event.{Event}
 use Rattle.zs_events.specs.declared.event.Event.TheVariants.{Close}
 use Rattle.zs_events.specs.declared.turn.Kind.{Kind}
 use Rattle.zs_events.specs.declared.turn.Kind.TheVariants.{Subscriber, Publisher, Queryable as queryable_kind, Querier as querier_kind, Token as token_kind, LivelinessSubscriber, Listener, Get, LivelinessGet}
-use Rattle.zs_tables.specs.declared.subscriber.SubRow.{SubRow}
+use Rattle.zs_subscriptions.specs.declared.subscriber.SubRow.{SubRow}
 use Rattle.zs_tables.specs.declared.queryable.QueryableRow.{QueryableRow}
 use Rattle.zs_events.specs.Kinds.{Named, ToGets, ToEntities, Declares, EndsEntity, LeavesEntity, row_of}
 use Rattle.zs_model.specs.Entry.{Entry}

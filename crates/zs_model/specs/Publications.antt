@@ -8,14 +8,14 @@ use Rattle.zs_wire.specs.declared.sample_kind.SampleKind.{SampleKind}
 use Rattle.zs_wire.specs.declared.sample_kind.SampleKind.TheVariants.{Put as put_kind, Delete as delete_kind}
 use Rattle.zs_sample.specs.Encoding.{encoding_of}
 use Rattle.zs_sample.specs.Quality.{priority_of}
-use Rattle.zs_tables.specs.Recipients.{has_session, has_network, recipients}
+use Rattle.zs_subscriptions.specs.Recipients.{has_session, has_network, recipients}
 use Rattle.zs_events.specs.declared.publication.Content.{Content}
 use Rattle.zs_events.specs.Updates.{default_encoding}
 use Rattle.zs_events.specs.declared.turn.Effect.{Effect}
 use Rattle.zs_events.specs.declared.turn.Effect.TheVariants.{Hand}
 use Rattle.zs_events.specs.declared.turn.HandOver.TheVariants.{Sample as sample_for}
 use Rattle.zs_events.specs.declared.turn.Kind.TheVariants.{Subscriber}
-use Rattle.zs_tables.specs.declared.subscriber.SubRow.{SubRow}
+use Rattle.zs_subscriptions.specs.declared.subscriber.SubRow.{SubRow}
 
 -- a publication: made in this session, for a destination, or come in from the network
 pub record Publication : Type 0 where

@@ -9,7 +9,7 @@ use Rattle.zs_wire.specs.declared.request.ConsolidationMode.TheVariants as by
 use Rattle.zs_wire.specs.declared.request.Request.{Request}
 use Rattle.zs_wire.specs.declared.wire_expr.WireExpr.{WireExpr}
 use Rattle.zs_sample.specs.Encoding.{encoding_of}
-use Rattle.zs_tables.specs.Recipients.{has_session, has_network}
+use Rattle.zs_subscriptions.specs.Recipients.{has_session, has_network}
 use Rattle.zs_query.specs.declared.get_row.GetRow.{GetRow}
 use Rattle.zs_events.specs.Kinds.{Question}
 

@@ -6,7 +6,7 @@ use Rattle.zs_wire.specs.declared.message.Message.{Message}
 use Rattle.zs_wire.specs.declared.message.Message.TheVariants.{DeclareKeyExpr, UndeclareKeyExpr, Push, Close as close_message}
 use Rattle.zs_wire.specs.declared.wire_expr.Mapping.TheVariants.{Sender}
 use Rattle.zs_wire.specs.declared.wire_expr.WireExpr.{WireExpr}
-use Rattle.zs_tables.specs.Recipients.{has_network}
+use Rattle.zs_subscriptions.specs.Recipients.{has_network}
 use Rattle.zs_events.specs.declared.event.Event.{Event}
 use Rattle.zs_events.specs.declared.event.Event.TheVariants.{Key, UndeclareKey, Close}
 use Rattle.zs_events.specs.declared.key_arg.KeyArg.{KeyArg}

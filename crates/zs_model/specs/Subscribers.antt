@@ -6,7 +6,7 @@ use Rattle.zs_events.specs.declared.event.Event.TheVariants.{Sub}
 use Rattle.zs_events.specs.declared.turn.Effect.{Effect}
 use Rattle.zs_events.specs.declared.turn.Effect.TheVariants.{End}
 use Rattle.zs_events.specs.declared.turn.Kind.TheVariants.{Subscriber}
-use Rattle.zs_tables.specs.declared.subscriber.SubRow.{SubRow}
+use Rattle.zs_subscriptions.specs.declared.subscriber.SubRow.{SubRow}
 
 -- the subscriber that an event declares, given the number that it drew and the text of its key
 abbrev pub sub_row : Event → Option ℕ → Option (List ℕ) → List SubRow

@@ -5,7 +5,7 @@ use Rattle.zs_keys.specs.Key.{undeclared}
 use Rattle.zs_wire.specs.declared.request.QueryTarget.{QueryTarget}
 use Rattle.zs_wire.specs.declared.request.QueryTarget.TheVariants.{AllComplete}
 use Rattle.zs_wire.specs.declared.request.Request.{Request}
-use Rattle.zs_tables.specs.Recipients.{has_session}
+use Rattle.zs_subscriptions.specs.Recipients.{has_session}
 use Rattle.zs_tables.specs.Queryables.{met}
 use Rattle.zs_tables.specs.declared.queryable.QueryableRow.{QueryableRow}
 use Rattle.zs_query.specs.Types.{QueryValue, RequestRow}

@@ -1,7 +1,7 @@
 //! Whom a locality reaches: this session, the network, or both.
 
 ghost use Rattle.std.specs.Prelude.{◌≡◌};
-ghost use Rattle.zs_tables.specs.Recipients.{has_session, has_network, matches};
+ghost use Rattle.zs_subscriptions.specs.Recipients.{has_session, has_network, matches};
 
 use zs_sample::Locality;
 

@@ -2,7 +2,7 @@
 use Rattle.std.proofs.Common.{◌≡◌, List, [], ◌∷◌, ◌++◌, Bool, true, false, refl, ◌∙◌, ap, map, cond}
 use Rattle.std.specs.Prelude.{filter}
 use Rattle.zs_wire.specs.declared.message.Message.{Message}
-use Rattle.zs_tables.specs.declared.subscriber.SubRow.{SubRow}
+use Rattle.zs_subscriptions.specs.declared.subscriber.SubRow.{SubRow}
 use Rattle.zs_tables.specs.declared.listener.ListenerRow.{ListenerRow}
 use Rattle.zs_events.specs.declared.turn.Effect.{Effect}
 use Rattle.zs_events.specs.declared.turn.Effect.TheVariants.{Send, Hand, Matching}

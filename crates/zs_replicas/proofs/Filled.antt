@@ -7,8 +7,8 @@ use Rattle.std.proofs.lemmas.Str.{scalars-chars}
 use Rattle.zs_wire.specs.declared.message.Message.{Message}
 use Rattle.zs_sample.specs.declared.locality.Locality.TheVariants.{Any}
 use Rattle.zs_sample.specs.declared.sample_fields.SampleFields.{SampleFields}
-use Rattle.zs_tables.specs.Recipients.{has_network}
-use Rattle.zs_tables.specs.declared.subscriber.SubRow.{SubRow}
+use Rattle.zs_subscriptions.specs.Recipients.{has_network}
+use Rattle.zs_subscriptions.specs.declared.subscriber.SubRow.{SubRow}
 use Rattle.zs_events.specs.declared.event.Event.{Event}
 use Rattle.zs_events.specs.declared.event.Event.TheVariants.{Publish, Get, Reply, Finish, Net}
 use Rattle.zs_events.specs.declared.turn.Refusal.{Refusal}

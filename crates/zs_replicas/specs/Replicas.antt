@@ -8,7 +8,7 @@ use Rattle.zs_keys.specs.Text.{is_canonical}
 use Rattle.zs_wire.specs.declared.origin.Timestamp.{Timestamp}
 use Rattle.zs_sample.specs.declared.locality.Locality.{Locality}
 use Rattle.zs_sample.specs.declared.locality.Locality.TheVariants.{Any}
-use Rattle.zs_tables.specs.declared.subscriber.SubRow.{SubRow}
+use Rattle.zs_subscriptions.specs.declared.subscriber.SubRow.{SubRow}
 use Rattle.zs_events.specs.declared.chan.Chan.TheVariants.{Print}
 use Rattle.zs_events.specs.declared.event.Event.{Event}
 use Rattle.zs_events.specs.declared.event.Event.TheVariants.{Sub, Queryable, Publish, Get, Reply, Finish}

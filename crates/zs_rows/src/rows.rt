@@ -7,7 +7,7 @@ ghost use Rattle.zs_rows.specs.Rows.{row_at, without_row, with_row, placed_row, 
 use crate::behind::start_behind;
 use std::alloc::{AllocError, Global};
 use std::collections::BTreeMap;
-use std::collections::btree_map::Iter;
+use std::collections::btree_map::{Iter, Range};
 use std::marker::Model;
 use std::ops::Bound;
 
@@ -82,6 +82,14 @@ impl<R> Rows<R> {
         ensures ascending { Ascend (λ e. e.0) self.now }
     {
         self.rows.iter()
+    }
+
+    /// The rows of the numbers above that one, or all, with their numbers, ascending.
+    pub fn iter_behind(&self, after: Option<u32>) -> Range<'_, u32, R>
+        ensures rest { result ≡ filter (λ e. is_behind after e.0) self.now }
+        ensures runs { ShowsInOrder (deref_pair {K = ℕ} {X = R}) }
+    {
+        self.rows.range((start_behind(after), Bound::Unbounded))
     }
 
     /// Lends the row of that number.

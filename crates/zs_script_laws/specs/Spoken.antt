@@ -1,7 +1,7 @@
 -- What the events of lines send, and how whoever receives it reads it.
 use Rattle.std.specs.Prelude.{◌≡◌, ℕ, true, List, [], ◌∷◌, Option, Some, None}
 use Rattle.std.specs.List.{AllByRecursion}
-use Rattle.zs_tables.specs.Recipients.{has_network}
+use Rattle.zs_subscriptions.specs.Recipients.{has_network}
 use Rattle.zs_events.specs.declared.event.Event.{Event}
 use Rattle.zs_events.specs.declared.script_event.ScriptEvent.{ScriptEvent}
 use Rattle.zs_events.specs.declared.script_event.ScriptEvent.TheVariants.{Core, Recv}

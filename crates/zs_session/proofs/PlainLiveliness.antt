@@ -8,7 +8,7 @@ use Rattle.zs_keys.specs.Key.{Key, undeclared}
 use Rattle.zs_keys.specs.Matching.{intersects}
 use Rattle.zs_wire.specs.declared.sample_kind.SampleKind.{SampleKind}
 use Rattle.zs_wire.specs.declared.sample_kind.SampleKind.TheVariants.{Put as put_kind, Delete as delete_kind}
-use Rattle.zs_tables.specs.Ascending.{placed_by}
+use Rattle.zs_subscriptions.specs.Ascending.{placed_by}
 use Rattle.zs_tables.specs.Liveliness.{put_new, met_keys, hearers}
 use Rattle.zs_tables.specs.Types.{RemoteToken, LivelinessGet}
 use Rattle.zs_tables.specs.LivelinessGets.{is_asking}

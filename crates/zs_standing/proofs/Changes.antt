@@ -2,7 +2,7 @@
 use Rattle.std.proofs.Common.{◌≡◌, false, Some, None, refl, sym}
 use Rattle.std.specs.Prelude.{◌==◌}
 use Rattle.zs_keys.specs.Key.{undeclared}
-use Rattle.zs_tables.specs.Numbers.{key_at}
+use Rattle.zs_subscriptions.specs.Numbers.{key_at}
 use Rattle.zs_events.specs.declared.event.Event.{Event}
 use Rattle.zs_events.specs.declared.event.Event.TheVariants.{Key, UndeclareKey, Sub, Pub, Queryable, Querier, Undeclare, Background, Net, Get, QuerierGet, Listen, CancelToken, Reply as reply_event, Share, Finish, Token, Lsub, LivelinessGet}
 use Rattle.zs_events.specs.declared.entity_kind.EntityKind.TheVariants.{Sub as sub_kind}

@@ -4,8 +4,8 @@ use Rattle.std.specs.Prelude.{◌==◌, ◌&&◌, ◌||◌, not, nat_lt, is_some
 use Rattle.std.proofs.lemmas.Bool.{eqb-true}
 use Rattle.std.proofs.lemmas.Bool.Decides.{nat_tests}
 use Rattle.zs_keys.specs.Key.{Key as a_key}
-use Rattle.zs_tables.specs.Numbers.{NumberedKey, key_at, without}
-use Rattle.zs_world.specs.declared.declared_key.KeyHolders.{KeyHolders}
+use Rattle.zs_subscriptions.specs.Numbers.{NumberedKey, key_at, without}
+use Rattle.zs_entity_tables.specs.declared.declared_key.KeyHolders.{KeyHolders}
 use Rattle.zs_world.specs.declared.change.Change.{Change}
 use Rattle.zs_world.specs.declared.change.Change.TheVariants.{Nothing, OfKeys, OfNetwork, Shut}
 use Rattle.zs_world.specs.declared.change.KeyChange.TheVariants.{Declare, Hold, Release}
@@ -14,7 +14,7 @@ use Rattle.zs_world.specs.World.{World}
 use Rattle.zs_model.specs.Entry.{Entry, is_closed}
 use Rattle.std.specs.Option.{option_or}
 use Rattle.zs_model.specs.HeldKeys.{times_declared, times_returned, is_held, held_count, drawn_text, held_text, remote_text, declares_number}
-use Rattle.zs_world.specs.DeclaredKeys.{holders_of, has_holder, raised, is_last, lowered}
+use Rattle.zs_entity_tables.specs.DeclaredKeys.{holders_of, has_holder, raised, is_last, lowered}
 use Rattle.zs_world.specs.Changes.{with_change, Fits}
 use Rattle.zs_standing.proofs.Numbers.{has_holder-raised, holders_of-raised, has_holder-lowered, holders_of-lowered, holders_none, key_at-placed, key_at-without, or_known}
 use Rattle.zs_model.proofs.DistinctNumbers.{Once, apart, once-placed, once-without}

@@ -3,7 +3,7 @@ use Rattle.std.proofs.Common.{◌≡◌, ℕ, List, Bool, true, false, Option, S
 use Rattle.std.specs.Prelude.{◌==◌, ◌&&◌, ◌||◌, not, is_some, unwrap_or, encode_utf8_all, if◌then◌else◌}
 use Rattle.zs_keys.specs.Key.{Key as a_key}
 use Rattle.zs_wire.specs.declared.wire_expr.WireExpr.{WireExpr}
-use Rattle.zs_tables.specs.Numbers.{key_at, number_at}
+use Rattle.zs_subscriptions.specs.Numbers.{key_at, number_at}
 use Rattle.zs_events.specs.declared.event.Event.{Event}
 use Rattle.zs_events.specs.declared.event.Event.TheVariants.{Key, UndeclareKey, Net}
 use Rattle.zs_events.specs.declared.key_arg.KeyArg.{KeyArg}

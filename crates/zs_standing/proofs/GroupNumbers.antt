@@ -4,10 +4,10 @@ use Rattle.std.specs.Prelude.{◌==◌, not, map, filter, option_map, if◌then�
 use Rattle.std.specs.List.{find}
 use Rattle.std.proofs.lemmas.Bool.{eqb-true}
 use Rattle.zs_keys.specs.Key.{Key}
-use Rattle.zs_tables.specs.Ascending.{Ascend}
+use Rattle.zs_subscriptions.specs.Ascending.{Ascend}
 use Rattle.zs_tables.specs.Groups.{Group, groups_of, number_of_group, members_of}
 use Rattle.zs_tables.specs.Types.{GroupKind, Subscribers, Publishers, Queriers}
-use Rattle.zs_tables.specs.declared.subscriber.SubRow.{SubRow}
+use Rattle.zs_subscriptions.specs.declared.subscriber.SubRow.{SubRow}
 use Rattle.zs_model.specs.declared.publisher.PubRow.{PubRow}
 use Rattle.zs_model.specs.declared.querier.QuerierRow.{QuerierRow}
 use Rattle.zs_model.specs.declared.settings.Settings.{Settings}

@@ -8,7 +8,7 @@ use Rattle.zs_keys.specs.Key.{Key as a_key}
 use Rattle.zs_wire.specs.declared.wire_expr.Mapping.{Mapping}
 use Rattle.zs_wire.specs.declared.wire_expr.Mapping.TheVariants.{Sender, Receiver}
 use Rattle.zs_wire.specs.declared.wire_expr.WireExpr.{WireExpr}
-use Rattle.zs_tables.specs.Numbers.{key_at, number_at}
+use Rattle.zs_subscriptions.specs.Numbers.{key_at, number_at}
 use Rattle.zs_events.specs.declared.event.Event.{Event}
 use Rattle.zs_events.specs.declared.event.Event.TheVariants.{Key, UndeclareKey}
 use Rattle.zs_events.specs.declared.key_arg.KeyArg.{KeyArg}

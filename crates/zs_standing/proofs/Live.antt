@@ -27,13 +27,13 @@ use Rattle.zs_events.specs.Kinds.{background_kind_of, row_of}
 use Rattle.zs_model.specs.Live.{is_same, leaves_as, drew, drew_unended, is_live, was_left, to_gets_of}
 use Rattle.zs_model.specs.Liveliness.{token_row, lsub_row}
 use Rattle.zs_tables.specs.Types.{LivelinessSub}
-use Rattle.zs_tables.specs.Ascending.{placed_by}
+use Rattle.zs_subscriptions.specs.Ascending.{placed_by}
 use Rattle.zs_world.specs.EntityChanges.{left_after}
 use Rattle.zs_world.specs.Changes.{with_change, Fits}
 use Rattle.zs_world.specs.Decisions.{is_there, is_left, to_gets_at, left_of}
 use Rattle.zs_model.proofs.Placing.{placed_any}
 use Rattle.zs_model.proofs.Entities.{RowChange, FitsIn, SaysRows, AreRows, rows_after, rows_none, rows_more}
-use Rattle.zs_tables.specs.declared.subscriber.SubRow.{SubRow}
+use Rattle.zs_subscriptions.specs.declared.subscriber.SubRow.{SubRow}
 use Rattle.zs_tables.specs.declared.queryable.QueryableRow.{QueryableRow}
 use Rattle.zs_model.specs.declared.publisher.PubRow.{PubRow}
 use Rattle.zs_standing.proofs.Saying.{IsMade, subs_by, pubs_by, queryables_by, queriers_by, entities_by, leaves_by}

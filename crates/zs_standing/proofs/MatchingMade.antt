@@ -14,7 +14,7 @@ use Rattle.zs_events.specs.Kinds.{ToMatching, NoMatch, parent_kind_of, row_of}
 use Rattle.zs_model.specs.declared.publisher.PubRow.{PubRow}
 use Rattle.zs_model.specs.declared.querier.QuerierRow.{QuerierRow}
 use Rattle.zs_world.specs.declared.change.Change.{Change}
-use Rattle.zs_world.specs.MatchingTables.{Matching}
+use Rattle.zs_entity_tables.specs.MatchingTables.{Matching}
 use Rattle.zs_world.specs.MatchingChanges.{listen_change, remote_subscriber_change, remote_queryable_change}
 use Rattle.zs_model.specs.Publishers.{pub_at}
 use Rattle.zs_model.specs.Queriers.{querier_at}

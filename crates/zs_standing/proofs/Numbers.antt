@@ -4,9 +4,9 @@ use Rattle.std.specs.Prelude.{◌==◌, ◌&&◌, ◌||◌, not, filter, is_some
 use Rattle.std.specs.Str.{bytes_eq}
 use Rattle.std.proofs.lemmas.Bool.{eqb-true}
 use Rattle.std.proofs.lemmas.Bool.Decides.{nat_tests}
-use Rattle.zs_tables.specs.Numbers.{NumberedKey, key_at, number_at, placed, without}
-use Rattle.zs_world.specs.declared.declared_key.KeyHolders.{KeyHolders}
-use Rattle.zs_world.specs.DeclaredKeys.{holders_of, has_holder, one_more, one_less, raised, is_last, lowered}
+use Rattle.zs_subscriptions.specs.Numbers.{NumberedKey, key_at, number_at, placed, without}
+use Rattle.zs_entity_tables.specs.declared.declared_key.KeyHolders.{KeyHolders}
+use Rattle.zs_entity_tables.specs.DeclaredKeys.{holders_of, has_holder, one_more, one_less, raised, is_last, lowered}
 
 one_more-number : (m : ℕ) (row : KeyHolders) → (one_more m row).number ≡ row.number
 one_more-number m row = go (row.number == m)

@@ -1,7 +1,7 @@
 -- All that an entry says, and all that its change says, as one value each: where both come to the same by computing, one `refl` says it.
 use Rattle.std.proofs.Common.{◌≡◌, ◌+◌, ℕ, List, Bool, false, Option, sym}
 use Rattle.std.specs.Prelude.{if◌then◌else◌}
-use Rattle.zs_tables.specs.declared.subscriber.SubRow.{SubRow}
+use Rattle.zs_subscriptions.specs.declared.subscriber.SubRow.{SubRow}
 use Rattle.zs_tables.specs.declared.queryable.QueryableRow.{QueryableRow}
 use Rattle.zs_tables.specs.Types.{LivelinessGet, LivelinessSub, RemoteToken}
 use Rattle.zs_query.specs.GetTable.{Asking}

@@ -14,7 +14,7 @@ use Rattle.zs_model.specs.Cancelling.{is_among}
 use Rattle.zs_events.specs.Turn.{was_refused}
 use Rattle.zs_world.specs.World.{World}
 use Rattle.zs_model.specs.Entry.{Entry}
-use Rattle.zs_world.specs.DeclaredKeys.{has_holder}
+use Rattle.zs_entity_tables.specs.DeclaredKeys.{has_holder}
 use Rattle.zs_model.specs.Past.{past_of}
 use Rattle.zs_standing.specs.Plans.{Plans}
 use Rattle.zs_world.specs.Changes.{with_change, change_for, Fits}

@@ -6,11 +6,11 @@ use Rattle.std.proofs.lemmas.Bool.Decides.{nat_tests}
 use Rattle.std.proofs.lemmas.List.Folds.{list_any-append}
 use Rattle.std.proofs.lemmas.List.Elements.{filter-append, filter_agree}
 use mathlib.Core.List.{append-nil}
-use Rattle.zs_tables.specs.Ascending.{placed_by}
+use Rattle.zs_subscriptions.specs.Ascending.{placed_by}
 use Rattle.zs_tables.specs.Liveliness.{put_new}
 use Rattle.zs_tables.specs.LivelinessGets.{is_over, is_own}
 use Rattle.zs_tables.specs.Types.{LivelinessGet, LivelinessSub}
-use Rattle.zs_tables.proofs.Ascending.{all_filter}
+use Rattle.zs_subscriptions.proofs.Ascending.{all_filter}
 use Rattle.zs_events.specs.Kinds.{row_of}
 use Rattle.zs_events.specs.declared.event.Event.{Event}
 use Rattle.zs_events.specs.declared.turn.Kind.{Kind}

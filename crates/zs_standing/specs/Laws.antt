@@ -4,11 +4,11 @@ use Rattle.std.specs.Prelude.{◌≡◌, ◌≤◌, ℕ, length, Bool, true, fal
 use Rattle.std.specs.List.{AllByRecursion, find, list_any}
 use Rattle.std.specs.Option.{IfSome}
 use Rattle.zs_wire.specs.declared.wire_expr.Mapping.{Mapping}
-use Rattle.zs_tables.specs.Ascending.{Ascend}
+use Rattle.zs_subscriptions.specs.Ascending.{Ascend}
 use Rattle.zs_tables.specs.Groups.{groups_of, members_of, number_of_group}
 use Rattle.zs_tables.specs.Types.{GroupKind}
-use Rattle.zs_tables.specs.Numbers.{key_at}
-use Rattle.zs_tables.specs.Recipients.{matches, has_network}
+use Rattle.zs_subscriptions.specs.Numbers.{key_at}
+use Rattle.zs_subscriptions.specs.Recipients.{matches, has_network}
 use Rattle.zs_events.specs.declared.event.Event.{Event}
 use Rattle.zs_events.specs.declared.event.Event.TheVariants.{Key}
 use Rattle.zs_events.specs.declared.key_arg.KeyArg.{KeyArg}
@@ -40,7 +40,7 @@ use Rattle.zs_model.specs.Listeners.{is_listener}
 use Rattle.zs_model.specs.Matching.{remote_subscribers, remote_queryables, is_matched}
 use Rattle.zs_model.specs.Heard.{told_to, last_told}
 use Rattle.zs_world.specs.Keys.{numbers_for}
-use Rattle.zs_world.specs.DeclaredKeys.{holders_of}
+use Rattle.zs_entity_tables.specs.DeclaredKeys.{holders_of}
 use Rattle.zs_world.specs.Decisions.{cause, text_for, number_for}
 use Rattle.zs_standing.specs.Stands.{world_after}
 

@@ -1,8 +1,8 @@
 //! The table of subscribers and numbers, by scripts: each step does something and says what it has to find.
 
 ghost use Rattle.std.specs.Prelude.{◌≡◌, ◌<◌, IsSome};
-ghost use Rattle.zs_tables.specs.Contents.{numbers_of, text_meant};
-ghost use Rattle.zs_tables.specs.Numbers.{key_at};
+ghost use Rattle.zs_subscriptions.specs.Contents.{numbers_of, text_meant};
+ghost use Rattle.zs_subscriptions.specs.Numbers.{key_at};
 
 use crate::script::{Step, first_wrong};
 use std::alloc::{AllocError, Global};

@@ -11,16 +11,16 @@ use Rattle.zs_tables.specs.declared.candidate.Offer.TheVariants.{Subscriber, Que
 use Rattle.zs_tables.specs.declared.listener.Sought.{Sought}
 use Rattle.zs_tables.specs.declared.listener.Sought.TheVariants.{Subscribers, Queryables, CompleteQueryables}
 use Rattle.zs_tables.specs.declared.listener.ListenerRow.{ListenerRow}
-use Rattle.zs_tables.specs.declared.subscriber.SubRow.{SubRow}
+use Rattle.zs_subscriptions.specs.declared.subscriber.SubRow.{SubRow}
 use Rattle.zs_tables.specs.declared.queryable.QueryableRow.{QueryableRow}
 use Rattle.zs_tables.specs.declared.remote_row.RemoteSubscriber.{RemoteSubscriber}
 use Rattle.zs_tables.specs.declared.remote_row.RemoteQueryable.{RemoteQueryable}
-use Rattle.zs_tables.specs.Recipients.{takes}
+use Rattle.zs_subscriptions.specs.Recipients.{takes}
 use Rattle.zs_tables.specs.Queryables.{answers_for, answers_whole}
 use Rattle.zs_tables.specs.RemoteEntities.{RemoteEntities, is_whole, answers}
 use Rattle.zs_tables.specs.Matching.{candidates, count_of, is_sought}
 use Rattle.zs_tables.specs.Present.{own_sought, own_count, remote_sought, remote_count}
-use Rattle.zs_tables.proofs.ByKey.{by_test}
+use Rattle.zs_subscriptions.proofs.ByKey.{by_test}
 use Rattle.zs_tables.proofs.Counting.{count_cons}
 use Rattle.zs_tables.proofs.Moving.{counted_apart}
 

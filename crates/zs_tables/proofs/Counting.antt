@@ -4,11 +4,11 @@ use Rattle.std.specs.Prelude.{◌==◌, nat_lt, not, map, filter, option_map, co
 use Rattle.std.specs.List.{AllByRecursion, count_by, find, list_any}
 use Rattle.std.proofs.lemmas.Bool.Decides.{nat_tests}
 use Rattle.std.proofs.lemmas.List.Sums.{sum_by-cons, sum_by-append}
-use Rattle.zs_tables.specs.Ascending.{Ascend, placed_by}
+use Rattle.zs_subscriptions.specs.Ascending.{Ascend, placed_by}
 use Rattle.zs_tables.specs.MatchingLaws.{one_if}
-use Rattle.zs_tables.proofs.Ascending.{all_weaker}
-use Rattle.zs_tables.proofs.ByKey.{by_test, passed}
-use Rattle.zs_tables.proofs.Searching.{filter_none, find_none}
+use Rattle.zs_subscriptions.proofs.Ascending.{all_weaker}
+use Rattle.zs_subscriptions.proofs.ByKey.{by_test, passed}
+use Rattle.zs_subscriptions.proofs.Searching.{filter_none, find_none}
 
 pub count_cons : {X : Type 0} (p : X → Bool) (x : X) (xs : List X) → count_by p (x ∷ xs) ≡ one_if (p x) + count_by p xs
 count_cons p x xs = sum_by-cons (λ y. cond (p y) 1 0) x xs

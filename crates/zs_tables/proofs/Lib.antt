@@ -1,14 +1,3 @@
-pub mod Ascending
-pub mod Searching
-pub mod ByKey
-pub mod Keeping
-pub mod Walking
-pub mod Stepping
-pub mod Listing
-pub mod Numbering
-pub mod Indexing
-pub mod Keyed
-pub mod Tabled
 pub mod Parents
 pub mod Merging
 pub mod Recounting

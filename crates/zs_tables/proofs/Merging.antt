@@ -3,10 +3,10 @@ use Rattle.std.proofs.Common.{◌≡◌, ℕ, ◌<◌, Bool, true, false, List, 
 use Rattle.std.specs.Prelude.{◌||◌, nat_lt, map, filter}
 use Rattle.std.specs.List.{AllByRecursion}
 use Rattle.std.proofs.lemmas.Bool.Decides.{nat_tests}
-use Rattle.zs_tables.specs.Ascending.{Ascend}
+use Rattle.zs_subscriptions.specs.Ascending.{Ascend}
 use Rattle.zs_tables.specs.Listeners.{merged}
-use Rattle.zs_tables.proofs.Ascending.{all_map, all_filter}
-use Rattle.zs_tables.proofs.ByKey.{by_test}
+use Rattle.zs_subscriptions.proofs.Ascending.{all_map, all_filter}
+use Rattle.zs_subscriptions.proofs.ByKey.{by_test}
 
 merged_left : (x : ℕ) (left right : List ℕ) → AllByRecursion (λ y. x < y) right → merged (x ∷ left) right ≡ x ∷ merged left right
 merged_left x left [] all = refl

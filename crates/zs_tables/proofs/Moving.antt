@@ -5,16 +5,16 @@ use Rattle.std.specs.List.{AllByRecursion, count_by, find}
 use Rattle.std.proofs.lemmas.Bool.Decides.{nat_tests}
 use Rattle.zs_tables.specs.declared.listener.ListenerRow.{ListenerRow}
 use Rattle.zs_tables.specs.declared.recount.Recount.{Recount}
-use Rattle.zs_tables.specs.declared.subscriber.SubRow.{SubRow}
+use Rattle.zs_subscriptions.specs.declared.subscriber.SubRow.{SubRow}
 use Rattle.zs_tables.specs.declared.queryable.QueryableRow.{QueryableRow}
 use Rattle.zs_tables.specs.declared.remote_row.RemoteSubscriber.{RemoteSubscriber}
 use Rattle.zs_tables.specs.declared.remote_row.RemoteQueryable.{RemoteQueryable}
-use Rattle.zs_tables.specs.Ascending.{Ascend, placed_by}
+use Rattle.zs_subscriptions.specs.Ascending.{Ascend, placed_by}
 use Rattle.zs_tables.specs.RemoteEntities.{RemoteEntities}
 use Rattle.zs_tables.specs.Matching.{Candidate, Listener, suits, own_sub, own_queryable, remote_subscriber, remote_queryable, candidates, status, count_of, AreCounted, suits_if, is_moved, recount_of, recounts, set_if, with_count, recounted, is_heard}
 use Rattle.zs_tables.specs.MatchingLaws.{one_if, Moves, Heard, heard, told_of, differ}
-use Rattle.zs_tables.proofs.Ascending.{all_weaker, all_map, all_filter}
-use Rattle.zs_tables.proofs.ByKey.{by_test, passed}
+use Rattle.zs_subscriptions.proofs.Ascending.{all_weaker, all_map, all_filter}
+use Rattle.zs_subscriptions.proofs.ByKey.{by_test, passed}
 use Rattle.zs_tables.proofs.Counting.{count_push, count_append, count_map, count_without, count_placed, any_counted}
 use Rattle.zs_tables.proofs.Parents.{set_nobody}
 

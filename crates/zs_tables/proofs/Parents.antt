@@ -11,14 +11,14 @@ use Rattle.zs_rows.specs.declared.mark.Mark.{Mark}
 use Rattle.zs_rows.proofs.Listing.{same_numbers}
 use Rattle.zs_rows.proofs.Marking.{in_under}
 use Rattle.zs_tables.specs.declared.recount.Recount.{Recount}
-use Rattle.zs_tables.specs.Ascending.{Ascend}
-use Rattle.zs_tables.specs.Recipients.{first_behind}
+use Rattle.zs_subscriptions.specs.Ascending.{Ascend}
+use Rattle.zs_subscriptions.specs.Recipients.{first_behind}
 use Rattle.zs_tables.specs.Matching.{Listener, set_if, with_count}
 use Rattle.zs_tables.specs.Listeners.{is_of, AreIndexed}
-use Rattle.zs_tables.proofs.Ascending.{all_weaker, all_both, ascend_map, ascend_filter}
-use Rattle.zs_tables.proofs.ByKey.{by_test}
+use Rattle.zs_subscriptions.proofs.Ascending.{all_weaker, all_both, ascend_map, ascend_filter}
+use Rattle.zs_subscriptions.proofs.ByKey.{by_test}
 use Rattle.zs_tables.proofs.Recounting.{found_each}
-use Rattle.zs_tables.proofs.Searching.{find_none, filter_none}
+use Rattle.zs_subscriptions.proofs.Searching.{find_none, filter_none}
 
 abbrev id_of : Listener → ℕ
 id_of l = l.row.id

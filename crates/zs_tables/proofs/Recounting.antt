@@ -11,12 +11,12 @@ use Rattle.zs_tables.specs.declared.listener.Sought.{Sought}
 use Rattle.zs_tables.specs.declared.listener.Sought.TheVariants.{Subscribers, Queryables, CompleteQueryables}
 use Rattle.zs_tables.specs.declared.listener.ListenerRow.{ListenerRow}
 use Rattle.zs_tables.specs.declared.recount.Recount.{Recount}
-use Rattle.zs_tables.specs.Ascending.{Ascend}
-use Rattle.zs_tables.specs.Recipients.{takes}
+use Rattle.zs_subscriptions.specs.Ascending.{Ascend}
+use Rattle.zs_subscriptions.specs.Recipients.{takes}
 use Rattle.zs_tables.specs.Matching.{Candidate, Listener, is_sought, suits, suits_if, is_moved, recount_of, recounts}
 use Rattle.zs_tables.specs.Listeners.{meets_if, meets_one, recount_in, recounts_at}
-use Rattle.zs_tables.proofs.Ascending.{all_both}
-use Rattle.zs_tables.proofs.ByKey.{by_test}
+use Rattle.zs_subscriptions.proofs.Ascending.{all_both}
+use Rattle.zs_subscriptions.proofs.ByKey.{by_test}
 
 both_second : (a b : Bool) → (a && b) ≡ true → b ≡ true
 both_second true b h = h

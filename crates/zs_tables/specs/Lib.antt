@@ -1,13 +1,5 @@
-pub mod Ascending
-pub mod Numbers
-pub mod Texts
-pub mod Contents
-pub mod Recipients
-pub mod Lists
-pub mod NumberRows
 pub mod Queryables
 pub mod RemoteEntities
-pub mod Laws
 pub mod Matching
 pub mod Listeners
 pub mod Present
@@ -16,3 +8,8 @@ pub mod Types
 pub use Rattle.zs_grouped.specs.Groups
 pub use Rattle.zs_liveliness.specs.Liveliness
 pub use Rattle.zs_liveliness.specs.LivelinessGets
+pub use Rattle.zs_subscriptions.specs.Ascending
+pub use Rattle.zs_subscriptions.specs.Numbers
+pub use Rattle.zs_subscriptions.specs.Contents
+pub use Rattle.zs_subscriptions.specs.Recipients
+pub use Rattle.zs_subscriptions.specs.Laws

@@ -10,11 +10,11 @@ use Rattle.zs_tables.specs.declared.listener.Sought.TheVariants.{Subscribers, Qu
 use Rattle.zs_tables.specs.declared.listener.ListenerRow.{ListenerRow}
 pub use Rattle.zs_tables.specs.declared.listener.Listener.{Listener}
 use Rattle.zs_tables.specs.declared.recount.Recount.{Recount}
-use Rattle.zs_tables.specs.declared.subscriber.SubRow.{SubRow}
+use Rattle.zs_subscriptions.specs.declared.subscriber.SubRow.{SubRow}
 use Rattle.zs_tables.specs.declared.queryable.QueryableRow.{QueryableRow}
 use Rattle.zs_tables.specs.declared.remote_row.RemoteSubscriber.{RemoteSubscriber}
 use Rattle.zs_tables.specs.declared.remote_row.RemoteQueryable.{RemoteQueryable}
-use Rattle.zs_tables.specs.Recipients.{takes}
+use Rattle.zs_subscriptions.specs.Recipients.{takes}
 use Rattle.zs_tables.specs.RemoteEntities.{RemoteEntities}
 
 -- someone whom listeners may listen for: of this session or of the network, a subscriber or a queryable, on this text

@@ -3,11 +3,11 @@ use Rattle.std.specs.Prelude.{◌≡◌, ℕ, ◌+◌, nat_lt, Bool, not, ◌==�
 use Rattle.std.specs.List.{find}
 use Rattle.zs_tables.specs.declared.listener.ListenerRow.{ListenerRow}
 use Rattle.zs_tables.specs.declared.recount.Recount.{Recount}
-use Rattle.zs_tables.specs.declared.subscriber.SubRow.{SubRow}
+use Rattle.zs_subscriptions.specs.declared.subscriber.SubRow.{SubRow}
 use Rattle.zs_tables.specs.declared.queryable.QueryableRow.{QueryableRow}
 use Rattle.zs_tables.specs.declared.remote_row.RemoteSubscriber.{RemoteSubscriber}
 use Rattle.zs_tables.specs.declared.remote_row.RemoteQueryable.{RemoteQueryable}
-use Rattle.zs_tables.specs.Ascending.{Ascend, placed_by}
+use Rattle.zs_subscriptions.specs.Ascending.{Ascend, placed_by}
 use Rattle.zs_tables.specs.RemoteEntities.{RemoteEntities}
 use Rattle.zs_tables.specs.Matching.{Candidate, Listener, own_sub, own_queryable, remote_subscriber, remote_queryable, candidates, status, count_of, AreCounted, suits_if, recounts, recounted, is_heard}
 

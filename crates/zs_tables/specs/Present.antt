@@ -5,9 +5,9 @@ use Rattle.zs_keys.specs.Matching.{intersects}
 use Rattle.zs_tables.specs.declared.listener.Sought.{Sought}
 use Rattle.zs_tables.specs.declared.listener.Sought.TheVariants.{Subscribers, Queryables, CompleteQueryables}
 use Rattle.zs_tables.specs.declared.listener.ListenerRow.{ListenerRow}
-use Rattle.zs_tables.specs.declared.subscriber.SubRow.{SubRow}
+use Rattle.zs_subscriptions.specs.declared.subscriber.SubRow.{SubRow}
 use Rattle.zs_tables.specs.declared.queryable.QueryableRow.{QueryableRow}
-use Rattle.zs_tables.specs.Recipients.{takes}
+use Rattle.zs_subscriptions.specs.Recipients.{takes}
 use Rattle.zs_tables.specs.Queryables.{answers_for}
 use Rattle.zs_tables.specs.RemoteEntities.{RemoteEntities, answers}
 

@@ -2,7 +2,7 @@
 use Rattle.std.specs.Prelude.{ℕ, Bool, ◌&&◌, ◌||◌, not, List, map, filter, if◌then◌else◌}
 use Rattle.zs_keys.specs.Matching.{intersects, includes}
 use Rattle.zs_tables.specs.declared.queryable.QueryableRow.{QueryableRow}
-use Rattle.zs_tables.specs.Recipients.{takes}
+use Rattle.zs_subscriptions.specs.Recipients.{takes}
 
 -- whether a queryable takes a request of this session, or one from the network, and one that wants complete ones alone
 abbrev pub is_for : Bool → Bool → QueryableRow → Bool

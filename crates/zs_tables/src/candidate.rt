@@ -3,10 +3,9 @@ ghost use Rattle.zs_tables.specs.Matching.{own_sub, own_queryable, remote_subscr
 
 use crate::listener::{ListenerRow, Sought};
 use crate::queryable::QueryableRow;
-use crate::recipients::takes;
 use crate::remote_row::{RemoteQueryable, RemoteSubscriber};
-use crate::subscriber::SubRow;
 use zs_keys::KeyExpr;
+use zs_subscriptions::{SubRow, takes};
 
 /// What someone is whom listeners may listen for.
 #[derive(Clone, Copy, Debug, PartialEq, Eq)]

@@ -1,8 +1,8 @@
 ghost use Rattle.std.specs.Prelude.{◌≡◌, ℕ, ◌<◌, ◌==◌, ◌&&◌, ◌+◌, ◌-◌, ◌++◌, [], ◌∷◌, true, false, All, map, not, filter, length, Some, MatchOption, IfSome, IfOk, OnOk, OnErr, if◌then◌else◌};
 ghost use Rattle.std.specs.List.{find, list_any};
 ghost use Rattle.std.specs.Map.Iter.{ShowsInOrder, deref_pair};
-ghost use Rattle.zs_tables.specs.Ascending.{Ascend};
-ghost use Rattle.zs_tables.specs.Recipients.{first_behind};
+ghost use Rattle.zs_subscriptions.specs.Ascending.{Ascend};
+ghost use Rattle.zs_subscriptions.specs.Recipients.{first_behind};
 ghost use Rattle.zs_tables.specs.Matching.{seen_if, suits_if, recounts, recounted, with_count};
 ghost use Rattle.zs_tables.specs.Listeners.{is_of, meets_if, meets_one, merged, recounts_at, recount_in, listed};
 

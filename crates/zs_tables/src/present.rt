@@ -1,17 +1,16 @@
 ghost use Rattle.std.specs.Prelude.{◌≡◌, ◌<◌, length, IfOk, OnOk};
 ghost use Rattle.zs_tables.specs.Matching.{candidates, count_of};
 ghost use Rattle.zs_tables.specs.Present.{own_count, remote_count, own_sought, remote_sought};
-ghost use Rattle.zs_tables.specs.Recipients.{matches};
+ghost use Rattle.zs_subscriptions.specs.Recipients.{matches};
 
 use crate::listener::{ListenerRow, Sought};
 use crate::queryable_table::QueryableTable;
-use crate::recipients::takes;
 use crate::remote_table::RemoteTable;
-use crate::tables::Tables;
 use std::alloc::{AllocError, Global};
 use std::marker::Brand;
 use std::sync::ledger::{Blank, Ledger};
 use zs_keys::{KeyExpr, Steps};
+use zs_subscriptions::{Tables, takes};
 
 /// Those whom a listener may listen for: the live subscribers and queryables, and those that the other side declared.
 #[derive(Clone, Copy)]

@@ -2,17 +2,17 @@ ghost use Rattle.std.specs.Prelude.{◌≡◌, ℕ, ◌<◌, ◌==◌, ◌++◌,
 ghost use Rattle.std.specs.List.{find, list_any};
 ghost use Rattle.std.specs.Map.Iter.{ShowsInOrder, deref_pair};
 ghost use Rattle.std.specs.Option.{option_copied};
-ghost use Rattle.zs_tables.specs.Ascending.{Ascend};
+ghost use Rattle.zs_subscriptions.specs.Ascending.{Ascend};
 ghost use Rattle.zs_keyed.specs.Keyed.{passes_by};
 ghost use Rattle.zs_tables.specs.Queryables.{met, is_for, answers_for, answers_whole};
 
 use crate::queryable::QueryableRow;
-use crate::recipients::takes;
 use std::alloc::{AllocError, Global};
 use std::collections::btree_map::Iter;
 use std::marker::Model;
 use zs_keyed::KeyedRows;
 use zs_keys::KeyExpr;
+use zs_subscriptions::takes;
 
 /// The live queryables in ascending id, with a tree of their keys that finds those which a request meets. No call that
 /// answers want of memory has changed anything.

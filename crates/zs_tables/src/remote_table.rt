@@ -2,7 +2,7 @@ ghost use Rattle.std.specs.Prelude.{◌≡◌, ◌==◌, [], length, map, not, f
 ghost use Rattle.std.specs.List.{find, list_any};
 ghost use Rattle.std.specs.Option.{option_copied};
 ghost use Rattle.zs_keys.specs.Matching.{intersects};
-ghost use Rattle.zs_tables.specs.Ascending.{Ascend, placed_by};
+ghost use Rattle.zs_subscriptions.specs.Ascending.{Ascend, placed_by};
 ghost use Rattle.zs_keyed.specs.Keyed.{passes_by};
 ghost use Rattle.zs_tables.specs.RemoteEntities.{answers, is_whole};
 

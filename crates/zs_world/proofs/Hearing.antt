@@ -5,11 +5,11 @@ use Rattle.std.specs.List.{AllByRecursion}
 use Rattle.std.proofs.lemmas.Bool.Decides.{nat_tests}
 use Rattle.zs_tables.specs.declared.listener.ListenerRow.{ListenerRow}
 use Rattle.zs_tables.specs.declared.recount.Recount.{Recount}
-use Rattle.zs_tables.specs.Ascending.{Ascend}
+use Rattle.zs_subscriptions.specs.Ascending.{Ascend}
 use Rattle.zs_tables.specs.declared.listener.Listener.{Listener}
 use Rattle.zs_tables.specs.Matching.{Candidate, status, count_of, AreCounted, recounts, is_heard}
 use Rattle.zs_tables.specs.MatchingLaws.{Moves, Heard, heard, told_of, differ}
-use Rattle.zs_tables.proofs.Ascending.{all_weaker, all_both, all_filter}
+use Rattle.zs_subscriptions.proofs.Ascending.{all_weaker, all_both, all_filter}
 use Rattle.zs_keyed.proofs.Ascending.{by_test}
 use Rattle.zs_tables.proofs.Moving.{heard_turned, status_counted}
 use Rattle.zs_events.specs.declared.turn.Effect.{Effect}
@@ -17,7 +17,7 @@ use Rattle.zs_events.specs.declared.turn.Effect.TheVariants.{Matching, End}
 use Rattle.zs_events.specs.declared.turn.Kind.TheVariants.{Listener as listener_kind}
 use Rattle.zs_model.specs.Listeners.{is_listener, listener_ends}
 use Rattle.zs_model.specs.Matching.{turned}
-use Rattle.zs_world.specs.MatchingTables.{heard_effect}
+use Rattle.zs_entity_tables.specs.MatchingTables.{heard_effect}
 
 -- what listeners make of a change: these listeners and candidates before it, and those behind it
 abbrev pub between : List ListenerRow → List ListenerRow → List Candidate → List Candidate → List Effect

@@ -1,7 +1,7 @@
 -- What a change of the cancellation tokens makes of them and of the gets.
 use Rattle.zs_model.specs.Cancelling.{Cancelling}
 use Rattle.std.specs.Prelude.{◌+◌}
-use Rattle.zs_tables.specs.Ascending.{placed_by}
+use Rattle.zs_subscriptions.specs.Ascending.{placed_by}
 use Rattle.zs_query.specs.GetTable.{Asking, without_cancellation_token}
 use Rattle.zs_world.specs.declared.change.CancellationChange.{CancellationChange}
 use Rattle.zs_world.specs.declared.change.CancellationChange.TheVariants.{Draw, Take}

@@ -2,8 +2,8 @@
 -- close.
 use Rattle.std.specs.Prelude.{◌≡◌, ◌≤◌, ℕ, length, Bool, ◌+◌, true, false, List, [], ◌∷◌, is_some, Option, Some, None, ◌≢◌, IsOk, if◌then◌else◌}
 use Rattle.zs_keys.specs.Key.{undeclared}
-use Rattle.zs_tables.specs.Numbers.{NumberedKey, key_at, number_at, placed}
-use Rattle.zs_world.specs.declared.declared_key.KeyHolders.{KeyHolders}
+use Rattle.zs_subscriptions.specs.Numbers.{NumberedKey, key_at, number_at, placed}
+use Rattle.zs_entity_tables.specs.declared.declared_key.KeyHolders.{KeyHolders}
 use Rattle.zs_events.specs.declared.event.Event.{Event}
 use Rattle.zs_events.specs.declared.event.Event.TheVariants.{Key, UndeclareKey, Sub, Pub, Queryable, Querier, Undeclare, Background, Close, Net, Get, QuerierGet, Listen, CancelToken, Cancel, Tick, Reply as reply_event, Share, Finish, Token, Lsub, LivelinessGet}
 use Rattle.zs_events.specs.declared.key_arg.KeyArg.TheVariants.{Number, Declared}
@@ -58,12 +58,12 @@ use Rattle.zs_model.specs.Groups.{no_groups}
 use Rattle.zs_model.specs.Liveliness.{shut_liveliness}
 use Rattle.zs_world.specs.LivelinessChanges.{asking_change, remote_token_change, answered_change, liveliness_after, liveliness_by, liveliness_cancelled, next_behind, LivelinessFits}
 use Rattle.zs_model.specs.Listeners.{listening}
-use Rattle.zs_world.specs.MatchingTables.{shut_matching}
+use Rattle.zs_entity_tables.specs.MatchingTables.{shut_matching}
 use Rattle.zs_world.specs.MatchingChanges.{listen_change, remote_subscriber_change, remote_queryable_change, matching_after}
 use Rattle.zs_world.specs.EntityChanges.{next_entity_after, entities_after, groups_after, asking_left, liveliness_declared, matching_declared, EntitiesFit}
 use Rattle.zs_world.specs.World.{World}
 use Rattle.zs_world.specs.Keys.{key_of, wire_of, text_of}
-use Rattle.zs_world.specs.DeclaredKeys.{raised, lowered, local_resources_left}
+use Rattle.zs_entity_tables.specs.DeclaredKeys.{raised, lowered, local_resources_left}
 
 -- a declared text is held once more, or else it draws the next number
 abbrev pub key_change_by : World → List ℕ → Option ℕ → Change

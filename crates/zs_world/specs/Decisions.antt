@@ -11,7 +11,7 @@ use Rattle.zs_world.specs.declared.change.Change.TheVariants.{Nothing, OfGets, O
 use Rattle.zs_world.specs.declared.change.GetChange.TheVariants.{Ask, Take, Final}
 use Rattle.zs_world.specs.declared.change.ValueChange.TheVariants.{AskHere, GiveBack}
 pub use Rattle.zs_world.specs.declared.change.Decision.{Decision}
-use Rattle.zs_tables.specs.Numbers.{key_at, number_at}
+use Rattle.zs_subscriptions.specs.Numbers.{key_at, number_at}
 use Rattle.zs_wire.specs.declared.body.Body.{Body}
 use Rattle.zs_wire.specs.declared.body.Value.{Value}
 use Rattle.zs_wire.specs.declared.response.Answered.TheVariants.{Reply, Err as Error}
@@ -27,7 +27,7 @@ use Rattle.zs_model.specs.Seen.{Sight, is_not_found, is_unknown, is_bad_key}
 use Rattle.zs_model.specs.Counters.{is_spent}
 use Rattle.zs_model.specs.Values.{met_by, met_by_get, get_request, last_value, lacks_values}
 use Rattle.zs_model.specs.Answers.{is_owed, is_disjoint_from, is_disjoint, is_refused_on, local_reply}
-use Rattle.zs_world.specs.DeclaredKeys.{holders_of}
+use Rattle.zs_entity_tables.specs.DeclaredKeys.{holders_of}
 use Rattle.std.specs.List.{list_any}
 use Rattle.zs_model.specs.Subscribers.{is_sub}
 use Rattle.zs_model.specs.Publishers.{is_pub, pub_at, resolved}

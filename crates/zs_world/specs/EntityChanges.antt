@@ -1,12 +1,12 @@
 -- What changes of entities make of the tables: what is added is told by its row, what ends and what is left to itself by its kind.
 use Rattle.std.specs.Prelude.{◌≡◌, ℕ, ◌+◌, ◌==◌, false, not, List, [], ◌∷◌, ◌++◌, filter, option_map, if◌then◌else◌}
-use Rattle.zs_tables.specs.Ascending.{placed_by}
+use Rattle.zs_subscriptions.specs.Ascending.{placed_by}
 use Rattle.zs_tables.specs.Groups.{AllGroups}
 use Rattle.zs_tables.specs.Liveliness.{put_new}
 use Rattle.zs_tables.specs.Types.{LivelinessSub}
 use Rattle.zs_tables.specs.declared.listener.ListenerRow.{ListenerRow}
 use Rattle.zs_tables.specs.declared.queryable.QueryableRow.{QueryableRow}
-use Rattle.zs_tables.specs.declared.subscriber.SubRow.{SubRow}
+use Rattle.zs_subscriptions.specs.declared.subscriber.SubRow.{SubRow}
 use Rattle.zs_query.specs.GetTable.{Asking, without_querier}
 use Rattle.zs_events.specs.declared.entity_kind.EntityKind.TheVariants.{Sub as sub_kind, Pub as pub_kind, Queryable as queryable_kind, Querier as querier_kind, Listener as listener_kind, Token as token_kind, Lsub as lsub_kind}
 use Rattle.zs_events.specs.declared.turn.Kind.{Kind}
@@ -23,7 +23,7 @@ use Rattle.zs_model.specs.Publishers.{pub_at}
 use Rattle.zs_model.specs.Queriers.{querier_at}
 use Rattle.zs_model.specs.Settings.{last_entity}
 use Rattle.zs_model.specs.Subscribers.{sub_at}
-use Rattle.zs_world.specs.MatchingTables.{Matching}
+use Rattle.zs_entity_tables.specs.MatchingTables.{Matching}
 use Rattle.zs_world.specs.World.{Entities}
 pub use Rattle.zs_world.specs.declared.change.EntityRow.{EntityRow}
 use Rattle.zs_world.specs.declared.change.EntityRow.TheVariants.{Sub as new_sub, Pub as new_pub, Queryable as new_queryable, Querier as new_querier, Listener as new_listener, Token as new_token, Lsub as new_lsub}

@@ -5,12 +5,12 @@ use Rattle.zs_keys.specs.Key.{Key, undeclared}
 use Rattle.zs_keys.specs.Text.{is_canonical}
 use Rattle.zs_events.specs.declared.key_arg.KeyArg.{KeyArg}
 use Rattle.zs_events.specs.declared.key_arg.KeyArg.TheVariants.{Text, Number, Declared}
-use Rattle.zs_tables.specs.Numbers.{NumberedKey, key_at}
+use Rattle.zs_subscriptions.specs.Numbers.{NumberedKey, key_at}
 use Rattle.zs_wire.specs.declared.wire_expr.Mapping.{Mapping}
 use Rattle.zs_wire.specs.declared.wire_expr.WireExpr.{WireExpr}
 use Rattle.zs_events.specs.declared.turn.Refusal.{Refusal}
 use Rattle.zs_events.specs.declared.turn.Refusal.TheVariants.{BadKeyExpr}
-use Rattle.zs_tables.specs.Contents.{numbers_of}
+use Rattle.zs_subscriptions.specs.Contents.{numbers_of}
 use Rattle.zs_events.specs.Kinds.{NamedKey, NoKey, OwnKey, PublisherKey, QuerierKey, WireKey, is_nothing}
 use Rattle.zs_model.specs.Publishers.{pub_at}
 use Rattle.zs_model.specs.Queriers.{querier_at}

@@ -1,13 +1,12 @@
 pub mod World
 pub mod Keys
-pub mod DeclaredKeys
-pub mod HolderCounts
-pub mod MatchingTables
-pub mod Bounds
-pub mod EntityRows
 pub mod EntityChanges
 pub mod Changes
 pub mod LivelinessChanges
 pub mod MatchingChanges
 pub mod CancellationChanges
 pub mod Decisions
+pub use Rattle.zs_entity_tables.specs.DeclaredKeys
+pub use Rattle.zs_entity_tables.specs.HolderCounts
+pub use Rattle.zs_entity_tables.specs.MatchingTables
+pub use Rattle.zs_entity_tables.specs.Bounds

@@ -1,7 +1,7 @@
 -- What changes of matching make of its tables.
 use Rattle.std.specs.Prelude.{ℕ, ◌==◌, Bool, not, List, [], ◌∷◌, filter, Option, Some, None}
 use Rattle.zs_keys.specs.Key.{undeclared}
-use Rattle.zs_tables.specs.Ascending.{placed_by}
+use Rattle.zs_subscriptions.specs.Ascending.{placed_by}
 use Rattle.zs_tables.specs.declared.listener.ListenerRow.{ListenerRow}
 use Rattle.zs_world.specs.declared.change.Change.{Change}
 use Rattle.zs_world.specs.declared.change.Change.TheVariants.{Nothing, OfEntities, OfMatching}
@@ -9,7 +9,7 @@ use Rattle.zs_world.specs.declared.change.EntityRow.TheVariants.{Listener as new
 use Rattle.zs_world.specs.declared.change.EntityChange.TheVariants.{Add as AddEntity}
 use Rattle.zs_world.specs.declared.change.MatchingChange.{MatchingChange}
 use Rattle.zs_world.specs.declared.change.MatchingChange.TheVariants.{TellSub, ForgetSub, TellQueryable, ForgetQueryable}
-use Rattle.zs_world.specs.MatchingTables.{Matching}
+use Rattle.zs_entity_tables.specs.MatchingTables.{Matching}
 
 -- a listener that is declared, where there is something to listen to
 abbrev pub listen_change : List ListenerRow → Change

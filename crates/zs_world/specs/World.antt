@@ -1,19 +1,19 @@
 use Rattle.std.specs.Prelude.{ℕ, Bool, List, ◌+◌, false, []}
 use Rattle.zs_model.specs.declared.settings.Settings.{Settings}
-use Rattle.zs_tables.specs.declared.subscriber.SubRow.{SubRow}
+use Rattle.zs_subscriptions.specs.declared.subscriber.SubRow.{SubRow}
 use Rattle.zs_tables.specs.declared.queryable.QueryableRow.{QueryableRow}
 use Rattle.zs_tables.specs.Groups.{AllGroups}
 use Rattle.zs_model.specs.declared.publisher.PubRow.{PubRow}
 use Rattle.zs_model.specs.declared.querier.QuerierRow.{QuerierRow}
 use Rattle.zs_model.specs.Cancelling.{Cancelling}
-use Rattle.zs_tables.specs.Numbers.{NumberedKey}
-use Rattle.zs_tables.specs.Contents.{Contents}
+use Rattle.zs_subscriptions.specs.Numbers.{NumberedKey}
+use Rattle.zs_subscriptions.specs.Contents.{Contents}
 use Rattle.zs_query.specs.GetTable.{Asking}
 use Rattle.zs_model.specs.Liveliness.{Liveliness, no_liveliness}
-use Rattle.zs_world.specs.MatchingTables.{Matching, no_matching}
+use Rattle.zs_entity_tables.specs.MatchingTables.{Matching, no_matching}
 use Rattle.zs_tables.specs.Matching.{Candidate, candidates}
 use Rattle.zs_query.specs.RequestTable.{Handing}
-use Rattle.zs_world.specs.declared.declared_key.KeyHolders.{KeyHolders}
+use Rattle.zs_entity_tables.specs.declared.declared_key.KeyHolders.{KeyHolders}
 use Rattle.zs_model.specs.Groups.{no_groups}
 
 -- the next number of each sort

@@ -3,8 +3,8 @@
 ghost use Rattle.std.specs.Prelude.{◌≡◌, [], Some, None};
 ghost use Rattle.zs_world.specs.Decisions.{decision_of};
 
-use crate::met::Met;
 use std::alloc::Global;
+use zs_entity_tables::Met;
 use zs_events::{Answer, BackgroundKind, Effects, EntityKind, Refusal, Turn};
 use zs_keys::KeyExpr;
 use zs_model::{PubRow, QuerierRow};

@@ -4,14 +4,14 @@ ghost use Rattle.std.specs.Prelude.{◌≡◌, ◌≤◌, ◌==◌, filter, not,
 ghost use Rattle.std.specs.List.{list_any};
 ghost use Rattle.zs_model.specs.Liveliness.{no_liveliness, shut_liveliness};
 ghost use Rattle.zs_world.specs.LivelinessChanges.{liveliness_after, next_behind, LivelinessFits};
-ghost use Rattle.zs_tables.specs.Ascending.{placed_by};
+ghost use Rattle.zs_subscriptions.specs.Ascending.{placed_by};
 ghost use Rattle.zs_tables.specs.Liveliness.{put_new};
 ghost use Rattle.zs_tables.specs.LivelinessGets.{waiting_at, without_cancellation_token};
 
 use crate::change::LivelinessChange;
-use crate::id_set::IdSet;
 use std::alloc::{AllocError, Global};
 use std::marker::Model;
+use zs_entity_tables::IdSet;
 use zs_tables::{LivelinessGets, LivelinessSub, LivelinessSubs, RemoteTokens};
 
 /// What a session knows of liveliness. No call that answers want of memory has changed anything.

@@ -6,24 +6,18 @@ ghost use Rattle.zs_world.specs.World.{new_world};
 ghost use Rattle.std.specs.Prelude.{◌≡◌, IfOk, OnOk, OnErr, IsTrue};
 
 use crate::change::Change;
-use crate::entity_table::EntityTable;
-use crate::id_set::IdSet;
-use crate::key_holders::KeyHolderCounts;
 use crate::liveliness::Liveliness;
-use crate::matching::Matching;
-pub use candidates::{own_queryable_of, own_sub_of, remote_queryable_of, remote_subscriber_of};
 use std::alloc::{AllocError, Global};
 use std::marker::Model;
+use zs_entity_tables::{EntityTable, IdSet, KeyHolderCounts, Matching};
 use zs_model::{PubRow, QuerierRow, Settings};
 use zs_query::{GetTable, RequestTable};
 use zs_tables::{Groups, QueryableTable, Tables};
 
 mod cancelling;
-mod candidates;
 mod declared_keys;
 mod entities;
 mod gets;
-mod groups;
 mod liveliness;
 mod matching;
 mod publishers;
@@ -101,7 +95,7 @@ impl Drop for SessionTables {
 
 impl Model for SessionTables {
     ghost use Rattle.zs_world.specs.World.{World};
-    ghost use Rattle.zs_world.specs.MatchingTables.{shown};
+    ghost use Rattle.zs_entity_tables.specs.MatchingTables.{shown};
 
     ghost Value = { World };
 
@@ -126,7 +120,7 @@ impl Model for SessionTables {
       cancelling = record { next = s.next_cancellation_token; taken = s.taken_cancellation_tokens };
     } };
 
-    ghost use Rattle.zs_world.specs.Bounds.{AreBelow};
+    ghost use Rattle.zs_entity_tables.specs.Bounds.{AreBelow};
 
     ghost invariant = { λ s. AreBelow s.next_entity s.tables.rows s.publishers s.queryables s.queriers s.groups s.matching.remote_entities s.matching.listeners };
 }

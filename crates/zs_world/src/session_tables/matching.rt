@@ -7,9 +7,9 @@ ghost use Rattle.zs_world.specs.Changes.{with_change};
 ghost use Rattle.zs_world.specs.EntityChanges.{EntitiesFit};
 
 use super::SessionTables;
-use super::candidates::{recounts_of, remote_queryable_of, remote_subscriber_of};
 use crate::change::{Change, EntityChange, EntityRow, MatchingChange};
 use std::alloc::AllocError;
+use zs_entity_tables::{recounts_of, remote_queryable_of, remote_subscriber_of};
 use zs_events::EntityKind;
 use zs_tables::{Candidate, ListenerRow, Present, RemoteQueryable, RemoteSubscriber};
 

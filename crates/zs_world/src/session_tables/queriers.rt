@@ -5,9 +5,9 @@ ghost use Rattle.zs_world.specs.Changes.{with_change};
 ghost use Rattle.zs_world.specs.EntityChanges.{EntitiesFit};
 
 use super::SessionTables;
-use super::groups::{add_to_group, leave_found};
 use crate::change::{Change, EntityChange, EntityRow};
 use std::alloc::AllocError;
+use zs_entity_tables::{add_to_group, leave_found};
 use zs_events::EntityKind;
 use zs_model::{KeyList, QuerierRow};
 use zs_tables::GroupKind;

@@ -6,9 +6,9 @@ ghost use Rattle.zs_world.specs.Changes.{with_change};
 ghost use Rattle.zs_world.specs.EntityChanges.{EntitiesFit};
 
 use super::SessionTables;
-use super::candidates::{own_queryable_of, recounts_of};
 use crate::change::{Change, EntityChange, EntityRow};
 use std::alloc::AllocError;
+use zs_entity_tables::{own_queryable_of, recounts_of};
 use zs_events::EntityKind;
 use zs_tables::{Candidate, QueryableRow};
 

@@ -2,9 +2,9 @@
 
 ghost use Rattle.std.specs.Prelude.{◌≡◌, IsSome};
 ghost use Rattle.std.specs.Option.{option_map, option_copied, ForSome};
-ghost use Rattle.zs_tables.specs.Numbers.{key_at};
-ghost use Rattle.zs_tables.specs.Contents.{text_meant, IsByNumber};
-ghost use Rattle.zs_tables.specs.Recipients.{matches, next_recipient};
+ghost use Rattle.zs_subscriptions.specs.Numbers.{key_at};
+ghost use Rattle.zs_subscriptions.specs.Contents.{text_meant, IsByNumber};
+ghost use Rattle.zs_subscriptions.specs.Recipients.{matches, next_recipient};
 ghost use Rattle.zs_world.specs.World.{tables_of};
 ghost use Rattle.zs_world.specs.Keys.{numbers_for};
 

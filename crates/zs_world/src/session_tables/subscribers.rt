@@ -7,10 +7,9 @@ ghost use Rattle.zs_tables.specs.Groups.{members_of};
 ghost use Rattle.zs_model.specs.Groups.{sub_shared, share_text, joined_by};
 
 use super::SessionTables;
-use super::candidates::{own_sub_of, recounts_of};
-use super::groups::{join_group, leave_found};
 use crate::change::{Change, EntityChange, EntityRow};
 use std::alloc::{AllocError, Global};
+use zs_entity_tables::{join_group, leave_found, own_sub_of, recounts_of};
 use zs_events::EntityKind;
 use zs_model::{KeyList, copy_of, has_network};
 use zs_tables::{Candidate, GroupKind, Groups, SubRow, Tables};

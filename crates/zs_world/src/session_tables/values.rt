@@ -9,8 +9,8 @@ ghost use Rattle.zs_query.specs.Types.{Finished};
 
 use super::SessionTables;
 use crate::change::{Change, ValueChange};
-use crate::met::Met;
 use std::alloc::AllocError;
+use zs_entity_tables::Met;
 use zs_query::{Finished, GetTable, RequestRow, RequestTable};
 
 impl SessionTables {

@@ -4,7 +4,7 @@ use Rattle.std.specs.List.{list_any}
 use Rattle.zs_tables.specs.declared.listener.Listener.{Listener}
 use Rattle.zs_world.specs.World.{World}
 use Rattle.zs_model.specs.Listeners.{is_listener}
-use Rattle.zs_world.proofs.Counted.{any_row}
+use Rattle.zs_entity_tables.proofs.Counted.{any_row}
 use Rattle.zs_announcing.proofs.matching.names_listener.Goals as goal
 
 pub returns-then-has : goal.returns-then-has

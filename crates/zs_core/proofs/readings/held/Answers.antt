@@ -1,6 +1,6 @@
 use Rattle.std.proofs.Common.{◌≡◌, ◌∙◌, ap}
 use Rattle.zs_world.specs.World.{World}
-use Rattle.zs_world.specs.DeclaredKeys.{has_holder}
+use Rattle.zs_entity_tables.specs.DeclaredKeys.{has_holder}
 use Rattle.zs_standing.proofs.Steps.{held_told}
 use Rattle.zs_core.proofs.readings.held.Goals as goal
 

@@ -15,7 +15,7 @@ use Rattle.zs_tables.specs.LivelinessGets.{is_asking}
 use Rattle.std.specs.Prelude.{map}
 use Rattle.zs_tables.specs.declared.listener.Listener.{Listener as a_listener}
 use Rattle.zs_model.specs.Listeners.{is_listener}
-use Rattle.zs_world.proofs.Counted.{any_row}
+use Rattle.zs_entity_tables.proofs.Counted.{any_row}
 use Rattle.zs_core.proofs.readings.is_live.Goals as goal
 
 pub returns-in-Subscriber : goal.returns-in-Subscriber

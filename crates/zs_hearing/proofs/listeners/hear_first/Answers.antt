@@ -5,7 +5,7 @@ use Rattle.zs_tables.specs.declared.listener.ListenerRow.{ListenerRow}
 use Rattle.zs_tables.specs.declared.listener.Listener.{Listener}
 use Rattle.zs_tables.specs.Matching.{Candidate, count_of}
 use Rattle.zs_world.specs.World.{World, present_at}
-use Rattle.zs_world.proofs.Counted.{rows_under}
+use Rattle.zs_entity_tables.proofs.Counted.{rows_under}
 use Rattle.zs_world.proofs.Hearing.{first_unmatched, first_matched}
 use Rattle.zs_hearing.proofs.listeners.hear_first.Goals as goal
 

@@ -3,7 +3,7 @@ use Rattle.std.specs.Prelude.{◌==◌, map}
 use Rattle.zs_tables.specs.declared.listener.ListenerRow.{ListenerRow}
 use Rattle.zs_tables.specs.declared.listener.Listener.{Listener}
 use Rattle.zs_tables.specs.Matching.{candidates}
-use Rattle.zs_tables.proofs.Ascending.{ascend_map}
+use Rattle.zs_subscriptions.proofs.Ascending.{ascend_map}
 use Rattle.zs_world.proofs.Hearing.{between_without}
 use Rattle.zs_hearing.proofs.listeners.hear_listener_end.Goals as goal
 

@@ -2,9 +2,9 @@ use Rattle.std.proofs.Common.{◌≡◌, true, false, sym, ◌∙◌}
 use Rattle.std.specs.Prelude.{map}
 use Rattle.zs_tables.specs.declared.listener.ListenerRow.{ListenerRow}
 use Rattle.zs_tables.specs.declared.listener.Listener.{Listener}
-use Rattle.zs_tables.proofs.Ascending.{ascend_map}
+use Rattle.zs_subscriptions.proofs.Ascending.{ascend_map}
 use Rattle.zs_model.specs.Listeners.{is_listener}
-use Rattle.zs_world.proofs.Counted.{any_row}
+use Rattle.zs_entity_tables.proofs.Counted.{any_row}
 use Rattle.zs_world.proofs.Hearing.{none_ends, its_end}
 use Rattle.zs_hearing.proofs.listeners.push_end.Goals as goal
 

@@ -1,7 +1,7 @@
 use Rattle.std.proofs.Common.{◌≡◌, ℕ, List, ◌++◌, sym, ap, ◌∙◌}
 use Rattle.std.specs.Prelude.{None}
 use Rattle.zs_events.specs.declared.turn.Effect.{Effect}
-use Rattle.zs_tables.proofs.Searching.{all_behind}
+use Rattle.zs_subscriptions.proofs.Searching.{all_behind}
 use Rattle.zs_hearing.proofs.Ends.{ids_of, ends_of, ids_up, ends_are, left_fewer, ends_on, ends_done}
 use Rattle.zs_hearing.proofs.listeners.push_ends_of.Goals as goal
 

@@ -1,6 +1,6 @@
 use Rattle.std.proofs.Common.{◌≡◌, ◌++◌, length}
 use Rattle.std.specs.Prelude.{filter}
-use Rattle.zs_tables.specs.Recipients.{is_behind}
+use Rattle.zs_subscriptions.specs.Recipients.{is_behind}
 use Rattle.zs_hearing.proofs.Ends.{ids_of, ends_of}
 use Rattle.zs_hearing.proofs.listeners.push_ends_of.Given as goal
 

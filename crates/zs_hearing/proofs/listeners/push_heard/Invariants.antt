@@ -1,7 +1,7 @@
 use Rattle.std.proofs.Common.{◌≡◌, ◌++◌, take}
 use Rattle.std.specs.Prelude.{map, filter}
 use Rattle.zs_tables.specs.Matching.{is_heard}
-use Rattle.zs_world.specs.MatchingTables.{heard_effect}
+use Rattle.zs_entity_tables.specs.MatchingTables.{heard_effect}
 use Rattle.zs_hearing.proofs.listeners.push_heard.Given as goal
 
 abbrev pub invariant-loop-one : goal.invariant-loop-one

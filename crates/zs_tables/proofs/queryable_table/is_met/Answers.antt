@@ -1,7 +1,7 @@
 use Rattle.std.proofs.Common.{ap, ◌∙◌}
 use Rattle.zs_tables.specs.declared.queryable.QueryableRow.{QueryableRow}
 use Rattle.zs_tables.specs.Queryables.{is_for}
-use Rattle.zs_tables.proofs.ByKey.{passed, passes_found}
+use Rattle.zs_subscriptions.proofs.ByKey.{passed, passes_found}
 use Rattle.zs_tables.proofs.queryable_table.is_met.Goals as goal
 
 pub returns-in_default : goal.returns-in_default

@@ -1,7 +1,7 @@
 use Rattle.std.proofs.Common.{ap, ◌∙◌}
 use Rattle.zs_tables.specs.declared.remote_row.RemoteQueryable.{RemoteQueryable}
 use Rattle.zs_tables.specs.RemoteEntities.{is_whole}
-use Rattle.zs_tables.proofs.ByKey.{passed, passes_found}
+use Rattle.zs_subscriptions.proofs.ByKey.{passed, passes_found}
 use Rattle.zs_tables.proofs.remote_table.is_complete.Goals as goal
 
 pub returns-in_default : goal.returns-in_default

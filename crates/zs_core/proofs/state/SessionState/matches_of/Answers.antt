@@ -1,6 +1,6 @@
 use Rattle.std.proofs.Common.{ℕ, List, Option, IfSome, sym, subst}
-use Rattle.zs_tables.specs.Ascending.{Ascend}
-use Rattle.zs_tables.specs.Numbers.{key_at}
+use Rattle.zs_subscriptions.specs.Ascending.{Ascend}
+use Rattle.zs_subscriptions.specs.Numbers.{key_at}
 use Rattle.zs_world.specs.Keys.{numbers_for}
 use Rattle.zs_core.proofs.Keeping.{matches_rise}
 use Rattle.zs_core.proofs.state.SessionState.matches_of.Goals as goal

@@ -1,7 +1,7 @@
 use Rattle.std.proofs.Common.{ap, ◌∙◌}
 use Rattle.std.specs.Prelude.{◌==◌, is_some}
 use Rattle.zs_tables.specs.Matching.{Listener}
-use Rattle.zs_tables.proofs.ByKey.{found_any}
+use Rattle.zs_subscriptions.proofs.ByKey.{found_any}
 use Rattle.zs_tables.proofs.Parents.{indexed_less, indexed_same}
 use Rattle.zs_tables.proofs.listener_table.ListenerTable.remove.Goals as goal
 

@@ -1,10 +1,10 @@
 use Rattle.std.proofs.Common.{◌≡◌, true, false, length, ap, ◌∙◌}
 use Rattle.std.specs.Prelude.{map, filter}
 use Rattle.zs_keys.specs.Matching.{intersects}
-use Rattle.zs_tables.specs.declared.subscriber.SubRow.{SubRow}
+use Rattle.zs_subscriptions.specs.declared.subscriber.SubRow.{SubRow}
 use Rattle.zs_tables.specs.declared.queryable.QueryableRow.{QueryableRow}
 use Rattle.zs_tables.specs.Queryables.{answers_for}
-use Rattle.zs_tables.specs.Recipients.{matches}
+use Rattle.zs_subscriptions.specs.Recipients.{matches}
 use Rattle.zs_tables.proofs.Answering.{length_met, ok_length}
 use Rattle.zs_tables.proofs.present.Present.own_into.Goals as goal
 

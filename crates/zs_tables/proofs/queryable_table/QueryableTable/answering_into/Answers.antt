@@ -3,7 +3,7 @@ use Rattle.std.specs.Prelude.{◌&&◌, map, filter}
 use Rattle.zs_keys.specs.Matching.{intersects}
 use Rattle.zs_tables.specs.declared.queryable.QueryableRow.{QueryableRow}
 use Rattle.zs_tables.specs.Queryables.{answers_for, answers_whole}
-use Rattle.zs_tables.proofs.ByKey.{kept}
+use Rattle.zs_subscriptions.proofs.ByKey.{kept}
 use Rattle.zs_tables.proofs.Answering.{map_agree, whole_is_for, meets_is_for}
 use Rattle.zs_tables.proofs.queryable_table.QueryableTable.answering_into.Goals as goal
 

@@ -1,6 +1,6 @@
 use Rattle.zs_tables.specs.declared.queryable.QueryableRow.{QueryableRow}
 use Rattle.zs_tables.specs.Queryables.{is_for}
-use Rattle.zs_tables.proofs.ByKey.{kept}
+use Rattle.zs_subscriptions.proofs.ByKey.{kept}
 use Rattle.zs_tables.proofs.queryable_table.QueryableTable.met_into.Goals as goal
 
 pub returns-clause-ok : goal.returns-clause-ok

@@ -3,7 +3,7 @@ use Rattle.std.specs.Prelude.{◌&&◌, map, filter}
 use Rattle.zs_keys.specs.Matching.{intersects}
 use Rattle.zs_tables.specs.declared.remote_row.RemoteQueryable.{RemoteQueryable}
 use Rattle.zs_tables.specs.RemoteEntities.{answers, is_whole}
-use Rattle.zs_tables.proofs.ByKey.{kept}
+use Rattle.zs_subscriptions.proofs.ByKey.{kept}
 use Rattle.zs_tables.proofs.Answering.{map_agree, remote_whole_is_for, remote_meets_is_for}
 use Rattle.zs_tables.proofs.remote_table.RemoteTable.answering_into.Goals as goal
 

@@ -1,13 +1,13 @@
 use Rattle.std.proofs.Common.{◌≡◌, ◌≤◌, ◌+◌, List, sym, ap, ◌∙◌, arith}
-use Rattle.zs_tables.specs.declared.subscriber.SubRow.{SubRow}
+use Rattle.zs_subscriptions.specs.declared.subscriber.SubRow.{SubRow}
 use Rattle.zs_tables.specs.declared.queryable.QueryableRow.{QueryableRow}
 use Rattle.zs_tables.specs.declared.listener.Listener.{Listener}
 use Rattle.zs_tables.specs.Matching.{Candidate, candidates, count_of}
 use Rattle.zs_model.specs.declared.publisher.PubRow.{PubRow}
 use Rattle.zs_model.specs.declared.querier.QuerierRow.{QuerierRow}
 use Rattle.zs_world.specs.World.{World, present_at}
-use Rattle.zs_world.proofs.Bounds.{groups_weaker, rows_weaker}
-use Rattle.zs_world.proofs.Counted.{below_added, counted_added}
+use Rattle.zs_entity_tables.proofs.Bounds.{groups_weaker, rows_weaker}
+use Rattle.zs_entity_tables.proofs.Counted.{below_added, counted_added}
 use Rattle.zs_world.proofs.session_tables.SessionTables.add_listener.Goals as goal
 
 pub invariant_of-self-2 : goal.invariant_of-self-2

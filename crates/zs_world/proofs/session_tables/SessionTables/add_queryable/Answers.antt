@@ -1,13 +1,13 @@
 use Rattle.std.proofs.Common.{◌≡◌, ◌≤◌, ◌+◌, sym, ◌∙◌, ap, arith}
 use Rattle.zs_model.specs.declared.publisher.PubRow.{PubRow}
-use Rattle.zs_tables.specs.declared.subscriber.SubRow.{SubRow}
+use Rattle.zs_subscriptions.specs.declared.subscriber.SubRow.{SubRow}
 use Rattle.zs_tables.specs.declared.queryable.QueryableRow.{QueryableRow}
 use Rattle.zs_model.specs.declared.querier.QuerierRow.{QuerierRow}
 use Rattle.zs_world.specs.World.{World}
-use Rattle.zs_world.proofs.Bounds.{groups_weaker, rows_push, rows_weaker}
+use Rattle.zs_entity_tables.proofs.Bounds.{groups_weaker, rows_push, rows_weaker}
 use Rattle.zs_tables.specs.declared.listener.Listener.{Listener}
 use Rattle.zs_tables.proofs.Moving.{queryable_comes}
-use Rattle.zs_world.proofs.Counted.{below_set, counted_moved}
+use Rattle.zs_entity_tables.proofs.Counted.{below_set, counted_moved}
 use Rattle.zs_world.proofs.session_tables.SessionTables.add_queryable.Goals as goal
 
 pub invariant_of-self-2 : goal.invariant_of-self-2

@@ -1,16 +1,16 @@
 use Rattle.std.proofs.Common.{◌≡◌, ◌<◌, ◌≤◌, ◌+◌, sym, ◌∙◌, ap, arith}
 use Rattle.zs_tables.specs.Groups.{AllGroups}
-use Rattle.zs_tables.specs.Contents.{Contents}
-use Rattle.zs_tables.specs.declared.subscriber.SubRow.{SubRow}
+use Rattle.zs_subscriptions.specs.Contents.{Contents}
+use Rattle.zs_subscriptions.specs.declared.subscriber.SubRow.{SubRow}
 use Rattle.zs_tables.specs.declared.queryable.QueryableRow.{QueryableRow}
 use Rattle.zs_model.specs.declared.publisher.PubRow.{PubRow}
 use Rattle.zs_model.specs.declared.querier.QuerierRow.{QuerierRow}
 use Rattle.zs_world.specs.World.{World}
 use Rattle.zs_model.specs.Groups.{sub_shared, share_text}
-use Rattle.zs_world.proofs.Bounds.{no_member, groups_weaker, more_below, rows_push, rows_weaker}
+use Rattle.zs_entity_tables.proofs.Bounds.{no_member, groups_weaker, more_below, rows_push, rows_weaker}
 use Rattle.zs_tables.specs.declared.listener.Listener.{Listener}
 use Rattle.zs_tables.proofs.Moving.{sub_comes}
-use Rattle.zs_world.proofs.Counted.{below_set, counted_moved}
+use Rattle.zs_entity_tables.proofs.Counted.{below_set, counted_moved}
 use Rattle.zs_world.proofs.session_tables.SessionTables.add_sub.Goals as goal
 
 pub add_to_group-requires-clause-new : goal.add_to_group-requires-clause-new

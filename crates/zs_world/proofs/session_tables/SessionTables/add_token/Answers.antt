@@ -1,5 +1,5 @@
 use Rattle.std.proofs.Common.{◌≤◌, ◌+◌, arith}
-use Rattle.zs_world.proofs.Bounds.{below_weaker}
+use Rattle.zs_entity_tables.proofs.Bounds.{below_weaker}
 use Rattle.zs_world.proofs.session_tables.SessionTables.add_token.Goals as goal
 
 pub invariant_of-self-2 : goal.invariant_of-self-2

@@ -1,4 +1,4 @@
-use Rattle.zs_world.proofs.Bounds.{below_weaker}
+use Rattle.zs_entity_tables.proofs.Bounds.{below_weaker}
 use Rattle.zs_world.proofs.session_tables.SessionTables.change_liveliness.Goals as goal
 
 pub invariant_of-self-2 : goal.invariant_of-self-2

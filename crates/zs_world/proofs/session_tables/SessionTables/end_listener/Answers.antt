@@ -1,4 +1,4 @@
-use Rattle.zs_world.proofs.Counted.{below_fewer, counted_fewer}
+use Rattle.zs_entity_tables.proofs.Counted.{below_fewer, counted_fewer}
 use Rattle.zs_world.proofs.session_tables.SessionTables.end_listener.Goals as goal
 
 pub invariant_of-self : goal.invariant_of-self

@@ -1,6 +1,6 @@
 use Rattle.zs_model.specs.declared.querier.QuerierRow.{QuerierRow}
-use Rattle.zs_world.proofs.Bounds.{less_below, rows_less}
-use Rattle.zs_world.proofs.Counted.{below_fewer, counted_fewer}
+use Rattle.zs_entity_tables.proofs.Bounds.{less_below, rows_less}
+use Rattle.zs_entity_tables.proofs.Counted.{below_fewer, counted_fewer}
 use Rattle.zs_world.proofs.session_tables.SessionTables.end_querier.Goals as goal
 
 pub invariant_of-self : goal.invariant_of-self

@@ -1,8 +1,8 @@
 use Rattle.std.proofs.Common.{◌∙◌}
 use Rattle.zs_tables.specs.declared.queryable.QueryableRow.{QueryableRow}
-use Rattle.zs_world.proofs.Bounds.{rows_less}
+use Rattle.zs_entity_tables.proofs.Bounds.{rows_less}
 use Rattle.zs_tables.proofs.Moving.{queryable_goes}
-use Rattle.zs_world.proofs.Counted.{below_set, counted_moved}
+use Rattle.zs_entity_tables.proofs.Counted.{below_set, counted_moved}
 use Rattle.zs_world.proofs.session_tables.SessionTables.end_queryable.Goals as goal
 
 pub invariant_of-self : goal.invariant_of-self

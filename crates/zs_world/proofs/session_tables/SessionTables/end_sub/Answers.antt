@@ -1,8 +1,8 @@
 use Rattle.std.proofs.Common.{◌∙◌}
-use Rattle.zs_tables.specs.declared.subscriber.SubRow.{SubRow}
-use Rattle.zs_world.proofs.Bounds.{less_below, rows_less}
+use Rattle.zs_subscriptions.specs.declared.subscriber.SubRow.{SubRow}
+use Rattle.zs_entity_tables.proofs.Bounds.{less_below, rows_less}
 use Rattle.zs_tables.proofs.Moving.{sub_goes}
-use Rattle.zs_world.proofs.Counted.{below_set, counted_moved}
+use Rattle.zs_entity_tables.proofs.Counted.{below_set, counted_moved}
 use Rattle.zs_world.proofs.session_tables.SessionTables.end_sub.Goals as goal
 
 pub invariant_of-self : goal.invariant_of-self

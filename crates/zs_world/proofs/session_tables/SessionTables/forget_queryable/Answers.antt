@@ -1,6 +1,6 @@
 use Rattle.std.proofs.Common.{◌∙◌}
 use Rattle.zs_tables.proofs.Moving.{remote_queryable_goes}
-use Rattle.zs_world.proofs.Counted.{below_told, counted_told}
+use Rattle.zs_entity_tables.proofs.Counted.{below_told, counted_told}
 use Rattle.zs_world.proofs.session_tables.SessionTables.forget_queryable.Goals as goal
 
 pub invariant_of-self : goal.invariant_of-self

@@ -1,6 +1,6 @@
 use Rattle.std.proofs.Common.{◌∙◌}
 use Rattle.zs_tables.proofs.Moving.{remote_subscriber_comes}
-use Rattle.zs_world.proofs.Counted.{below_told, counted_told}
+use Rattle.zs_entity_tables.proofs.Counted.{below_told, counted_told}
 use Rattle.zs_world.proofs.session_tables.SessionTables.tell_sub.Goals as goal
 
 pub invariant_of-self-2 : goal.invariant_of-self-2

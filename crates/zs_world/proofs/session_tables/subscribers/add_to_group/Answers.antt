@@ -1,8 +1,8 @@
 use Rattle.std.proofs.Common.{List, ap, ◌∙◌}
 use Rattle.std.specs.Prelude.{◌==◌, not, filter}
-use Rattle.zs_tables.specs.Contents.{Contents}
-use Rattle.zs_tables.specs.declared.subscriber.SubRow.{SubRow}
-use Rattle.zs_world.proofs.Bounds.{push_undone}
+use Rattle.zs_subscriptions.specs.Contents.{Contents}
+use Rattle.zs_subscriptions.specs.declared.subscriber.SubRow.{SubRow}
+use Rattle.zs_entity_tables.proofs.Bounds.{push_undone}
 use Rattle.zs_world.proofs.session_tables.subscribers.add_to_group.Goals as goal
 
 pub returns-in-Err-clause-same_tables : goal.returns-in-Err-clause-same_tables

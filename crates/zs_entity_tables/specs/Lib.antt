@@ -1,0 +1,5 @@
+pub mod DeclaredKeys
+pub mod HolderCounts
+pub mod MatchingTables
+pub mod Bounds
+pub mod EntityRows

@@ -1,5 +1,0 @@
-use Rattle.zs_tables.proofs.Walking.{each_is_next}
-use Rattle.zs_tables.proofs.laws.each_is_next.Goals as goal
-
-pub returns : goal.returns
-returns c = each_is_next

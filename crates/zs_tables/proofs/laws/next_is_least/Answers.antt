@@ -1,5 +1,0 @@
-use Rattle.zs_tables.proofs.Walking.{next_is_least}
-use Rattle.zs_tables.proofs.laws.next_is_least.Goals as goal
-
-pub returns : goal.returns
-returns c = next_is_least

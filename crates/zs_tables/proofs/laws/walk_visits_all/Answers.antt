@@ -1,5 +1,0 @@
-use Rattle.zs_tables.proofs.Walking.{walk_visits_all}
-use Rattle.zs_tables.proofs.laws.walk_visits_all.Goals as goal
-
-pub returns : goal.returns
-returns c = walk_visits_all

@@ -1,5 +1,0 @@
-use Rattle.zs_tables.proofs.Numbering.{none_are}
-use Rattle.zs_tables.proofs.number_rows.NumberRows.clear.Goals as goal
-
-pub invariant_of-self : goal.invariant_of-self
-invariant_of-self c = rw c.clear.ensures none_are

@@ -1,7 +1,0 @@
-use Rattle.zs_tables.proofs.Searching.{searched}
-use Rattle.zs_tables.proofs.places.number_place.Goals as goal
-
-pub returns : goal.returns
-returns c =
-    let facts = c.binary_search.ensures in
-    searched (λ n. n) c.args.number c.args.numbers.now c.requires _ facts.bound facts.position

@@ -1,4 +1,0 @@
-use Rattle.zs_tables.proofs.tables.Tables.has.Goals as goal
-
-pub returns : goal.returns
-returns c = rw (← c.self.view_is) c.has.ensures
