@@ -59,8 +59,9 @@ kept_wider aggregates gs xs next later up k = record {
 kept_push : (aggregates : List Key) (gs : List Group) (xs : List Shared) (x : Shared) (next : ℕ) → x.id ≡ next → AreKept aggregates gs xs next
     → AreKept aggregates (joined_by aggregates x gs) (xs ++ x ∷ []) (next + 1)
 kept_push aggregates gs xs x next is k =
-    kept aggregates (joined_by aggregates x gs) (xs ++ x ∷ []) (next + 1) (grouped_more aggregates gs xs x (grouped aggregates gs xs next k))
-    (ascend_push (λ (y : Shared). y.id) xs x k.ascend (all_weaker (λ (y : Shared). y.id < next) (λ (y : Shared). y.id < x.id) (λ y less. omega (arith, less, is)) xs k.below))
+    let under : AllByRecursion (λ y. y.id < x.id) xs = all_weaker (λ (y : Shared). y.id < next) (λ (y : Shared). y.id < x.id) (λ y less. omega (arith, less, is)) xs k.below in
+    kept aggregates (joined_by aggregates x gs) (xs ++ x ∷ []) (next + 1) (grouped_more aggregates gs xs x under (grouped aggregates gs xs next k))
+    (ascend_push (λ (y : Shared). y.id) xs x k.ascend under)
     (all_push (λ (y : Shared). y.id < next + 1) xs x (all_weaker (λ (y : Shared). y.id < next) (λ (y : Shared). y.id < next + 1) (λ y less. omega (arith, less)) xs k.below) (omega (arith, is)))
 
 -- one less

@@ -1,7 +1,5 @@
 -- What a state keeps of its numbers.
 use Rattle.std.specs.Prelude.{ℕ, ◌<◌, List, All}
-use Rattle.std.specs.List.{AllByRecursion}
-use Rattle.zs_tables.specs.Groups.{Group, AllGroups}
 use Rattle.zs_subscriptions.specs.declared.subscriber.SubRow.{SubRow}
 use Rattle.zs_tables.specs.declared.queryable.QueryableRow.{QueryableRow}
 use Rattle.zs_model.specs.declared.publisher.PubRow.{PubRow}
@@ -10,18 +8,11 @@ use Rattle.zs_tables.specs.RemoteEntities.{RemoteEntities}
 use Rattle.zs_tables.specs.declared.listener.Listener.{Listener}
 use Rattle.zs_tables.specs.Matching.{candidates, AreCounted}
 
--- the members of these groups are below a number
-abbrev pub GroupsBelow : ℕ → List Group → Type 0
-GroupsBelow next gs = AllByRecursion (λ g. AllByRecursion (λ member. member < next) g.members) gs
-
 -- all numbers of entities are below the next one, and each listener's count is that of those who match
-pub record AreBelow (next : ℕ) (rows : List SubRow) (publishers : List PubRow) (queryable_rows : List QueryableRow) (querier_rows : List QuerierRow) (groups : AllGroups) (told : RemoteEntities) (listeners : List Listener) : Type 0 where
+pub record AreBelow (next : ℕ) (rows : List SubRow) (publishers : List PubRow) (queryable_rows : List QueryableRow) (querier_rows : List QuerierRow) (told : RemoteEntities) (listeners : List Listener) : Type 0 where
   pub subs : All (λ row. row.id < next) rows
   pub pubs : All (λ row. row.id < next) publishers
   pub queryables : All (λ row. row.id < next) queryable_rows
   pub queriers : All (λ row. row.id < next) querier_rows
-  pub sub_groups : GroupsBelow next groups.subscribers
-  pub pub_groups : GroupsBelow next groups.publishers
-  pub querier_groups : GroupsBelow next groups.queriers
   pub listening : All (λ l. l.row.id < next) listeners
   pub counted : AreCounted (candidates rows queryable_rows told) listeners

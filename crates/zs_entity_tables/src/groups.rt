@@ -1,10 +1,10 @@
 //! Entities join and leave the groups that share a declaration to the network.
 
-ghost use Rattle.std.specs.Prelude.{◌≡◌, ◌≢◌, ◌<◌, ◌++◌, ◌∷◌, [], All, OnOk, OnErr};
+ghost use Rattle.std.specs.Prelude.{◌≡◌, ◌<◌, ◌++◌, ◌∷◌, [], All, OnOk, OnErr};
 ghost use Rattle.std.specs.Option.{option_map, option_copied};
-ghost use Rattle.zs_tables.specs.Groups.{groups_of, with_groups, members_of};
+ghost use Rattle.zs_tables.specs.Groups.{groups_of, with_groups};
 ghost use Rattle.zs_subscriptions.specs.Recipients.{has_network};
-ghost use Rattle.zs_model.specs.Groups.{share_text, joined_by, left_by, left_found};
+ghost use Rattle.zs_model.specs.Groups.{joined_by, left_by, left_found};
 
 use crate::entity::Entity;
 use crate::entity_table::EntityTable;
@@ -22,8 +22,7 @@ pub fn add_to_group<R: Entity>(
     aggregates: &KeyList,
     row: R,
 ) -> Result<(), AllocError>
-    requires below { All (λ other. (R.shared other).id < (R.shared row).id) table.old }
-    requires new { All (λ member. member ≢ (R.shared row).id) (members_of (share_text aggregates.now (R.shared row).text) (groups_of kind groups.old)) }
+    requires { All (λ other. (R.shared other).id < (R.shared row).id) table.old }
     ensures table { OnOk result (table.new ≡ table.old ++ row ∷ []) }
     ensures groups { OnOk result (groups.new ≡ with_groups kind (joined_by aggregates.now (R.shared row) (groups_of kind groups.old)) groups.old) }
     ensures same_table { OnErr result (table.new ≡ table.old) }
@@ -64,7 +63,6 @@ pub fn join_group(
     key: &KeyExpr<'static>,
     id: u32,
 ) -> Result<(), AllocError>
-    requires { All (λ member. member ≢ id) (members_of (share_text aggregates.now key.now.text) (groups_of kind groups.old)) }
     ensures ok { OnOk result (groups.new ≡ with_groups kind
         (joined_by aggregates.now (record { id = id; is_announced = is_announced; text = key.now.text }) (groups_of kind groups.old)) groups.old) }
     ensures err { OnErr result (groups.new ≡ groups.old) }

@@ -1,11 +1,13 @@
 -- Groups in the order of their texts.
-use Rattle.std.proofs.Common.{◌≡◌, ◌≢◌, ℕ, ◌+◌, ◌<◌, Bool, true, false, cond, List, [], ◌∷◌, ◌++◌, length, String, string_bytes, Option, Some, None, Result, Ok, Err, refl, sym, ap, subst, ◌∙◌, arith, true≢false}
-use Rattle.std.specs.Prelude.{◌==◌, not, map, filter, bytes_eq, option_map, is_some, if◌then◌else◌, OnErr, OnOk, IfOk}
+use Rattle.std.proofs.Common.{◌≡◌, ℕ, Bool, true, false, List, [], ◌∷◌, length, String, string_bytes, Option, Some, None, Result, Ok, Err, refl, sym, ap, subst, ◌∙◌, arith}
+use Rattle.std.specs.Prelude.{◌==◌, not, map, filter, bytes_eq, option_map, is_some, if◌then◌else◌, OnErr, OnOk}
 use Rattle.std.specs.List.{AllByRecursion, list_any, list_all}
 use Rattle.std.specs.List.Sorted.{IsStrictlySortedBy}
 use Rattle.std.specs.Map.{lookup, remove_entry, set_value, keys_of}
 use Rattle.std.specs.BTreeMap.{is_at, insert_entry}
-use Rattle.std.specs.Ordering.{nat_cmp, is_eq, is_lt}
+use Rattle.std.specs.BTreeSet.{insert_key}
+use Rattle.std.specs.Set.{remove_key}
+use Rattle.std.specs.Ordering.{nat_cmp, is_eq, match_ordering}
 use Rattle.std.specs.declared.cmp.Ordering.{Ordering}
 use Rattle.std.specs.declared.cmp.Ordering.TheVariants.{Less, Equal, Greater}
 use Rattle.std.specs.Cmp.Lexicographic.{slice_cmp, nat_list_cmp_total}
@@ -15,7 +17,7 @@ use Rattle.std.proofs.lemmas.Map.Keys.{sorted_head, sorted_tail}
 use Rattle.std.proofs.lemmas.Map.Lookups.{exact_bytes}
 use Rattle.std.proofs.lemmas.Slice.Eq.{bytes_eq-Decides}
 use Rattle.zs_grouped.specs.declared.group_row.GroupRow.{GroupRow}
-use Rattle.zs_grouped.specs.Groups.{Group, has_text, number_of_group, members_of, joined, with_group, without_member, has_members, left, number_left}
+use Rattle.zs_grouped.specs.Groups.{Group, has_text, number_of_group, members_of, joined, with_group, has_members, left, number_left}
 use Rattle.zs_grouped.specs.Grouped.{grouped, HasJoined, HasLeft, IsSame, AreGroups}
 
 by_test : {P : Type 0} (b : Bool) → (b ≡ true → P) → (b ≡ false → P) → P
@@ -103,7 +105,7 @@ number_found text (e ∷ es) =
 -- and so are its members
 abbrev pub members_in : Option GroupRow → List ℕ
 members_in None = []
-members_in (Some row) = row.members.items
+members_in (Some row) = row.members.keys
 
 pub members_found : {A : Type 0} (text : List ℕ) (es : List (String A × GroupRow)) → members_in (lookup (at text) es) ≡ members_of text (map grouped es)
 members_found text [] = refl
@@ -156,7 +158,7 @@ keep_some : (gs : List Group) → AllByRecursion (λ g. has_members g ≡ true) 
 keep_some [] h = refl
 keep_some (g ∷ gs) h = rw h.0 (ap (λ (rest : List Group). g ∷ rest) (keep_some gs h.1))
 
-pub written_some : {A : Type 0} (text : List ℕ) (new : GroupRow) (es : List (String A × GroupRow)) → AreGroups es → not (length new.members.items == 0) ≡ true → AreGroups (set_value (at text) es new)
+pub written_some : {A : Type 0} (text : List ℕ) (new : GroupRow) (es : List (String A × GroupRow)) → AreGroups es → not (length new.members.keys == 0) ≡ true → AreGroups (set_value (at text) es new)
 written_some text new [] all some = tt
 written_some {A} text new (e ∷ es) all some = go (at text e.0) refl (written_some text new es all.1 some)
   where
@@ -172,7 +174,7 @@ removed_some {A} text (e ∷ es) all = go (at text e.0) refl (removed_some text 
     go true k more = rw k all.1
     go false k more = rw k (all.0, more)
 
-pub placed_some : {A : Type 0} (key : String A) (row : GroupRow) (es : List (String A × GroupRow)) → AreGroups es → not (length row.members.items == 0) ≡ true → AreGroups (insert_entry key_cmp es key row)
+pub placed_some : {A : Type 0} (key : String A) (row : GroupRow) (es : List (String A × GroupRow)) → AreGroups es → not (length row.members.keys == 0) ≡ true → AreGroups (insert_entry key_cmp es key row)
 placed_some key row [] all some = (some, tt)
 placed_some {A} key row (e ∷ es) all some = go (key_cmp key e.0) refl (placed_some key row es all.1 some)
   where
@@ -181,22 +183,27 @@ placed_some {A} key row (e ∷ es) all some = go (key_cmp key e.0) refl (placed_
     go Equal is more = rw is (some, all.1)
     go Greater is more = rw is (all.0, more)
 
-more_some : (members : List ℕ) (id : ℕ) → not (length (members ++ id ∷ []) == 0) ≡ true
+more_some : (members : List ℕ) (id : ℕ) → not (length (insert_key nat_cmp members id) == 0) ≡ true
 more_some [] id = refl
-more_some (m ∷ members) id = grind (arith, nat_tests)
+more_some (m ∷ members) id = go (nat_cmp id m)
+  where
+    go : (o : Ordering) → not (length (match_ordering o (id ∷ m ∷ members) (m ∷ members) (m ∷ insert_key nat_cmp members id)) == 0) ≡ true
+    go Less = grind (arith, nat_tests)
+    go Equal = grind (arith, nat_tests)
+    go Greater = grind (arith, nat_tests)
 
-pub joined_has : (id : ℕ) (row new : GroupRow) → HasJoined id row new → not (length new.members.items == 0) ≡ true
-joined_has id row new is = rw is.1 (more_some row.members.items id)
+pub joined_has : (id : ℕ) (row new : GroupRow) → HasJoined id row new → not (length new.members.keys == 0) ≡ true
+joined_has id row new is = rw is.1 (more_some row.members.keys id)
 
 -- a member joins a group that is there
 pub joins : {A : Type 0} (text : List ℕ) (id : ℕ) (row new : GroupRow) (es : List (String A × GroupRow)) → IsStrictlySortedBy key_cmp (keys_of es) → Some row ≡ lookup (at text) es → HasJoined id row new
     → map grouped (set_value (at text) es new) ≡ joined text id (map grouped es)
 joins {A} text id row new es up found is =
     let there : list_any (has_text text) (map grouped es) ≡ true = sym (any_found text es) ∙ sym (ap is_some found) in
-    rw there (changed text (λ (g : Group). record g { members = g.members ++ id ∷ [] }) row new es up found (λ k. λ i. record { text = string_bytes k; number = is.0 i; members = is.1 i }))
+    rw there (changed text (λ (g : Group). record g { members = insert_key nat_cmp g.members id }) row new es up found (λ k. λ i. record { text = string_bytes k; number = is.0 i; members = is.1 i }))
 
 -- and makes a new one where there is none
-pub makes : {A : Type 0} (key : String A) (text : List ℕ) (id : ℕ) (row : GroupRow) (es : List (String A × GroupRow)) → string_bytes key ≡ text → None ≡ lookup (at text) es → row.number ≡ id → row.members.items ≡ id ∷ []
+pub makes : {A : Type 0} (key : String A) (text : List ℕ) (id : ℕ) (row : GroupRow) (es : List (String A × GroupRow)) → string_bytes key ≡ text → None ≡ lookup (at text) es → row.number ≡ id → row.members.keys ≡ id ∷ []
     → map grouped (insert_entry key_cmp es key row) ≡ joined text id (map grouped es)
 makes {A} key text id row es is none number members =
     let absent : list_any (has_text text) (map grouped es) ≡ false = sym (any_found text es) ∙ sym (ap is_some none) in
@@ -212,9 +219,26 @@ same_groups {A} text row new (e ∷ es) found is = go (at text e.0) refl (same_g
     go true k more =
         let there : Some row ≡ Some e.1 = rw k at found in
         let same : row ≡ e.1 = cc in
-        let head : grouped (e.0, new) ≡ grouped e = λ i. record { text = string_bytes e.0; number = (is.0 ∙ ap (λ (r : GroupRow). r.number) same) i; members = (is.1 ∙ ap (λ (r : GroupRow). r.members.items) same) i } in
+        let head : grouped (e.0, new) ≡ grouped e = λ i. record { text = string_bytes e.0; number = (is.0 ∙ ap (λ (r : GroupRow). r.number) same) i; members = (is.1 ∙ ap (λ (r : GroupRow). r.members.keys) same) i } in
         rw k (ap (λ (g : Group). g ∷ map grouped es) head)
     go false k more = rw k (ap (λ (rest : List Group). grouped e ∷ rest) (more (rw k at found) is))
+
+-- one number is taken out of a set
+equal_number : (id m : ℕ) → is_at (nat_cmp id) m ≡ (m == id)
+equal_number id m = grind (arith, nat_tests)
+
+none_out : (id m : ℕ) (members : List ℕ) → (m == id) ≡ true → AllByRecursion (λ later. nat_cmp m later ≡ Less) members → filter (λ other. not (other == id)) members ≡ members
+none_out id m [] is above = refl
+none_out id m (n ∷ members) is above =
+    let apart : (n == id) ≡ false = grind (arith, nat_tests, is, above.0) in
+    rw apart (ap (λ (rest : List ℕ). n ∷ rest) (none_out id m members is above.1))
+
+pub taken_out : (id : ℕ) (members : List ℕ) → IsStrictlySortedBy nat_cmp members → remove_key (is_at (nat_cmp id)) members ≡ filter (λ other. not (other == id)) members
+taken_out id [] up = refl
+taken_out id (m ∷ members) up =
+    by_test (m == id)
+    (λ k. rw (equal_number id m, k) (sym (none_out id m members k (sorted_head nat_cmp m members up))))
+    (λ k. rw (equal_number id m, k) (ap (λ (rest : List ℕ). m ∷ rest) (taken_out id members (sorted_tail nat_cmp m members up))))
 
 -- a list of one number alone has no others
 alone_none : (id : ℕ) (members : List ℕ) → true ≡ list_all (λ member. member == id) members → filter (λ other. not (other == id)) members ≡ []
@@ -228,14 +252,14 @@ others_some id [] h = absurd (cc)
 others_some id (m ∷ members) h =
     by_test (m == id) (λ k. rw k (others_some id members (rw k at h))) (λ k. rw k (grind (arith, nat_tests)))
 
-pub left_has : (id : ℕ) (row new : GroupRow) → HasLeft id row new → false ≡ list_all (λ member. member == id) row.members.items → not (length new.members.items == 0) ≡ true
-left_has id row new is alone = rw is.1 (ap not (others_some id row.members.items alone))
+pub left_has : (id : ℕ) (row new : GroupRow) → HasLeft id row new → false ≡ list_all (λ member. member == id) row.members.keys → not (length new.members.keys == 0) ≡ true
+left_has id row new is alone = rw is.1 (ap not (others_some id row.members.keys alone))
 
 -- a row that is found twice has others both times
-pub with_others : (id : ℕ) (row again : GroupRow) → Some row ≡ Some again → false ≡ list_all (λ member. member == id) row.members.items → false ≡ list_all (λ member. member == id) again.members.items
+pub with_others : (id : ℕ) (row again : GroupRow) → Some row ≡ Some again → false ≡ list_all (λ member. member == id) row.members.keys → false ≡ list_all (λ member. member == id) again.members.keys
 with_others id row again once others =
     let same : row ≡ again = cc in
-    subst (λ (r : GroupRow). false ≡ list_all (λ member. member == id) r.members.items) same others
+    subst (λ (r : GroupRow). false ≡ list_all (λ member. member == id) r.members.keys) same others
 
 -- no group has the text: nobody leaves
 pub left_none : {A : Type 0} (text : List ℕ) (id : ℕ) (es : List (String A × GroupRow)) → AreGroups es → HaveNot text es → map grouped es ≡ left text id (map grouped es)
@@ -244,25 +268,25 @@ left_none text id es all none =
     ∙ keep_some (map grouped es) (all_some es all))
 
 -- others are left
-pub left_some : {A : Type 0} (text : List ℕ) (id : ℕ) (row new : GroupRow) (es : List (String A × GroupRow)) → IsStrictlySortedBy key_cmp (keys_of es) → AreGroups es → Some row ≡ lookup (at text) es → HasLeft id row new → false ≡ list_all (λ member. member == id) row.members.items
+pub left_some : {A : Type 0} (text : List ℕ) (id : ℕ) (row new : GroupRow) (es : List (String A × GroupRow)) → IsStrictlySortedBy key_cmp (keys_of es) → AreGroups es → Some row ≡ lookup (at text) es → HasLeft id row new → false ≡ list_all (λ member. member == id) row.members.keys
     → map grouped (set_value (at text) es new) ≡ left text id (map grouped es)
 left_some {A} text id row new es up all found is alone =
     let so = changed text (λ (g : Group). record g { members = filter (λ other. not (other == id)) g.members }) row new es up found (λ k. λ i. record { text = string_bytes k; number = is.0 i; members = is.1 i }) in
     sym (ap (filter has_members) (sym so) ∙ keep_some (map grouped (set_value (at text) es new)) (all_some (set_value (at text) es new) (written_some text new es all (left_has id row new is alone))))
 
 -- the last one is gone
-pub left_last : {A : Type 0} (text : List ℕ) (id : ℕ) (row : GroupRow) (es : List (String A × GroupRow)) → IsStrictlySortedBy key_cmp (keys_of es) → AreGroups es → Some row ≡ lookup (at text) es → true ≡ list_all (λ member. member == id) row.members.items
+pub left_last : {A : Type 0} (text : List ℕ) (id : ℕ) (row : GroupRow) (es : List (String A × GroupRow)) → IsStrictlySortedBy key_cmp (keys_of es) → AreGroups es → Some row ≡ lookup (at text) es → true ≡ list_all (λ member. member == id) row.members.keys
     → map grouped (remove_entry (at text) es) ≡ left text id (map grouped es)
 left_last text id row [] up all found alone = refl
 left_last {A} text id row (e ∷ es) up all found alone = go (has_text text (grouped e)) refl (left_last text id row es (sorted_tail key_cmp e.0 (keys_of es) up) all.1)
   where
     go : (b : Bool) → has_text text (grouped e) ≡ b
-        → (Some row ≡ lookup (at text) es → true ≡ list_all (λ member. member == id) row.members.items → map grouped (remove_entry (at text) es) ≡ left text id (map grouped es))
+        → (Some row ≡ lookup (at text) es → true ≡ list_all (λ member. member == id) row.members.keys → map grouped (remove_entry (at text) es) ≡ left text id (map grouped es))
         → map grouped (remove_entry (at text) (e ∷ es)) ≡ left text id (map grouped (e ∷ es))
     go true k more =
         let there : Some row ≡ Some e.1 = rw (at_is text e, k) at found in
         let same : row ≡ e.1 = cc in
-        let gone : filter (λ other. not (other == id)) e.1.members.items ≡ [] = subst (λ (r : GroupRow). filter (λ other. not (other == id)) r.members.items ≡ []) same (alone_none id row.members.items alone) in
+        let gone : filter (λ other. not (other == id)) e.1.members.keys ≡ [] = subst (λ (r : GroupRow). filter (λ other. not (other == id)) r.members.keys ≡ []) same (alone_none id row.members.keys alone) in
         let others = later_not text e.0 es ((bytes_eq-Decides (string_bytes e.0) text).0 k) (sorted_head key_cmp e.0 (keys_of es) up) in
         rw (at_is text e, k, gone) (left_none text id es all.1 others)
     go false k more = rw (at_is text e, k, all.0) (ap (λ (rest : List Group). grouped e ∷ rest) (more (rw (at_is text e, k) at found) alone))
@@ -273,16 +297,16 @@ number_left_none text id es none =
     let number : number_of_group text (map grouped es) ≡ None = sym (number_found text es) ∙ sym (ap (option_map (λ (row : GroupRow). row.number)) none) in
     rw (members, number) refl
 
-pub number_left_last : {A : Type 0} (text : List ℕ) (id : ℕ) (row : GroupRow) (es : List (String A × GroupRow)) → Some row ≡ lookup (at text) es → true ≡ list_all (λ member. member == id) row.members.items → Some row.number ≡ number_left text id (map grouped es)
+pub number_left_last : {A : Type 0} (text : List ℕ) (id : ℕ) (row : GroupRow) (es : List (String A × GroupRow)) → Some row ≡ lookup (at text) es → true ≡ list_all (λ member. member == id) row.members.keys → Some row.number ≡ number_left text id (map grouped es)
 number_left_last text id row es found alone =
-    let members : members_of text (map grouped es) ≡ row.members.items = sym (members_found text es) ∙ sym (ap members_in found) in
+    let members : members_of text (map grouped es) ≡ row.members.keys = sym (members_found text es) ∙ sym (ap members_in found) in
     let number : number_of_group text (map grouped es) ≡ Some row.number = sym (number_found text es) ∙ sym (ap (option_map (λ (r : GroupRow). r.number)) found) in
-    rw (members, alone_none id row.members.items alone, number) refl
+    rw (members, alone_none id row.members.keys alone, number) refl
 
-pub number_left_some : {A : Type 0} (text : List ℕ) (id : ℕ) (row : GroupRow) (es : List (String A × GroupRow)) → Some row ≡ lookup (at text) es → false ≡ list_all (λ member. member == id) row.members.items → None ≡ number_left text id (map grouped es)
+pub number_left_some : {A : Type 0} (text : List ℕ) (id : ℕ) (row : GroupRow) (es : List (String A × GroupRow)) → Some row ≡ lookup (at text) es → false ≡ list_all (λ member. member == id) row.members.keys → None ≡ number_left text id (map grouped es)
 number_left_some text id row es found alone =
-    let members : members_of text (map grouped es) ≡ row.members.items = sym (members_found text es) ∙ sym (ap members_in found) in
-    rw (members, others_some id row.members.items alone) refl
+    let members : members_of text (map grouped es) ≡ row.members.keys = sym (members_found text es) ∙ sym (ap members_in found) in
+    rw (members, others_some id row.members.keys alone) refl
 
 -- a group that is found is there, and has members
 pub group_there : {A : Type 0} (text : List ℕ) (row : GroupRow) (es : List (String A × GroupRow)) → Some row ≡ lookup (at text) es → list_any (has_text text) (map grouped es) ≡ true
@@ -291,15 +315,15 @@ group_there text row es found = sym (any_found text es) ∙ sym (ap is_some foun
 pub group_absent : {A : Type 0} (text : List ℕ) (es : List (String A × GroupRow)) → None ≡ lookup (at text) es → list_any (has_text text) (map grouped es) ≡ false
 group_absent text es none = sym (any_found text es) ∙ sym (ap is_some none)
 
-found_some : {A : Type 0} (text : List ℕ) (row : GroupRow) (es : List (String A × GroupRow)) → AreGroups es → Some row ≡ lookup (at text) es → not (length row.members.items == 0) ≡ true
+found_some : {A : Type 0} (text : List ℕ) (row : GroupRow) (es : List (String A × GroupRow)) → AreGroups es → Some row ≡ lookup (at text) es → not (length row.members.keys == 0) ≡ true
 found_some text row [] all found = absurd (cc)
 found_some {A} text row (e ∷ es) all found = go (at text e.0) refl (found_some text row es all.1)
   where
-    go : (b : Bool) → at text e.0 ≡ b → (Some row ≡ lookup (at text) es → not (length row.members.items == 0) ≡ true) → not (length row.members.items == 0) ≡ true
+    go : (b : Bool) → at text e.0 ≡ b → (Some row ≡ lookup (at text) es → not (length row.members.keys == 0) ≡ true) → not (length row.members.keys == 0) ≡ true
     go true k more =
         let there : Some row ≡ Some e.1 = rw k at found in
         let same : row ≡ e.1 = cc in
-        subst (λ (r : GroupRow). not (length r.members.items == 0) ≡ true) (sym same) all.0
+        subst (λ (r : GroupRow). not (length r.members.keys == 0) ≡ true) (sym same) all.0
     go false k more = more (rw k at found)
 
 -- all groups have members once one was to join

@@ -1,12 +1,13 @@
 -- Groups of entities that share one declaration, each found by its text.
-use Rattle.std.specs.Prelude.{ℕ, Bool, true, false, not, ◌==◌, List, [], ◌∷◌, ◌++◌, length, Option, Some, None, map, filter, bytes_eq, if◌then◌else◌}
-use Rattle.std.specs.List.{find, list_any}
+use Rattle.std.specs.Prelude.{ℕ, Bool, not, ◌==◌, List, [], ◌∷◌, length, Option, Some, None, map, filter, bytes_eq, if◌then◌else◌}
+use Rattle.std.specs.List.{list_any}
+use Rattle.std.specs.BTreeSet.{insert_key}
 use Rattle.std.specs.Cmp.Lexicographic.{slice_cmp}
 use Rattle.std.specs.Ordering.{nat_cmp, is_lt}
 use Rattle.zs_grouped.specs.declared.group_kind.GroupKind.{GroupKind}
 use Rattle.zs_grouped.specs.declared.group_kind.GroupKind.TheVariants.{Subscribers, Publishers, Queriers}
 
--- a group: the text that its members share, its number, and its members in the order in which they joined
+-- a group: the text that its members share, its number, and its members, ascending
 pub record Group : Type 0 where
   pub text : List ℕ
   pub number : ℕ
@@ -49,10 +50,10 @@ abbrev pub with_group : Group → List Group → List Group
 with_group new [] = new ∷ []
 with_group new (g ∷ gs) = if is_lt (slice_cmp nat_cmp new.text g.text) then new ∷ g ∷ gs else g ∷ with_group new gs
 
--- a member joins the group of a text behind its members; one that finds no group makes one of its own number
+-- a member joins the group of a text, in ascending order, unless it is there; one that finds no group makes one of its own number
 abbrev pub joined : List ℕ → ℕ → List Group → List Group
 joined text id gs =
-    if list_any (has_text text) gs then map (λ g. if has_text text g then record g { members = g.members ++ id ∷ [] } else g) gs
+    if list_any (has_text text) gs then map (λ g. if has_text text g then record g { members = insert_key nat_cmp g.members id } else g) gs
     else with_group (record { text = text; number = id; members = id ∷ [] }) gs
 
 -- a member leaves the group of a text

@@ -7,7 +7,7 @@ ghost use Rattle.zs_grouped.specs.Grouped.{groups_in, HasJoined, HasLeft, IsSame
 
 use crate::group_row::GroupRow;
 use std::alloc::{AllocError, Global};
-use std::collections::BTreeMap;
+use std::collections::{BTreeMap, BTreeSet};
 
 /// Groups by the texts that their members share.
 pub(crate) type GroupRows = BTreeMap<String, GroupRow>;
@@ -58,10 +58,10 @@ pub(crate) fn join_in(
 /// A row of one member.
 fn new_row(alloc: Global, id: u32) -> Result<GroupRow, AllocError>
     ensures number { IfOk result (λ row. row.number ≡ id) }
-    ensures members { IfOk result (λ row. row.members.items ≡ id ∷ []) }
+    ensures members { IfOk result (λ row. row.members.keys ≡ id ∷ []) }
 {
-    let mut members = Vec::new(alloc);
-    members.push(id)?;
+    let mut members = BTreeSet::new(alloc);
+    members.insert(id)?;
     Ok(GroupRow {
         number: id,
         members,
@@ -95,13 +95,13 @@ fn push_member(row: &mut GroupRow, id: u32) -> Result<bool, AllocError>
     ensures ok { OnOk result (HasJoined id row.old row.new) }
     ensures err { OnErr result (IsSame row.old row.new) }
 {
-    row.members.push(id)?;
+    row.members.insert(id)?;
     Ok(false)
 }
 
 /// Whether a group has no other member.
 fn is_alone(row: &GroupRow, id: u32) -> bool
-    ensures { result ≡ list_all (λ member. member == id) row.now.members.items }
+    ensures { result ≡ list_all (λ member. member == id) row.now.members.keys }
 {
     row.members.iter().all(|member| *member == id)
 }
@@ -109,7 +109,8 @@ fn is_alone(row: &GroupRow, id: u32) -> bool
 fn leave_row(row: &mut GroupRow, id: u32)
     ensures { HasLeft id row.old row.new }
 {
-    row.members.retain(|member| *member != id);
+    let _in_order = row.members.len();
+    row.members.remove(&id);
 }
 
 /// The number of a row, if there is one.

@@ -1,4 +1,4 @@
-ghost use Rattle.std.specs.Prelude.{◌≡◌, ◌≢◌, [], All, not, length, IfOk, OnOk, OnErr};
+ghost use Rattle.std.specs.Prelude.{◌≡◌, [], not, length, IfOk, OnOk, OnErr};
 ghost use Rattle.std.specs.List.{list_any};
 ghost use Rattle.zs_grouped.specs.Groups.{groups_of, with_groups, has_text, number_of_group, members_of, joined, left, number_left};
 
@@ -42,13 +42,13 @@ impl Groups {
         }
     }
 
-    /// Puts an entity into the group of a text, and says whether the group had no members.
+    /// Puts an entity into the group of a text, and says whether the group had no members. Where the entity is a member
+    /// nothing changes.
     ///
     /// # Errors
     ///
     /// Want of memory alone.
     pub fn join(&mut self, kind: GroupKind, text: &str, id: u32) -> Result<bool, AllocError>
-        requires { All (λ member. member ≢ id) (members_of text.now (groups_of kind self.old)) }
         ensures first { IfOk result (λ first. first ≡ not (list_any (has_text text.now) (groups_of kind self.old))) }
         ensures ok { OnOk result (self.new ≡ with_groups kind (joined text.now id (groups_of kind self.old)) self.old) }
         ensures err { OnErr result (self.new ≡ self.old) }

@@ -1,12 +1,13 @@
 -- The subscription of each group stands, as entities join and leave: by the table of groups and the messages alone.
-use Rattle.std.proofs.Common.{◌≡◌, ℕ, ◌+◌, ◌<◌, Bool, true, false, List, [], ◌∷◌, ◌++◌, length, Option, Some, None, refl, sym, ◌∙◌, ap, arith, cond}
+use Rattle.std.proofs.Common.{◌≡◌, ℕ, ◌+◌, ◌<◌, Bool, true, false, List, [], ◌∷◌, length, Option, Some, None, refl, sym, ◌∙◌, ap, arith, cond}
 use Rattle.std.specs.Prelude.{◌==◌, ◌||◌, not, filter, bytes_eq, if◌then◌else◌}
 use Rattle.std.specs.List.{list_any}
 use Rattle.std.specs.Option.{option_or}
+use Rattle.std.specs.BTreeSet.{insert_key}
+use Rattle.std.specs.Ordering.{nat_cmp}
 use Rattle.std.proofs.lemmas.Bool.{eqb-true}
 use Rattle.std.proofs.lemmas.Bool.Decides.{nat_tests}
 use Rattle.std.proofs.lemmas.Slice.Eq.{bytes_eq-Decides}
-use mathlib.Core.List.{append-nil}
 use Rattle.zs_wire.specs.declared.message.Message.{Message}
 use Rattle.zs_wire.specs.declared.message.Message.TheVariants.{DeclareSubscriber}
 use Rattle.zs_wire.specs.declared.wire_expr.WireExpr.{WireExpr}
@@ -14,7 +15,7 @@ use Rattle.zs_tables.specs.Groups.{Group, has_text, number_of_group, members_of,
 use Rattle.zs_model.specs.Groups.{is_empty, sends_if, last_sends, subscriber_end}
 use Rattle.zs_model.specs.Received.{messages_of, sent_behind, read_as}
 use Rattle.zs_model.specs.Covered.{subscription_text}
-use Rattle.zs_model.proofs.Groups.{AreApart, numbered, number_joined, number_kept, members_joined, number_left_is, members_left}
+use Rattle.zs_model.proofs.Groups.{AreApart, numbered, number_joined, number_kept, members_joined, more_nonempty, number_left_is, members_left}
 
 -- each group's subscription, of its number and its text, was sent and not ended, and its number is below the next one
 pub record AreSubscribed (gs : List Group) (next : ℕ) (messages : List Message) : Type 0 where
@@ -32,22 +33,16 @@ number_there text (g ∷ gs) some = go (has_text text g) some (number_there text
     go true some ih = (g.number, refl)
     go false some ih = ih some
 
-more_some : (members : List ℕ) (id : ℕ) → is_empty (members ++ id ∷ []) ≡ false
-more_some [] id = refl
-more_some (m ∷ members) id = refl
-
 -- the number of a group behind one that joins the group of its own text
 number_behind : (own : List ℕ) (id : ℕ) (text : List ℕ) (gs : List Group) → AreApart gs
     → number_of_group text (joined own id gs) ≡ (if bytes_eq own text then option_or (number_of_group text gs) (Some id) else number_of_group text gs)
 number_behind own id text gs apart =
     number_joined own id text gs apart ∙ ap (numbered (number_of_group text gs) (Some id)) (members_joined own id text gs apart) ∙ go (bytes_eq own text)
   where
-    go : (b : Bool) → numbered (number_of_group text gs) (Some id) (members_of text gs ++ (if b then id ∷ [] else []))
+    go : (b : Bool) → numbered (number_of_group text gs) (Some id) (if b then insert_key nat_cmp (members_of text gs) id else members_of text gs)
         ≡ (if b then option_or (number_of_group text gs) (Some id) else number_of_group text gs)
-    go true = rw (more_some (members_of text gs) id) refl
-    go false =
-        ap (numbered (number_of_group text gs) (Some id)) (append-nil (members_of text gs))
-        ∙ sym (number_kept text gs (Some id) apart)
+    go true = rw (more_nonempty (members_of text gs) id) refl
+    go false = sym (number_kept text gs (Some id) apart)
 
 -- a group that has a number behind one that leaves had it before, and has members
 number_before : (own : List ℕ) (id : ℕ) (text : List ℕ) (gs : List Group) (n : ℕ) → AreApart gs → number_of_group text (left own id gs) ≡ Some n

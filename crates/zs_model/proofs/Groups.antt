@@ -1,10 +1,13 @@
 -- The groups of entities of one kind: who is in the group of a text, and its number, behind one that joins and one that leaves.
-use Rattle.std.proofs.Common.{◌≡◌, ℕ, Bool, true, false, List, [], ◌∷◌, ◌++◌, length, Option, Some, None, refl, sym, ◌∙◌, ap, arith, cond}
+use Rattle.std.proofs.Common.{◌≡◌, ℕ, Bool, true, false, List, [], ◌∷◌, length, Option, Some, None, refl, sym, ◌∙◌, ap, arith, cond}
 use Rattle.std.specs.Prelude.{◌==◌, ◌||◌, not, map, filter, bytes_eq, if◌then◌else◌}
 use Rattle.std.specs.List.{list_any}
 use Rattle.std.specs.Option.{option_or}
+use Rattle.std.specs.BTreeSet.{insert_key}
 use Rattle.std.specs.Cmp.Lexicographic.{slice_cmp}
-use Rattle.std.specs.Ordering.{nat_cmp, is_lt}
+use Rattle.std.specs.Ordering.{nat_cmp, is_lt, match_ordering}
+use Rattle.std.specs.declared.cmp.Ordering.{Ordering}
+use Rattle.std.specs.declared.cmp.Ordering.TheVariants.{Less, Equal, Greater}
 use Rattle.std.proofs.lemmas.Bool.Decides.{nat_tests}
 use Rattle.std.proofs.lemmas.Slice.Eq.{bytes_eq-Decides}
 use Rattle.zs_model.specs.Groups.{is_empty}
@@ -96,12 +99,12 @@ same_text a b e = (bytes_eq-Decides a b).0 e
 
 -- a group with one member more
 abbrev with_id : List ℕ → ℕ → Group → Group
-with_id text id g = if has_text text g then record g { members = g.members ++ id ∷ [] } else g
+with_id text id g = if has_text text g then record g { members = insert_key nat_cmp g.members id } else g
 
 with_id-keeps : (text : List ℕ) (id : ℕ) → Keeps (with_id text id)
 with_id-keeps text id g = go (has_text text g)
   where
-    go : (b : Bool) → (if b then record g { members = g.members ++ id ∷ [] } else g).text ≡ g.text
+    go : (b : Bool) → (if b then record g { members = insert_key nat_cmp g.members id } else g).text ≡ g.text
     go true = refl
     go false = refl
 
@@ -162,7 +165,7 @@ made_by own id = record { text = own; number = id; members = id ∷ [] }
 -- the only group of a text behind one that joins
 abbrev joined_only : Bool → List ℕ → ℕ → List Group → List Group
 joined_only b own id [] = if b then made_by own id ∷ [] else []
-joined_only b own id (g ∷ gs) = (if b then record g { members = g.members ++ id ∷ [] } else g) ∷ gs
+joined_only b own id (g ∷ gs) = (if b then record g { members = insert_key nat_cmp g.members id } else g) ∷ gs
 
 joined_other : (own : List ℕ) (id : ℕ) (gs : List Group) → joined_only false own id gs ≡ gs
 joined_other own id [] = refl
@@ -179,7 +182,7 @@ filter_joined own id text gs one = go (list_any (has_text own) gs) refl
         pick true e = absurd (kept_some (has_text own) gs some (rw (same_text own text e) is))
         pick false e = refl
     mapped (g ∷ []) is one some =
-        ap (λ (b : Bool). (if b then record g { members = g.members ++ id ∷ [] } else g) ∷ []) (other_text own text g (head_passes (has_text text) gs g [] is))
+        ap (λ (b : Bool). (if b then record g { members = insert_key nat_cmp g.members id } else g) ∷ []) (other_text own text g (head_passes (has_text text) gs g [] is))
     mapped (g ∷ h ∷ f) is one some = absurd one
 
     put : (b : Bool) → bytes_eq own text ≡ b → list_any (has_text own) gs ≡ false
@@ -194,13 +197,23 @@ filter_joined own id text gs one = go (list_any (has_text own) gs) refl
     go true some = map_kept (with_id own id) (with_id-keeps own id) text gs ∙ mapped (filter (has_text text) gs) refl one some
     go false none = put (bytes_eq own text) refl none
 
-more_some : (members : List ℕ) (id : ℕ) → not (length (members ++ id ∷ []) == 0) ≡ true
+more_some : (members : List ℕ) (id : ℕ) → not (length (insert_key nat_cmp members id) == 0) ≡ true
 more_some [] id = refl
-more_some (m ∷ members) id = grind (arith, nat_tests)
+more_some (m ∷ members) id = go (nat_cmp id m)
+  where
+    go : (o : Ordering) → not (length (match_ordering o (id ∷ m ∷ members) (m ∷ members) (m ∷ insert_key nat_cmp members id)) == 0) ≡ true
+    go Less = grind (arith, nat_tests)
+    go Equal = grind (arith, nat_tests)
+    go Greater = grind (arith, nat_tests)
 
-more_nonempty : (members : List ℕ) (id : ℕ) → is_empty (members ++ id ∷ []) ≡ false
+pub more_nonempty : (members : List ℕ) (id : ℕ) → is_empty (insert_key nat_cmp members id) ≡ false
 more_nonempty [] id = refl
-more_nonempty (m ∷ members) id = refl
+more_nonempty (m ∷ members) id = go (nat_cmp id m)
+  where
+    go : (o : Ordering) → is_empty (match_ordering o (id ∷ m ∷ members) (m ∷ members) (m ∷ insert_key nat_cmp members id)) ≡ false
+    go Less = refl
+    go Equal = refl
+    go Greater = refl
 
 some_nonempty : (members : List ℕ) → not (length members == 0) ≡ true → is_empty members ≡ false
 some_nonempty [] some = cc
@@ -222,23 +235,19 @@ pub apart_joined : (own : List ℕ) (id : ℕ) (gs : List Group) → AreApart gs
 apart_joined own id gs apart text =
     rw (filter_joined own id text gs (apart text)) (one_joined (bytes_eq own text) own id (filter (has_text text) gs) (apart text))
 
-members_more : (b : Bool) (own : List ℕ) (id : ℕ) (f : List Group) → first_members (joined_only b own id f) ≡ first_members f ++ (if b then id ∷ [] else [])
+members_more : (b : Bool) (own : List ℕ) (id : ℕ) (f : List Group) → first_members (joined_only b own id f) ≡ (if b then insert_key nat_cmp (first_members f) id else first_members f)
 members_more true own id [] = refl
 members_more false own id [] = refl
 members_more true own id (g ∷ f) = refl
-members_more false own id (g ∷ f) = sym (append_nil g.members)
-  where
-    append_nil : (xs : List ℕ) → xs ++ [] ≡ xs
-    append_nil [] = refl
-    append_nil (x ∷ xs) = ap (λ (rest : List ℕ). x ∷ rest) (append_nil xs)
+members_more false own id (g ∷ f) = refl
 
 -- who is in the group of a text behind one that joins the group of its own
 pub members_joined : (own : List ℕ) (id : ℕ) (text : List ℕ) (gs : List Group) → AreApart gs
-    → members_of text (joined own id gs) ≡ members_of text gs ++ (if bytes_eq own text then id ∷ [] else [])
+    → members_of text (joined own id gs) ≡ (if bytes_eq own text then insert_key nat_cmp (members_of text gs) id else members_of text gs)
 members_joined own id text gs apart =
     members_first text (joined own id gs) ∙ ap first_members (filter_joined own id text gs (apart text))
     ∙ members_more (bytes_eq own text) own id (filter (has_text text) gs)
-    ∙ ap (λ (members : List ℕ). members ++ (if bytes_eq own text then id ∷ [] else [])) (sym (members_first text gs))
+    ∙ ap (λ (members : List ℕ). if bytes_eq own text then insert_key nat_cmp members id else members) (sym (members_first text gs))
 
 -- the number of a group with these members, where an event that was answered a number may have made it
 abbrev pub numbered : Option ℕ → Option ℕ → List ℕ → Option ℕ

@@ -2,9 +2,14 @@
 use Rattle.std.proofs.Common.{◌≡◌, ℕ, ◌<◌, Bool, true, false, List, [], ◌∷◌, ◌++◌, Option, Some, refl, sym, ◌∙◌, ap, arith, cond}
 use Rattle.std.specs.Prelude.{◌==◌, ◌&&◌, not, map, filter, bytes_eq, if◌then◌else◌}
 use Rattle.std.specs.List.{AllByRecursion, find}
+use Rattle.std.specs.BTreeSet.{insert_key}
+use Rattle.std.specs.Ordering.{nat_cmp}
+use Rattle.std.specs.declared.cmp.Ordering.TheVariants.{Greater}
 use Rattle.std.proofs.lemmas.Bool.{eqb-true}
+use Rattle.std.proofs.lemmas.Bool.Decides.{nat_tests}
 use Rattle.zs_keys.specs.Key.{Key}
 use Rattle.zs_subscriptions.specs.Ascending.{Ascend}
+use Rattle.zs_subscriptions.proofs.Ascending.{all_filter, all_map}
 use Rattle.zs_tables.specs.Groups.{Group, number_of_group, members_of, joined, left}
 use Rattle.zs_model.specs.Groups.{Shared, share_text, shares, sharing, joined_by, left_by}
 use Rattle.zs_model.proofs.Groups.{AreApart, numbered, apart_joined, members_joined, number_joined, number_kept, apart_left, members_left, number_left_is}
@@ -37,10 +42,23 @@ append_nil : (xs : List ℕ) → xs ++ [] ≡ xs
 append_nil [] = refl
 append_nil (x ∷ xs) = ap (λ (rest : List ℕ). x ∷ rest) (append_nil xs)
 
--- one more entity
-pub grouped_more : (aggregates : List Key) (gs : List Group) (xs : List Shared) (x : Shared) → AreGrouped aggregates gs xs
+-- those who share a text are below what all are below
+sharing_below : (aggregates : List Key) (text : List ℕ) (n : ℕ) (xs : List Shared) → AllByRecursion (λ y. y.id < n) xs → AllByRecursion (λ id. id < n) (sharing aggregates text xs)
+sharing_below aggregates text n xs below =
+    all_map (λ (y : Shared). y.id < n) (λ id. id < n) (λ (y : Shared). y.id) (λ y less. less) (filter (shares aggregates text) xs)
+    (all_filter (λ (y : Shared). y.id < n) (shares aggregates text) xs below)
+
+-- a number above all members goes behind them
+placed_last : (id : ℕ) (members : List ℕ) → AllByRecursion (λ member. member < id) members → insert_key nat_cmp members id ≡ members ++ id ∷ []
+placed_last id [] below = refl
+placed_last id (m ∷ members) below =
+    let above : nat_cmp id m ≡ Greater = grind (arith, nat_tests, below.0) in
+    rw above (ap (λ (rest : List ℕ). m ∷ rest) (placed_last id members below.1))
+
+-- one more entity, whose number is above all others
+pub grouped_more : (aggregates : List Key) (gs : List Group) (xs : List Shared) (x : Shared) → AllByRecursion (λ y. y.id < x.id) xs → AreGrouped aggregates gs xs
     → AreGrouped aggregates (joined_by aggregates x gs) (xs ++ x ∷ [])
-grouped_more aggregates gs xs x are = go x.is_announced refl
+grouped_more aggregates gs xs x below are = go x.is_announced refl
   where
     own : List ℕ
     own = share_text aggregates x.text
@@ -48,11 +66,17 @@ grouped_more aggregates gs xs x are = go x.is_announced refl
     pushed : (text : List ℕ) (b : Bool) → x.is_announced ≡ b → sharing aggregates text (xs ++ x ∷ []) ≡ sharing aggregates text xs ++ (if b && bytes_eq own text then x.id ∷ [] else [])
     pushed text b is = sharing_push aggregates text xs x ∙ ap (λ (t : Bool). sharing aggregates text xs ++ (if t && bytes_eq own text then x.id ∷ [] else [])) is
 
+    placed : (text : List ℕ) (b : Bool) → (if b then insert_key nat_cmp (sharing aggregates text xs) x.id else sharing aggregates text xs) ≡ sharing aggregates text xs ++ (if b then x.id ∷ [] else [])
+    placed text true = placed_last x.id (sharing aggregates text xs) (sharing_below aggregates text x.id xs below)
+    placed text false = sym (append_nil (sharing aggregates text xs))
+
     go : (b : Bool) → x.is_announced ≡ b → AreGrouped aggregates (if b then joined own x.id gs else gs) (xs ++ x ∷ [])
     go true is = record {
       apart = apart_joined own x.id gs are.apart;
       members = λ text. members_joined own x.id text gs are.apart
-          ∙ ap (λ (members : List ℕ). members ++ (if bytes_eq own text then x.id ∷ [] else [])) (are.members text) ∙ sym (pushed text true is);
+          ∙ ap (λ (members : List ℕ). if bytes_eq own text then insert_key nat_cmp members x.id else members) (are.members text)
+          ∙ placed text (bytes_eq own text)
+          ∙ sym (pushed text true is);
     }
     go false is = record {
       apart = are.apart;

@@ -1,10 +1,11 @@
 -- The groups are those of the live entities, each with the number of the first that joined it since it was last empty.
-use Rattle.std.proofs.Common.{◌≡◌, ℕ, List, [], ◌∷◌, ◌++◌, Bool, true, false, Option, Some, None, refl, sym, ◌∙◌, ap, cond}
+use Rattle.std.proofs.Common.{◌≡◌, ℕ, ◌<◌, List, [], ◌∷◌, ◌++◌, Bool, true, false, Option, Some, None, refl, sym, ◌∙◌, ap, cond}
 use Rattle.std.specs.Prelude.{◌==◌, not, map, filter, option_map, if◌then◌else◌}
-use Rattle.std.specs.List.{find}
+use Rattle.std.specs.List.{AllByRecursion, find}
 use Rattle.std.proofs.lemmas.Bool.{eqb-true}
 use Rattle.zs_keys.specs.Key.{Key}
 use Rattle.zs_subscriptions.specs.Ascending.{Ascend}
+use Rattle.zs_subscriptions.proofs.Ascending.{all_map}
 use Rattle.zs_tables.specs.Groups.{Group, groups_of, number_of_group, members_of}
 use Rattle.zs_tables.specs.Types.{GroupKind, Subscribers, Publishers, Queriers}
 use Rattle.zs_subscriptions.specs.declared.subscriber.SubRow.{SubRow}
@@ -19,12 +20,13 @@ use Rattle.zs_events.specs.declared.entity_kind.EntityKind.TheVariants.{Sub as s
 use Rattle.zs_world.specs.World.{World}
 use Rattle.zs_model.specs.Entry.{Entry}
 use Rattle.zs_model.specs.Groups.{Shared, sub_shared, pub_shared, querier_shared, left_found, sharing, group, group_number}
-use Rattle.zs_world.specs.Changes.{with_change}
+use Rattle.zs_world.specs.Changes.{Fits, with_change}
 use Rattle.zs_model.proofs.Groups.{numbered, number_kept}
 use Rattle.zs_model.proofs.Sharing.{AreGrouped, grouped_none, grouped_more, grouped_less, number_more, number_less, only_found}
 use Rattle.zs_model.proofs.Entities.{table_ascends}
 use Rattle.zs_standing.proofs.Saying.{IsMade, IsNumber}
 use Rattle.zs_standing.proofs.Live.{AreLive}
+use Rattle.zs_standing.proofs.Watching.{rows_below}
 
 -- the groups are those of these tables
 pub record AreShared (w : World) : Type 0 where
@@ -83,48 +85,58 @@ less_found {R} shared aggregates gs rows id up are = go (find (λ r. (shared r).
         rw (left_out shared rows id, ← its)
         (grouped_less aggregates gs (map shared rows) (shared row) (only_found shared rows row id up f) are)
 
--- an accepted event keeps them so
-shared_step : (w : World) (past : List Entry) (c : Change) → AreLive w past → AreShared w → AreShared (with_change c w)
-shared_step w past (OfEntities (AddEntity (new_sub row))) l are = record {
-  subs = rw (pushed sub_shared w.entities.subs row) (grouped_more w.settings.aggregated_subscribers w.groups.subscribers (map sub_shared w.entities.subs) (sub_shared row) are.subs);
+-- what is below a number is so as groups see it
+shared_below : {R : Type 0} (shared : R → Shared) (n : ℕ) (rows : List R) → AllByRecursion (λ row. (shared row).id < n) rows → AllByRecursion (λ x. x.id < n) (map shared rows)
+shared_below shared n rows below = all_map (λ row. (shared row).id < n) (λ (x : Shared). x.id < n) shared (λ row less. less) rows below
+
+-- an accepted event keeps them so: what is new has a number above all others
+shared_step : (w : World) (past : List Entry) (c : Change) → Fits w c → AreLive w past → AreShared w → AreShared (with_change c w)
+shared_step w past (OfEntities (AddEntity (new_sub row))) fits l are = record {
+  subs = rw (pushed sub_shared w.entities.subs row)
+      (grouped_more w.settings.aggregated_subscribers w.groups.subscribers (map sub_shared w.entities.subs) (sub_shared row)
+      (shared_below sub_shared row.id w.entities.subs (rows_below _ _ _ _ _ _ row.id fits.0 l.subs)) are.subs);
   pubs = are.pubs;
   queriers = are.queriers;
 }
-shared_step w past (OfEntities (EndEntity sub_sort id)) l are = record {
+shared_step w past (OfEntities (EndEntity sub_sort id)) fits l are = record {
   subs = less_found sub_shared w.settings.aggregated_subscribers w.groups.subscribers w.entities.subs id (table_ascends _ _ _ _ _ _ l.subs) are.subs;
   pubs = are.pubs;
   queriers = are.queriers;
 }
-shared_step w past (OfEntities (AddEntity (new_pub row))) l are = record {
+shared_step w past (OfEntities (AddEntity (new_pub row))) fits l are = record {
   subs = are.subs;
-  pubs = rw (pushed pub_shared w.entities.pubs row) (grouped_more w.settings.aggregated_publishers w.groups.publishers (map pub_shared w.entities.pubs) (pub_shared row) are.pubs);
+  pubs = rw (pushed pub_shared w.entities.pubs row)
+      (grouped_more w.settings.aggregated_publishers w.groups.publishers (map pub_shared w.entities.pubs) (pub_shared row)
+      (shared_below pub_shared row.id w.entities.pubs (rows_below _ _ _ _ _ _ row.id fits.0 l.pubs)) are.pubs);
   queriers = are.queriers;
 }
-shared_step w past (OfEntities (EndEntity pub_sort id)) l are = record {
+shared_step w past (OfEntities (EndEntity pub_sort id)) fits l are = record {
   subs = are.subs;
   pubs = less_found pub_shared w.settings.aggregated_publishers w.groups.publishers w.entities.pubs id (table_ascends _ _ _ _ _ _ l.pubs) are.pubs;
   queriers = are.queriers;
 }
-shared_step w past (OfEntities (AddEntity (new_querier row))) l are = record {
+shared_step w past (OfEntities (AddEntity (new_querier row))) fits l are = record {
   subs = are.subs;
   pubs = are.pubs;
-  queriers = rw (pushed querier_shared w.entities.queriers row) (grouped_more [] w.groups.queriers (map querier_shared w.entities.queriers) (querier_shared row) are.queriers);
+  queriers = rw (pushed querier_shared w.entities.queriers row)
+      (grouped_more [] w.groups.queriers (map querier_shared w.entities.queriers) (querier_shared row)
+      (shared_below querier_shared row.id w.entities.queriers (rows_below _ _ _ _ _ _ row.id fits.0 l.queriers)) are.queriers);
 }
-shared_step w past (OfEntities (EndEntity querier_sort id)) l are = record {
+shared_step w past (OfEntities (EndEntity querier_sort id)) fits l are = record {
   subs = are.subs;
   pubs = are.pubs;
   queriers = less_found querier_shared [] w.groups.queriers w.entities.queriers id (table_ascends _ _ _ _ _ _ l.queriers) are.queriers;
 }
-shared_step w past Shut l are = record {
+shared_step w past Shut fits l are = record {
   subs = grouped_none w.settings.aggregated_subscribers;
   pubs = grouped_none w.settings.aggregated_publishers;
   queriers = grouped_none [];
 }
-shared_step w past Nothing l are = record { subs = are.subs; pubs = are.pubs; queriers = are.queriers }
-shared_step w past c l are = record { subs = are.subs; pubs = are.pubs; queriers = are.queriers }
+shared_step w past Nothing fits l are = record { subs = are.subs; pubs = are.pubs; queriers = are.queriers }
+shared_step w past c fits l are = record { subs = are.subs; pubs = are.pubs; queriers = are.queriers }
 
-pub shared_more : (w : World) (past : List Entry) (c : Change) → AreLive w past → AreShared w → AreShared (with_change c w)
-shared_more w past c l are = shared_step w past c l are
+pub shared_more : (w : World) (past : List Entry) (c : Change) → Fits w c → AreLive w past → AreShared w → AreShared (with_change c w)
+shared_more w past c fits l are = shared_step w past c fits l are
 
 -- the members of a group are the live entities that share its text
 pub members_are : (s : Settings) (w : World) (past : List Entry) (kind : GroupKind) (text : List ℕ) → w.settings ≡ s → AreLive w past → AreShared w

@@ -123,9 +123,9 @@ pub standing_more : (s : Settings) (w : World) (past : List Entry) (x : Entry) (
 standing_more s w past x c m k st = record {
   settings = settings_step w c ∙ st.settings;
   live = live_more w past x c m st.live;
-  shared = shared_more w past c st.live st.shared;
+  shared = shared_more w past c m.fits st.live st.shared;
   numbers = λ kind text. number_next s w past x c kind text m st.shared (st.numbers kind text)
-      (members_are s (with_change c w) (x ∷ past) kind text (settings_step w c ∙ st.settings) (live_more w past x c m st.live) (shared_more w past c st.live st.shared));
+      (members_are s (with_change c w) (x ∷ past) kind text (settings_step w c ∙ st.settings) (live_more w past x c m st.live) (shared_more w past c m.fits st.live st.shared));
   known = known_more w past x c m st.known;
   entity =
       entity_step w c ∙ ap (λ (n : ℕ). if adds c then n + 1 else n) st.entity

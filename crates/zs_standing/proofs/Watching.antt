@@ -46,7 +46,7 @@ none_there number n [] below = refl
 none_there number n (row ∷ rows) below = grind (arith, nat_tests, below.0, none_there number n rows below.1)
 
 -- the numbers of a table of entities are below the next one
-rows_below : {R : Type 0} (number : R → ℕ) (kind : Kind) (row_of : Event → Option ℕ → Option (List ℕ) → List R) (rows : List R) (next : ℕ) (past : List Entry) (n : ℕ)
+pub rows_below : {R : Type 0} (number : R → ℕ) (kind : Kind) (row_of : Event → Option ℕ → Option (List ℕ) → List R) (rows : List R) (next : ℕ) (past : List Entry) (n : ℕ)
     → n ≡ next → AreRows number kind row_of rows next past → AllByRecursion (λ row. number row < n) rows
 rows_below {R} number kind row_of rows next past n is l = rw is all
   where

@@ -122,7 +122,7 @@ impl Model for SessionTables {
 
     ghost use Rattle.zs_entity_tables.specs.Bounds.{AreBelow};
 
-    ghost invariant = { λ s. AreBelow s.next_entity s.tables.rows s.publishers s.queryables s.queriers s.groups s.matching.remote_entities s.matching.listeners };
+    ghost invariant = { λ s. AreBelow s.next_entity s.tables.rows s.publishers s.queryables s.queriers s.matching.remote_entities s.matching.listeners };
 }
 
 impl SessionTables {

@@ -1,10 +1,9 @@
 //! Changes of the subscribers, and the close.
 
-ghost use Rattle.std.specs.Prelude.{◌≡◌, ◌≢◌, ◌<◌, ◌++◌, ◌∷◌, [], Some, None, All, OnOk, OnErr};
+ghost use Rattle.std.specs.Prelude.{◌≡◌, ◌<◌, ◌++◌, ◌∷◌, [], Some, None, All, OnOk, OnErr};
 ghost use Rattle.zs_world.specs.Changes.{with_change};
 ghost use Rattle.zs_world.specs.EntityChanges.{EntitiesFit};
-ghost use Rattle.zs_tables.specs.Groups.{members_of};
-ghost use Rattle.zs_model.specs.Groups.{sub_shared, share_text, joined_by};
+ghost use Rattle.zs_model.specs.Groups.{sub_shared, joined_by};
 
 use super::SessionTables;
 use crate::change::{Change, EntityChange, EntityRow};
@@ -76,8 +75,7 @@ fn add_to_group(
     aggregates: &KeyList,
     row: SubRow,
 ) -> Result<(), AllocError>
-    requires below { All (λ other. other.id < row.id) tables.old.rows }
-    requires new { All (λ member. member ≢ row.id) (members_of (share_text aggregates.now row.key.text) groups.old.subscribers) }
+    requires { All (λ other. other.id < row.id) tables.old.rows }
     ensures tables { OnOk result (tables.new ≡ record tables.old { rows = tables.old.rows ++ row ∷ [] }) }
     ensures groups { OnOk result (groups.new ≡ record groups.old { subscribers = joined_by aggregates.now (sub_shared row) groups.old.subscribers }) }
     ensures same_tables { OnErr result (tables.new ≡ tables.old) }

@@ -1,7 +1,7 @@
 use Rattle.std.proofs.Common.{◌≡◌, Some, ap, sym, ◌∙◌}
 use Rattle.std.specs.Prelude.{map, option_map}
 use Rattle.zs_grouped.specs.declared.group_row.GroupRow.{GroupRow}
-use Rattle.zs_grouped.specs.Grouped.{grouped, AreGroups}
+use Rattle.zs_grouped.specs.Grouped.{grouped}
 use Rattle.zs_grouped.proofs.GroupLemmas.{have_not, left_none, left_some, left_last, left_has, with_others, written_some, removed_some, number_left_none, number_left_last, number_left_some}
 use Rattle.zs_grouped.proofs.grouping.leave_in.Goals as goal
 

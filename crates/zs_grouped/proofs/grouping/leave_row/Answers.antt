@@ -1,7 +1,6 @@
-use Rattle.std.proofs.Common.{refl, rules}
-use Rattle.std.specs.Prelude.{◌==◌, not}
-use Rattle.std.proofs.lemmas.Fn.{filter_same}
+use Rattle.std.proofs.Common.{refl, ◌∙◌}
+use Rattle.zs_grouped.proofs.GroupLemmas.{taken_out}
 use Rattle.zs_grouped.proofs.grouping.leave_row.Goals as goal
 
 pub returns : goal.returns
-returns c = (refl, filter_same _ (λ other. not (other == c.args.id)) _ (λ x b f' k. search rules) _ _ c.retain.ensures.filtered)
+returns c = (refl, c.remove.ensures.keys ∙ taken_out c.args.id c.args.row.now.members.keys c.len-in_order.ensures.ordered)

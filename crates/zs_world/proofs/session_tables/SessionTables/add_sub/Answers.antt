@@ -1,42 +1,26 @@
-use Rattle.std.proofs.Common.{◌≡◌, ◌<◌, ◌≤◌, ◌+◌, sym, ◌∙◌, ap, arith}
-use Rattle.zs_tables.specs.Groups.{AllGroups}
+use Rattle.std.proofs.Common.{◌≡◌, sym, ◌∙◌, ap}
 use Rattle.zs_subscriptions.specs.Contents.{Contents}
 use Rattle.zs_subscriptions.specs.declared.subscriber.SubRow.{SubRow}
 use Rattle.zs_tables.specs.declared.queryable.QueryableRow.{QueryableRow}
 use Rattle.zs_model.specs.declared.publisher.PubRow.{PubRow}
 use Rattle.zs_model.specs.declared.querier.QuerierRow.{QuerierRow}
 use Rattle.zs_world.specs.World.{World}
-use Rattle.zs_model.specs.Groups.{sub_shared, share_text}
-use Rattle.zs_entity_tables.proofs.Bounds.{no_member, groups_weaker, more_below, rows_push, rows_weaker}
+use Rattle.zs_entity_tables.proofs.Bounds.{rows_push, rows_weaker}
 use Rattle.zs_tables.specs.declared.listener.Listener.{Listener}
 use Rattle.zs_tables.proofs.Moving.{sub_comes}
 use Rattle.zs_entity_tables.proofs.Counted.{below_set, counted_moved}
 use Rattle.zs_world.proofs.session_tables.SessionTables.add_sub.Goals as goal
 
-pub add_to_group-requires-clause-new : goal.add_to_group-requires-clause-new
-add_to_group-requires-clause-new c =
-    let id : c.args.row.id ≡ c.self.inside.next_entity = c.requires.0 ∙ sym (ap (λ (w : World). w.counters.entity) c.self.view_is) in
-    no_member c.self.inside.next_entity c.args.row.id (share_text c.self.inside.settings.aggregated_subscribers c.args.row.key.text) c.self.inside.groups.subscribers
-    c.self.invariant.sub_groups (omega (arith, id))
-
 pub invariant_of-self-2 : goal.invariant_of-self-2
 invariant_of-self-2 c =
     let id : c.args.row.id ≡ c.self.inside.next_entity = c.requires.0 ∙ sym (ap (λ (w : World). w.counters.entity) c.self.view_is) in
-    let up : c.self.inside.next_entity ≤ c.self.inside.next_entity + 1 = omega arith in
     let all = rw (c.own_sub.ensures, c.listeners.ensures) at c.in_ok-recounts.ensures.all in
     let seen = rw c.listeners.ensures at c.recounts_of.ensures.ascending in
-    let less : c.args.row.id < c.self.inside.next_entity + 1 = omega (arith, id) in
     record {
       subs = rw (ap (λ (t : Contents). t.rows) c.in_ok-add_to_group.ensures.tables) (rows_push (λ (row : SubRow). row.id) c.self.inside.next_entity c.self.inside.tables.rows c.args.row id c.self.invariant.subs);
       pubs = rows_weaker (λ (row : PubRow). row.id) c.self.inside.next_entity c.self.inside.publishers c.self.invariant.pubs;
       queryables = rows_weaker (λ (row : QueryableRow). row.id) c.self.inside.next_entity c.self.inside.queryables c.self.invariant.queryables;
-      sub_groups = rw (ap (λ (gs : AllGroups). gs.subscribers) c.in_ok-add_to_group.ensures.groups)
-          (more_below c.self.inside.next_entity (c.self.inside.next_entity + 1) c.self.inside.settings.aggregated_subscribers (sub_shared c.args.row) c.self.inside.groups.subscribers up less c.self.invariant.sub_groups);
-      pub_groups = rw (ap (λ (gs : AllGroups). gs.publishers) c.in_ok-add_to_group.ensures.groups)
-          (groups_weaker c.self.inside.next_entity (c.self.inside.next_entity + 1) c.self.inside.groups.publishers up c.self.invariant.pub_groups);
       queriers = rows_weaker (λ (row : QuerierRow). row.id) c.self.inside.next_entity c.self.inside.queriers c.self.invariant.queriers;
-      querier_groups = rw (ap (λ (gs : AllGroups). gs.queriers) c.in_ok-add_to_group.ensures.groups)
-          (groups_weaker c.self.inside.next_entity (c.self.inside.next_entity + 1) c.self.inside.groups.queriers up c.self.invariant.querier_groups);
       listening = rows_weaker (λ (l : Listener). l.row.id) c.self.inside.next_entity _ (below_set c.self.inside.next_entity c.deref.result.now c.self.inside.matching _ c.recount.ensures.kept c.self.invariant.listening);
       counted = rw (ap (λ (t : Contents). t.rows) c.in_ok-add_to_group.ensures.tables)
           (counted_moved c.self.inside.tables.rows _ c.self.inside.queryables c.self.inside.queryables _ _ _ c.self.inside.matching _ c.recount.ensures.kept (c.deref.ensures.value ∙ all) seen (sub_comes c.self.inside.tables.rows c.self.inside.queryables c.self.inside.matching.remote_entities c.args.row) c.self.invariant.counted);

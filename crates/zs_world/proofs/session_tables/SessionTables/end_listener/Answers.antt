@@ -9,9 +9,6 @@ invariant_of-self c =
       pubs = c.self.invariant.pubs;
       queryables = c.self.invariant.queryables;
       queriers = c.self.invariant.queriers;
-      sub_groups = c.self.invariant.sub_groups;
-      pub_groups = c.self.invariant.pub_groups;
-      querier_groups = c.self.invariant.querier_groups;
       listening = below_fewer s.next_entity _ s.matching _ c.end.ensures.kept c.self.invariant.listening;
       counted = counted_fewer s.tables.rows s.queryables _ s.matching _ c.end.ensures.kept c.self.invariant.counted;
     }

@@ -1,5 +1,5 @@
 use Rattle.zs_model.specs.declared.publisher.PubRow.{PubRow}
-use Rattle.zs_entity_tables.proofs.Bounds.{less_below, rows_less}
+use Rattle.zs_entity_tables.proofs.Bounds.{rows_less}
 use Rattle.zs_entity_tables.proofs.Counted.{below_fewer, counted_fewer}
 use Rattle.zs_world.proofs.session_tables.SessionTables.end_pub.Goals as goal
 
@@ -8,10 +8,7 @@ invariant_of-self c = record {
   subs = c.self.invariant.subs;
   pubs = rw c.remove.ensures (rows_less (λ (row : PubRow). row.id) c.self.inside.next_entity c.args.id _ c.self.invariant.pubs);
   queryables = c.self.invariant.queryables;
-  sub_groups = rw c.leave_found.ensures c.self.invariant.sub_groups;
-  pub_groups = rw c.leave_found.ensures (less_below c.self.inside.next_entity _ _ _ c.self.invariant.pub_groups);
   queriers = c.self.invariant.queriers;
-  querier_groups = rw c.leave_found.ensures c.self.invariant.querier_groups;
   listening = below_fewer c.self.inside.next_entity _ c.self.inside.matching _ c.end_of.ensures.kept c.self.invariant.listening;
   counted = counted_fewer c.self.inside.tables.rows c.self.inside.queryables _ c.self.inside.matching _ c.end_of.ensures.kept c.self.invariant.counted;
 }

@@ -13,10 +13,7 @@ invariant_of-self c =
       subs = c.self.invariant.subs;
       pubs = c.self.invariant.pubs;
       queryables = rw c.remove.ensures.rows (rows_less (λ (row : QueryableRow). row.id) c.self.inside.next_entity c.args.id _ c.self.invariant.queryables);
-      sub_groups = c.self.invariant.sub_groups;
-      pub_groups = c.self.invariant.pub_groups;
       queriers = c.self.invariant.queriers;
-      querier_groups = c.self.invariant.querier_groups;
       listening = below_set c.self.inside.next_entity c.deref.result.now c.self.inside.matching _ c.recount.ensures.kept c.self.invariant.listening;
       counted = rw c.remove.ensures.rows
           (counted_moved c.self.inside.tables.rows c.self.inside.tables.rows c.self.inside.queryables _ _ _ _ c.self.inside.matching _ c.recount.ensures.kept (c.deref.ensures.value ∙ all) up (queryable_goes c.self.inside.tables.rows c.self.inside.queryables c.self.inside.matching.remote_entities c.args.id c.len-ascending.ensures.ascending) c.self.invariant.counted);

@@ -1,6 +1,6 @@
 use Rattle.std.proofs.Common.{◌∙◌}
 use Rattle.zs_subscriptions.specs.declared.subscriber.SubRow.{SubRow}
-use Rattle.zs_entity_tables.proofs.Bounds.{less_below, rows_less}
+use Rattle.zs_entity_tables.proofs.Bounds.{rows_less}
 use Rattle.zs_tables.proofs.Moving.{sub_goes}
 use Rattle.zs_entity_tables.proofs.Counted.{below_set, counted_moved}
 use Rattle.zs_world.proofs.session_tables.SessionTables.end_sub.Goals as goal
@@ -13,10 +13,7 @@ invariant_of-self c =
       subs = rw c.remove.ensures.rows (rows_less (λ (row : SubRow). row.id) c.self.inside.next_entity c.args.id _ c.self.invariant.subs);
       pubs = c.self.invariant.pubs;
       queryables = c.self.invariant.queryables;
-      sub_groups = rw c.leave_found.ensures (less_below c.self.inside.next_entity _ _ _ c.self.invariant.sub_groups);
-      pub_groups = rw c.leave_found.ensures c.self.invariant.pub_groups;
       queriers = c.self.invariant.queriers;
-      querier_groups = rw c.leave_found.ensures c.self.invariant.querier_groups;
       listening = below_set c.self.inside.next_entity c.deref.result.now c.self.inside.matching _ c.recount.ensures.kept c.self.invariant.listening;
       counted = rw c.remove.ensures.rows
           (counted_moved c.self.inside.tables.rows _ c.self.inside.queryables c.self.inside.queryables _ _ _ c.self.inside.matching _ c.recount.ensures.kept (c.deref.ensures.value ∙ all) up (sub_goes c.self.inside.tables.rows c.self.inside.queryables c.self.inside.matching.remote_entities c.args.id c.len-ascending.ensures.ascending) c.self.invariant.counted);

@@ -14,9 +14,6 @@ invariant_of-self-2 c =
       pubs = c.self.invariant.pubs;
       queryables = c.self.invariant.queryables;
       queriers = c.self.invariant.queriers;
-      sub_groups = c.self.invariant.sub_groups;
-      pub_groups = c.self.invariant.pub_groups;
-      querier_groups = c.self.invariant.querier_groups;
       listening = below_told s.next_entity _ c.deref.result.now s.matching _ _ c.in_ok-tell_queryable.ensures.ok c.recount.ensures.kept c.self.invariant.listening;
       counted = counted_told s.tables.rows s.queryables _ _ _ _ s.matching _ _ c.in_ok-tell_queryable.ensures.ok c.recount.ensures.kept (c.deref.ensures.value ∙ all) seen moves c.self.invariant.counted;
     }
