@@ -23,6 +23,3 @@ pub use law::token_law;
 pub use outcome::Outcome;
 pub use state::TokenState;
 pub use token::{CancelResult, CancellationToken};
-
-#[cfg(test)]
-mod tests;

@@ -27,6 +27,3 @@ pub use keeper::{Drained, Draining, Keeper};
 pub use lock::{Fact, KeyedLock, Taken};
 pub use pass::{Inside, Pass};
 pub use sync_group::{Notifier, SyncGroup, Waited};
-
-#[cfg(test)]
-mod tests;

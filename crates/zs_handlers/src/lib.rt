@@ -31,6 +31,3 @@ pub use law::fifo_law;
 pub use polled::{RecvFut, RecvStream};
 pub use ring::{RingChannelHandler, RingSender};
 pub use ring_queue::RingQueue;
-
-#[cfg(test)]
-mod tests;

@@ -6,6 +6,4 @@ pub use view::View;
 
 pub mod laws;
 mod name;
-#[cfg(test)]
-mod tests;
 mod view;

@@ -30,6 +30,3 @@ pub use post::Post;
 pub use post_map::NotOpened;
 pub use posts::Posts;
 pub use tag::{Maker, Room, Tag};
-
-#[cfg(test)]
-mod tests;

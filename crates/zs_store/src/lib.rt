@@ -11,5 +11,3 @@ pub mod laws;
 mod merged;
 mod order;
 mod store;
-#[cfg(test)]
-mod tests;

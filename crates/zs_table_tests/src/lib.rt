@@ -1,5 +1,5 @@
-//! Tests of the tables, of queries and of trees of keys by their public calls. They stand apart, so that no crate is
-//! proved twice for its tests.
+//! Tests of the tables, of queries, of trees of keys, of stores and of views of a group by their public calls. They stand
+//! apart, so that no crate is proved twice for its tests.
 #![tactic(auto)]
 
 #[cfg(test)]
@@ -11,11 +11,15 @@ mod liveliness;
 #[cfg(test)]
 mod matching;
 #[cfg(test)]
+mod members;
+#[cfg(test)]
 mod queryables;
 #[cfg(test)]
 mod requests;
 #[cfg(test)]
 mod script;
+#[cfg(test)]
+mod store;
 #[cfg(test)]
 mod tables;
 #[cfg(test)]

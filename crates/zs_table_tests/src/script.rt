@@ -1,6 +1,7 @@
 //! Scripts: lists of steps over one subject, each of which says what it has to find.
 
 use std::alloc::Global;
+use zs_keys::KeyError;
 
 /// A step of a script.
 pub trait Step<S> {
@@ -16,4 +17,24 @@ pub fn first_wrong<S, A: Step<S>>(alloc: Global, subject: &mut S, script: &[A]) 
         }
     }
     None
+}
+
+/// A step of a script that tells why it couldn't be taken.
+pub trait TryStep<S> {
+    /// As `Step::holds`.
+    fn try_holds(&self, alloc: Global, subject: &mut S) -> Result<bool, KeyError>;
+}
+
+/// As `first_wrong`, up to a step that couldn't be taken.
+pub fn try_first_wrong<S, A: TryStep<S>>(
+    alloc: Global,
+    subject: &mut S,
+    script: &[A],
+) -> Result<Option<usize>, KeyError> {
+    for at in 0..script.len() {
+        if !script[at].try_holds(alloc, subject)? {
+            return Ok(Some(at));
+        }
+    }
+    Ok(None)
 }

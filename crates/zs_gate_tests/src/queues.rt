@@ -1,5 +1,9 @@
-use super::*;
+//! The queues that are lent.
+
 use std::test::Fail;
+use zs_handlers::{
+    ChannelError, Disconnected, FifoChannel, FifoQueue, RingChannel, RingDeleted, RingQueue,
+};
 
 #[test]
 fn gives_items_of_a_fifo_in_order(rt: HostRuntime) -> Result<(), Fail> {

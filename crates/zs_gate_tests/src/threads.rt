@@ -1,23 +1,14 @@
-use super::*;
-use std::sync::Arc;
+//! Threads that wait for room in a fifo, for an item, and for the end.
+
+use crate::entering::{end_gate, enter_gate, takes};
+use crate::words::{Word, comes, stays, word_twice};
+use std::sync::Wait;
 use std::sync::atomic::{AtomicU64, Ordering};
 use std::test::Fail;
 use std::thread;
-use std::time::{Clock, Duration};
-
-// A test gives up after as many turns of a millisecond.
-const TURNS: u32 = 10_000;
-
-// Whether the word becomes the number before the turns are over.
-fn comes<R: Clock>(rt: &R, word: &AtomicU64, number: u64) -> bool {
-    for _ in 0..TURNS {
-        if word.load(Ordering::SeqCst) == number {
-            return true;
-        }
-        thread::sleep(rt, Duration::from_millis(1));
-    }
-    false
-}
+use std::time::Duration;
+use zs_gate::Inside;
+use zs_handlers::{FifoChannel, FifoChannelHandler, FifoSender, Handler};
 
 // Hands the items 1, 2 and 3 to a fifo, and counts them in the word.
 fn send_three<R: Wait>(rt: &R, inside: &Inside, sender: &FifoSender<u64>, word: &AtomicU64) {
@@ -32,7 +23,7 @@ fn send_three<R: Wait>(rt: &R, inside: &Inside, sender: &FifoSender<u64>, word: 
 #[derive(Drop)]
 struct Receiving {
     receiver: FifoChannelHandler<u64>,
-    word: Arc<AtomicU64>,
+    word: Word,
 }
 
 impl Receiving {
@@ -50,20 +41,13 @@ impl Receiving {
 struct Sending {
     inside: Inside,
     sender: FifoSender<u64>,
-    word: Arc<AtomicU64>,
+    word: Word,
 }
 
 impl Sending {
     fn run<R: Wait>(self, rt: &R) {
         send_three(rt, &self.inside, &self.sender, &self.word);
     }
-}
-
-// A word, and a second hold of it for another thread.
-fn word_twice(alloc: Global) -> Result<(Arc<AtomicU64>, Arc<AtomicU64>), AllocError> {
-    let word = Arc::new(alloc, AtomicU64::new(0))?;
-    let theirs = Arc::try_clone(&word)?;
-    Ok((word, theirs))
 }
 
 #[test]
@@ -78,8 +62,7 @@ fn waits_for_room(rt: HostRuntime) -> Result<(), Fail> {
     };
     let sending = thread::spawn(&rt, move || send.run(&rt))?;
     assert!(rt; comes(&rt, &word, 2));
-    thread::sleep(&rt, Duration::from_millis(20));
-    assert!(rt; word.load(Ordering::SeqCst) == 2, "there is no room");
+    assert!(rt; stays(&rt, &word, 2), "there is no room");
     assert!(rt; receiver.try_recv(&rt) == Ok(Some(1)));
     assert!(rt; comes(&rt, &word, 3), "no one wakes the sender");
     sending.join(&rt);

@@ -1,8 +1,12 @@
+//! A handler of a program's own.
 ghost use Rattle.std.specs.Prelude.{◌≡◌, false, IsSome};
 
-use super::*;
+use crate::entering::{end_gate, enter_gate};
+use std::sync::Wait;
 use std::sync::atomic::{AtomicU64, Ordering};
 use std::test::Fail;
+use zs_gate::{Drained, Inside};
+use zs_handlers::{Handled, Handler};
 
 // Adds the items up, and gives none up.
 #[derive(Drop)]

@@ -1,6 +1,14 @@
-use super::*;
+//! Channels: what their receivers answer, and until when they wait.
+
+use crate::entering::{end_gate, enter_gate, takes};
+use std::sync::Wait;
 use std::test::Fail;
 use std::time::Clock;
+use zs_gate::Inside;
+use zs_handlers::{
+    DefaultHandler, Disconnected, FifoChannel, FifoChannelHandler, FifoSender, Handler,
+    RingChannel, RingChannelHandler, RingDeleted, RingSender,
+};
 
 // Whether a fifo of two items takes two.
 fn takes_two<R: Wait>(

@@ -1,11 +1,16 @@
-use super::*;
+//! Fifos as futures and streams.
+
+use crate::entering::{end_gate, enter_gate, takes};
 use futures::StreamExt;
 use futures::executor::block_on;
 use futures::task::Poll;
 use futures::test::MockTask;
 use std::alloc::AllocGlobal;
 use std::random::RandomSource;
+use std::sync::Wait;
 use std::test::Fail;
+use zs_gate::{Drained, Inside};
+use zs_handlers::{Disconnected, FifoChannel, FifoChannelHandler, FifoSender, Handler, RecvStream};
 
 type Items<'a, R> = RecvStream<'a, u64, R>;
 
