@@ -17,10 +17,13 @@ impl EntryLedger for Brand {
 
 /// The ledgers of a session: of the events that it took, of the messages that it sent, and of those that were drained.
 pub trait Books {
+    /// Of the events that the session took. It names the settings too.
     type Entries: EntryLedger;
 
+    /// Of the messages that it sent.
     type Sent: Ledger;
 
+    /// Of those that were drained.
     type Drained: Ledger;
 }
 

@@ -52,7 +52,9 @@ impl<H: Drop, B: Books> Drop for Inner<H, B> {
     }
 }
 
-/// A session that callers share. Contracts see which session it is, and what its settings say of it.
+/// A session that callers share. Its calls stand in `SessionCalls` (`zs_calls`), `SessionEntities` and `SessionLiveliness`
+/// (`zs_entities`). It keeps all its events with their turns in a journal, for as long as it lives. Contracts see which session
+/// it is, and what its settings say of it.
 #[derive(Drop)]
 pub struct Session<H, B: Books> {
     shared: Arc<Inner<H, B>>,
@@ -106,7 +108,8 @@ fn placed<H: Drop, B: Books>(alloc: Global, inner: Inner<H, B>) -> Result<Sessio
 }
 
 impl<H: Drop, B: Books> Session<H, B> {
-    /// Opens a session: the session, and the caller that has all parts of its ledgers.
+    /// Opens a session: the session, and the caller that has all parts of its ledgers. The settings are those that the first ledger
+    /// names; the blanks are the ledgers before their first entry: of the events, of the messages sent, and of those drained.
     ///
     /// # Errors
     ///

@@ -26,7 +26,7 @@ pub struct Driven {
 ///
 /// `ReadFault` and `WriteFault` where the source or the sink failed, `BadLine` and `LineTooLong` for the first line that
 /// the machine doesn't take or that is too long, `OutOfTurns` where there were too many reads, and `NoMemory`. What was
-/// written is the text of the earlier lines, or a front of it.
+/// written is the text of the earlier lines, or a prefix of it.
 pub fn drive_lines<M: LineMachine, S: Source, K: Sink>(
     alloc: Global,
     source: &mut S,

@@ -51,7 +51,7 @@ impl Transcript {
         self.waiting.len() >= FULL
     }
 
-    /// Writes what waits. Nothing waits then, also where the sink failed and took but a front of it.
+    /// Writes what waits. Nothing waits then, also where the sink failed and took but a prefix of it.
     pub(crate) fn write_to<K: Sink>(&mut self, sink: &mut K) -> Result<(), WriteFault>
         ensures whole { OnOk result (PutsOn (K.written sink.old) self.old (K.written sink.new)) }
         ensures part { PutsFrontOn (K.written sink.old) self.old (K.written sink.new) }

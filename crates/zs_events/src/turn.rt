@@ -57,13 +57,13 @@ pub enum Kind {
 
 /// Something that is handed to the application. Who else is handed the same holds it in the same place.
 pub enum HandOver {
-    /// A sample for a subscriber.
+    /// A sample for a subscriber, or for a subscriber to liveliness: its kind says which.
     Sample {
         kind: Kind,
         id: u32,
         sample: Shared<Sample>,
     },
-    /// A reply for a get.
+    /// A reply for a get, or for a get of liveliness tokens: its kind says which.
     Reply {
         kind: Kind,
         id: u32,
@@ -192,6 +192,11 @@ impl Effects {
         }
     }
 
+    /// Puts an effect behind the others.
+    ///
+    /// # Errors
+    ///
+    /// Want of memory alone.
     pub fn push(&mut self, effect: Effect) -> Result<(), AllocError>
         ensures ok { OnOk result (self.new ≡ self.old ++ effect ∷ []) }
         ensures err { OnErr result (self.new ≡ self.old) }
@@ -279,6 +284,7 @@ impl Turn {
         })
     }
 
+    /// A refused event, which brings nothing about.
     pub fn refused(alloc: Global, refusal: Refusal) -> Turn
         ensures { result ≡ answered (Some refusal) None [] }
     {
@@ -298,6 +304,7 @@ impl Turn {
         }
     }
 
+    /// An accepted event, with its number where its kind draws one, and what it brings about.
     pub fn accepted(number: Option<u32>, effects: Effects) -> Turn
         ensures { result ≡ answered None number effects }
     {

@@ -30,7 +30,7 @@ pub struct EntityForm {
     pub eid: u32,
 }
 
-/// Who made a sample, and as its how many-th, where that is known.
+/// Who made a sample, and its number among the samples of that source, where that is known.
 #[repr(C)]
 #[derive(Clone, Copy, Debug, PartialEq, Eq)]
 pub struct SourceForm {

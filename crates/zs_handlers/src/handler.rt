@@ -41,7 +41,8 @@ pub trait Handler<T> {
     // with that item, and tells what that call gave up.
     ghost gives: { Self → T → Option T → Type 0 } = { λ _ _ _. ⊤ };
 
-    /// Takes an item. The caller is inside of the callback's gate, so the callback ends only after this call.
+    /// Takes an item. The caller is inside of the callback's gate, so the callback ends only after this call. It runs on the
+    /// thread of whoever handed the item over, and calls of several threads may overlap.
     fn on<R: Wait>(&self, rt: &R, inside: &Inside, item: T) -> Handled<T, Self::Done>
         ensures kept { evicts ≡ false → IsTaken result }
         ensures gives { gives self.now item (given_up result) };

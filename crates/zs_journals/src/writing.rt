@@ -13,7 +13,7 @@ use zs_session_cell::Entry;
 /// # Errors
 ///
 /// No line says the event of the entry in that place: then the entries before it are written, and nothing else. The sink
-/// failed, or there was no memory: then a front of the recording is written.
+/// failed, or there was no memory: then a prefix of the recording is written.
 pub fn write_recording<K: Sink>(
     alloc: Global,
     entries: &[Entry],

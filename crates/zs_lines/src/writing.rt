@@ -9,7 +9,7 @@ use zs_keys::Sink;
 #[derive(Clone, Copy, Debug, PartialEq, Eq)]
 pub struct WriteFault;
 
-/// Writes a piece, in as many writes as the sink needs. After an error the sink has taken a front of it.
+/// Writes a piece, in as many writes as the sink needs. After an error the sink has taken a prefix of it.
 pub fn write_whole<K: Sink>(sink: &mut K, piece: &[u8]) -> Result<(), WriteFault>
     ensures whole { OnOk result (PutsOn (K.written sink.old) piece.now (K.written sink.new)) }
     ensures part { PutsFrontOn (K.written sink.old) piece.now (K.written sink.new) }

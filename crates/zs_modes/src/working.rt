@@ -51,7 +51,7 @@ pub(crate) fn workers_of(words: &[String]) -> Option<Workers>
     Some(Workers { callers, puts })
 }
 
-/// Lets callers put beside each other, and writes what that came to. An error leaves a front of it written.
+/// Lets callers put beside each other, and writes what that came to. An error leaves a prefix of it written.
 ///
 /// # Errors
 ///
@@ -75,7 +75,7 @@ pub(crate) fn drive_workers<R: Wait + Threads + Sync, K: Sink>(
     write_report(report, sink)
 }
 
-/// Writes a report, and lets it go. An error leaves a front of it written.
+/// Writes a report, and lets it go. An error leaves a prefix of it written.
 fn write_report<K: Sink>(report: String, sink: &mut K) -> Result<(), DriveError>
     ensures whole { OnOk result (PutsOn (K.written sink.old) (string_bytes report) (K.written sink.new)) }
     ensures part { PutsFrontOn (K.written sink.old) (string_bytes report) (K.written sink.new) }

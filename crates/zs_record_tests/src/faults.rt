@@ -40,7 +40,7 @@ fn replaying(alloc: Global) -> Result<Whole, AllocError> {
 }
 
 /// Runs the program where a read and a write fail, 0 for none, and returns the status. What is written is the whole text
-/// where the run comes to its end, and else a front of it.
+/// where the run comes to its end, and else a prefix of it.
 fn status_with(
     rt: &(impl Abort + AllocGlobal),
     whole: &Whole,

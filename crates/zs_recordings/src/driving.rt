@@ -24,7 +24,7 @@ use zs_keys::{Sink, Source};
 ///
 /// `ReadFault` and `WriteFault` where the source or the sink failed, `BadLine` and `LineTooLong` for the first line that
 /// is no event of the session or too long, `OutOfTurns` where there were too many reads, and `NoMemory`. What was written
-/// is the recording of the earlier lines, or a front of it.
+/// is the recording of the earlier lines, or a prefix of it.
 pub fn record<S: Source, K: Sink>(
     alloc: Global,
     source: &mut S,

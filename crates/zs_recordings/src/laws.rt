@@ -12,7 +12,7 @@ pub fn recordings_replay()
     ensures { RecordingsReplay }
 {}
 
-/// And so is the front of it that is the recording of the first of these events.
+/// And so is the prefix of it that is the recording of the first of these events.
 pub fn fronts_replay()
     ensures { FrontsReplay }
 {}

@@ -17,7 +17,7 @@ use zs_lines::write_whole;
 ///
 /// # Errors
 ///
-/// No line says the event: then nothing is written. The sink failed: then a front of the entry is written. There was no
+/// No line says the event: then nothing is written. The sink failed: then a prefix of the entry is written. There was no
 /// memory: then nothing is.
 #[tactic(auto, using(crate::proofs::Written::writing))]
 pub fn write_entry<K: Sink>(

@@ -122,7 +122,7 @@ impl Sample {
         self.fields.timestamp.as_ref()
     }
 
-    /// Who made it, and as his how manieth, where that is known.
+    /// Who made it, and its number among the samples of that source, where that is known.
     pub fn source_info(&self) -> Option<&SourceInfo>
         ensures { option_copied result ≡ self.now.source_info }
     {

@@ -64,7 +64,7 @@ pub(crate) fn soak_of(words: &[String]) -> Option<Soak>
     Some(Soak { seed, puts })
 }
 
-/// Drives a session by such a script, and writes what that came to. An error leaves a front of it written.
+/// Drives a session by such a script, and writes what that came to. An error leaves a prefix of it written.
 ///
 /// # Errors
 ///

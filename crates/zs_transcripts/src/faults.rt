@@ -23,7 +23,7 @@ fn script(alloc: Global, parts: &Parts, fail: u64) -> Result<MemorySource, Alloc
 }
 
 /// Runs the script, and returns the status. What is printed is the whole text where the run comes to its end, and else a
-/// front of it.
+/// prefix of it.
 fn status_of(
     rt: &(impl Abort + AllocGlobal),
     words: &str,

@@ -3,6 +3,7 @@ ghost use Rattle.std.specs.Prelude.{◌≡◌};
 /// When a sample was made, and by whose clock. Timestamps are ordered by time, and then by the clock's id.
 #[derive(Clone, Copy, Debug, PartialEq, Eq, PartialOrd, Ord, Hash)]
 pub struct Timestamp {
+    /// The moment, as Zenoh has it: seconds since the Unix epoch in the upper 32 bits, their fractions in the lower ones.
     pub time: u64,
     /// Which clock told the time.
     pub id: u128,
@@ -15,7 +16,7 @@ pub struct EntityGlobalId {
     pub eid: u32,
 }
 
-/// Who made a sample, and as its how many-th.
+/// Who made a sample, and its number among the samples of that source.
 #[derive(Clone, Copy, Debug, PartialEq, Eq, Hash)]
 pub struct SourceInfo {
     pub source_id: EntityGlobalId,
@@ -43,7 +44,7 @@ impl SourceInfo {
         &self.source_id
     }
 
-    /// As its how many-th.
+    /// Its number among the samples of that source.
     pub fn source_sn(&self) -> SourceSn
         ensures { result ≡ self.now.source_sn }
     {
