@@ -36,22 +36,22 @@ turn_sends_one law s h e = subst (λ (messages : List Message). length messages 
 sends_one : OneMessageAtMost → (s : Settings) (h : List Event) (e : Event) (turn : Turn) → turn ≡ turn_at s h e → length (turn_messages turn) ≤ 1
 sends_one law s h e turn is = subst (λ (t : Turn). length (turn_messages t) ≤ 1) (sym is) (turn_sends_one law s h e)
 
-takes_one : OneMessageAtMost → {old new : CallerSeen ReceiptSeen} {e : Event} {came : Bool} {answer : Answer} {asked : Option Asked} → Takes old e came answer asked new → new.sent ≤ old.sent + 1
-takes_one law {old} {new} {e} takes =
+takes_one : OneMessageAtMost → {s : Settings} {old new : CallerSeen ReceiptSeen} {e : Event} {came : Bool} {answer : Answer} {asked : Option Asked} → Takes s old e came answer asked new → new.sent ≤ old.sent + 1
+takes_one law {s} {old} {new} {e} takes =
     let took = takes.took in
-    omega (arith, sends_one law took.settings took.before e takes.turn took.turn_is, ap (λ (c : CallerSeen ReceiptSeen). c.sent) took.caller_is)
+    omega (arith, sends_one law s took.before e takes.turn took.turn_is, ap (λ (c : CallerSeen ReceiptSeen). c.sent) took.caller_is)
 
-adds_one : OneMessageAtMost → (e : Event) (old new : CallerSeen ReceiptSeen) → Adds e old new → new.sent ≤ old.sent + 1
-adds_one law e old new adds =
-    omega (arith, sends_one law adds.settings adds.before e adds.turn adds.turn_is, ap (λ (c : CallerSeen ReceiptSeen). c.sent) adds.caller_is)
+adds_one : OneMessageAtMost → (s : Settings) (e : Event) (old new : CallerSeen ReceiptSeen) → Adds s e old new → new.sent ≤ old.sent + 1
+adds_one law s e old new adds =
+    omega (arith, sends_one law s adds.before e adds.turn adds.turn_is, ap (λ (c : CallerSeen ReceiptSeen). c.sent) adds.caller_is)
 
-adds_all : OneMessageAtMost → (values : List ℕ) (old new : CallerSeen ReceiptSeen) → AddsFinishes values old new → new.sent ≤ old.sent + length values
-adds_all law [] old new same = omega (arith, ap (λ (c : CallerSeen ReceiptSeen). c.sent) same)
-adds_all law (value ∷ values) old new (mid, (adds, rest)) = omega (arith, adds_one law (Finish value) old mid adds, adds_all law values mid new rest)
+adds_all : OneMessageAtMost → (s : Settings) (values : List ℕ) (old new : CallerSeen ReceiptSeen) → AddsFinishes s values old new → new.sent ≤ old.sent + length values
+adds_all law s [] old new same = omega (arith, ap (λ (c : CallerSeen ReceiptSeen). c.sent) same)
+adds_all law s (value ∷ values) old new (mid, (adds, rest)) = omega (arith, adds_one law s (Finish value) old mid adds, adds_all law s values mid new rest)
 
-steps_one : OneMessageAtMost → {old new : CallerSeen ReceiptSeen} {e : Event} {came evicts : Bool} {answer : Answer} {asked : Option Asked} (steps : TakesAndFinishes evicts old e came answer asked new)
+steps_one : OneMessageAtMost → {s : Settings} {old new : CallerSeen ReceiptSeen} {e : Event} {came evicts : Bool} {answer : Answer} {asked : Option Asked} (steps : TakesAndFinishes s evicts old e came answer asked new)
     → new.sent ≤ old.sent + 1 + length steps.values
-steps_one law {old} {new} steps = omega (arith, takes_one law steps.takes, adds_all law steps.values steps.taken new steps.finishes)
+steps_one law {s} {old} {new} steps = omega (arith, takes_one law steps.takes, adds_all law s steps.values steps.taken new steps.finishes)
 
 pub steps_send_one : OneMessageAtMost → StepsSendOne
 steps_send_one law = record { event = λ takes. takes_one law takes; call = λ steps. steps_one law steps }

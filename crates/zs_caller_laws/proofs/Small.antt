@@ -137,8 +137,8 @@ with_number : (tag n : ℕ) (text : List ℕ) → nat_le n 65535 ≡ true → de
 with_number tag n text small = ap (λ (b : Bool). if b then Some (record { number = n; prefix_len = length text; tag = tag }) else None) small
 
 pub keys_come_back_declared : KeyNumbersAreSmall → KeysComeBackDeclared
-keys_come_back_declared law evicts old new tag key made declares =
+keys_come_back_declared law s evicts old new tag key made declares =
     let takes = declares.accepts.takes in
     let took = takes.took in
-    let small = turn_small law took.settings took.before _ declares.number takes.turn took.turn_is takes.answer_is in
+    let small = turn_small law s took.before _ declares.number takes.turn took.turn_is takes.answer_is in
     ap (λ (k : a_key). k.declaration) declares.made_is ∙ with_number tag declares.number key.text (below_last declares.number small)

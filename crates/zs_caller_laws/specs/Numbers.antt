@@ -19,5 +19,5 @@ KeyNumbersAreSmall = (s : Settings) (h : List Event) (key : KeyArg) (n : ℕ) �
 -- so a key that a session declares comes back declared, as a whole, by that session, under the number that was answered
 abbrev pub KeysComeBackDeclared : Type 0
 KeysComeBackDeclared =
-    (evicts : Bool) (old new : CallerSeen ReceiptSeen) (tag : ℕ) (key made : Key) (declares : DeclaresKey evicts old new tag key made)
+    (s : Settings) (evicts : Bool) (old new : CallerSeen ReceiptSeen) (tag : ℕ) (key made : Key) (declares : DeclaresKey s evicts old new tag key made)
     → made.declaration ≡ Some (record { number = declares.number; prefix_len = length key.text; tag = tag })

@@ -135,9 +135,9 @@ impl QueryValues for Query {
         rt: &R,
         caller: &mut Caller<B>,
     ) -> Result<Query, SessionError>
-        ensures ok { IfOk result (λ query. Accepts H.evicts caller.old caller.new (Share self.now.value) false (Some query.value)) }
+        ensures ok { IfOk result (λ query. Accepts B.Entries.settings H.evicts caller.old caller.new (Share self.now.value) false (Some query.value)) }
         ensures same { IfOk result (λ query. query ≡ record self.now { value = query.value }) }
-        ensures err { IfErr result (λ why. StopsOr H.evicts caller.old caller.new (Share self.now.value) false why) }
+        ensures err { IfErr result (λ why. StopsOr B.Entries.settings H.evicts caller.old caller.new (Share self.now.value) false why) }
         ensures other { (result ≡ Err SessionError.OtherSession) ↔ (self.now.tag ≢ session.now.tag) }
     {
         if self.tag() != session.tag() {
@@ -161,9 +161,9 @@ impl QueryValues for Query {
         rt: &R,
         caller: &mut Caller<B>,
     ) -> Result<(), Unspent<Query>>
-        ensures ok { OnOk result (Accepts H.evicts caller.old caller.new (Finish self.value) false None) }
+        ensures ok { OnOk result (Accepts B.Entries.settings H.evicts caller.old caller.new (Finish self.value) false None) }
         ensures own { OnOk result (self.tag ≡ session.now.tag) }
-        ensures err { IfErr result (λ back. StopsOr H.evicts caller.old caller.new (Finish self.value) false back.why) }
+        ensures err { IfErr result (λ back. StopsOr B.Entries.settings H.evicts caller.old caller.new (Finish self.value) false back.why) }
         ensures back { IfErr result (λ back. back.value ≡ self) }
         ensures other { IfErr result (λ back. (back.why ≡ SessionError.OtherSession) ↔ (self.tag ≢ session.now.tag)) }
     {

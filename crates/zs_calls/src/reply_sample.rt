@@ -124,8 +124,8 @@ impl<'a, H: Handler<Item> + Drop, B: Books> ReplySample<'a, H, B> {
     /// `OtherSession` where the query is of another session, `Refused` where the session took the reply and refused it,
     /// else `NoMemory`.
     pub fn wait<R: Wait>(self, rt: &R, caller: &mut Caller<B>) -> Result<(), SessionError>
-        ensures ok { OnOk result (Accepts H.evicts caller.old caller.new (reply_sample_event self.entry) false None) }
-        ensures err { IfErr result (λ why. StopsOr H.evicts caller.old caller.new (reply_sample_event self.entry) false why) }
+        ensures ok { OnOk result (Accepts B.Entries.settings H.evicts caller.old caller.new (reply_sample_event self.entry) false None) }
+        ensures err { IfErr result (λ why. StopsOr B.Entries.settings H.evicts caller.old caller.new (reply_sample_event self.entry) false why) }
         ensures other { (result ≡ Err SessionError.OtherSession) ↔ (self.entry.query.tag ≢ self.entry.session.tag) }
     {
         let session = self.session;

@@ -19,8 +19,8 @@ pub(crate) fn tell_own<H: Handler<Item> + Drop, B: Books, R: Wait>(
     caller: &mut Caller<B>,
 ) -> Result<(), SessionError>
     requires { numbered_at event ≡ false }
-    ensures ok { OnOk result (Accepts H.evicts caller.old caller.new event false None) }
-    ensures err { IfErr result (λ why. StopsOr H.evicts caller.old caller.new event false why) }
+    ensures ok { OnOk result (Accepts B.Entries.settings H.evicts caller.old caller.new event false None) }
+    ensures err { IfErr result (λ why. StopsOr B.Entries.settings H.evicts caller.old caller.new event false why) }
     ensures own { result ≡ Err SessionError.OtherSession → ⊥ }
 {
     match session.tell(rt, event, caller) {
@@ -39,8 +39,8 @@ pub(crate) fn ask_own<H: Handler<Item> + Drop, B: Books, R: Wait>(
     caller: &mut Caller<B>,
 ) -> Result<u32, SessionError>
     requires { numbered_at event ≡ true }
-    ensures ok { IfOk result (λ number. Accepts H.evicts caller.old caller.new event false (Some number)) }
-    ensures err { IfErr result (λ why. StopsOr H.evicts caller.old caller.new event false why) }
+    ensures ok { IfOk result (λ number. Accepts B.Entries.settings H.evicts caller.old caller.new event false (Some number)) }
+    ensures err { IfErr result (λ why. StopsOr B.Entries.settings H.evicts caller.old caller.new event false why) }
     ensures own { result ≡ Err SessionError.OtherSession → ⊥ }
 {
     match session.ask(rt, event, None, caller) {
@@ -67,8 +67,8 @@ pub(crate) fn ask_with<H: Handler<Item> + Drop, B: Books, R: Wait>(
 ) -> Result<u32, NotSubmitted<H>>
     requires handler { takes_handler event ≡ true }
     requires number { numbered_at event ≡ true }
-    ensures ok { IfOk result (λ number. Accepts H.evicts caller.old caller.new event (is_some (option_map arc_value handler)) (Some number)) }
-    ensures err { IfErr result (λ back. Stops H.evicts caller.old caller.new event (is_some (option_map arc_value handler)) back.why) }
+    ensures ok { IfOk result (λ number. Accepts B.Entries.settings H.evicts caller.old caller.new event (is_some (option_map arc_value handler)) (Some number)) }
+    ensures err { IfErr result (λ back. Stops B.Entries.settings H.evicts caller.old caller.new event (is_some (option_map arc_value handler)) back.why) }
     ensures handler { IfErr result (λ back. option_map arc_value back.handler ≡ option_map arc_value handler) }
 {
     match handler {

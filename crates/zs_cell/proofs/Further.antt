@@ -1,5 +1,5 @@
 -- Queries that come back and are given back.
-use Rattle.std.proofs.Common.{◌≡◌, ◌∙◌, ℕ, ◌+◌, Bool, List, [], ◌∷◌, ◌++◌, length, Option, Some, true, false, ap, sym, subst, refl, arith}
+use Rattle.std.proofs.Common.{◌≡◌, ◌∙◌, ◌⊎◌, inl, inr, ℕ, ◌+◌, Bool, List, [], ◌∷◌, ◌++◌, length, Option, Some, true, false, ap, sym, subst, refl, arith}
 use Rattle.std.specs.Prelude.{Result, IfOk, IfErr, Ok as Done, Err as Failed}
 use Rattle.zs_events.specs.declared.event.Event.{Event}
 use Rattle.zs_events.specs.declared.event.Event.TheVariants.{Finish}
@@ -9,6 +9,7 @@ use Rattle.zs_hands.specs.declared.handed.Handed.{Handed}
 use Rattle.zs_hands.specs.declared.handed.Handed.TheVariants.{Called, Evicted, Skipped}
 use Rattle.zs_hands.specs.declared.handed.RanCall.{RanCall}
 use Rattle.zs_hands.specs.Answers.{AreKept, IsKept, reports_of}
+use Rattle.zs_core.specs.Types.{Settings}
 use Rattle.zs_turns.specs.declared.item.Item.{Item}
 use Rattle.zs_turns.specs.Queries.{QuerySeen}
 use Rattle.zs_posts.specs.declared.key.Key.{Key}
@@ -23,32 +24,37 @@ use Rattle.zs_cell.specs.Works.{returned, returned_in}
 use Rattle.zs_cell.proofs.Stepping.{stops}
 
 -- no query
-pub adds_none : {old new : CallerSeen ReceiptSeen} → new ≡ old → AddsSome old new
+pub adds_none : {s : Settings} {old new : CallerSeen ReceiptSeen} → new ≡ old → AddsSome s old new
 adds_none same = record { values = []; finishes = same }
 
 -- one query
-pub adds_one : {old new : CallerSeen ReceiptSeen} (value : ℕ) → Adds (Finish value) old new → AddsSome old new
-adds_one {old} {new} value adds = record { values = value ∷ []; finishes = (new, (adds, refl)) }
+pub adds_one : {s : Settings} {old new : CallerSeen ReceiptSeen} (value : ℕ) → Adds s (Finish value) old new → AddsSome s old new
+adds_one {s} {old} {new} value adds = record { values = value ∷ []; finishes = (new, (adds, refl)) }
+
+-- one, or for want of memory none
+pub adds_either : {s : Settings} {old new : CallerSeen ReceiptSeen} (value : ℕ) → (Adds s (Finish value) old new) ⊎ (new ≡ old) → AddsSome s old new
+adds_either value (inl adds) = adds_one value adds
+adds_either value (inr same) = adds_none same
 
 -- some behind others
-adds_all : (vs ws : List ℕ) (old mid new : CallerSeen ReceiptSeen) → AddsFinishes vs old mid → AddsFinishes ws mid new → AddsFinishes (vs ++ ws) old new
-adds_all [] ws old mid new same more = subst (λ (c : CallerSeen ReceiptSeen). AddsFinishes ws c new) same more
-adds_all (v ∷ vs) ws old mid new (next, (adds, rest)) more = (next, (adds, adds_all vs ws next mid new rest more))
+adds_all : (s : Settings) (vs ws : List ℕ) (old mid new : CallerSeen ReceiptSeen) → AddsFinishes s vs old mid → AddsFinishes s ws mid new → AddsFinishes s (vs ++ ws) old new
+adds_all s [] ws old mid new same more = subst (λ (c : CallerSeen ReceiptSeen). AddsFinishes s ws c new) same more
+adds_all s (v ∷ vs) ws old mid new (next, (adds, rest)) more = (next, (adds, adds_all s vs ws next mid new rest more))
 
-pub adds_more : {old mid new : CallerSeen ReceiptSeen} → AddsSome old mid → AddsSome mid new → AddsSome old new
-adds_more {old} {mid} {new} first more = record { values = first.values ++ more.values; finishes = adds_all first.values more.values old mid new first.finishes more.finishes }
+pub adds_more : {s : Settings} {old mid new : CallerSeen ReceiptSeen} → AddsSome s old mid → AddsSome s mid new → AddsSome s old new
+adds_more {s} {old} {mid} {new} first more = record { values = first.values ++ more.values; finishes = adds_all s first.values more.values old mid new first.finishes more.finishes }
 
 -- the last receipt is what it was
-pub all_keep : (values : List ℕ) (old new : CallerSeen ReceiptSeen) → AddsFinishes values old new → new.last ≡ old.last
-all_keep [] old new same = ap (λ (c : CallerSeen ReceiptSeen). c.last) same
-all_keep (v ∷ vs) old new (mid, (adds, rest)) = all_keep vs mid new rest ∙ ap (λ (c : CallerSeen ReceiptSeen). c.last) adds.caller_is
+pub all_keep : (s : Settings) (values : List ℕ) (old new : CallerSeen ReceiptSeen) → AddsFinishes s values old new → new.last ≡ old.last
+all_keep s [] old new same = ap (λ (c : CallerSeen ReceiptSeen). c.last) same
+all_keep s (v ∷ vs) old new (mid, (adds, rest)) = all_keep s vs mid new rest ∙ ap (λ (c : CallerSeen ReceiptSeen). c.last) adds.caller_is
 
-pub keeps_last : {old new : CallerSeen ReceiptSeen} → AddsSome old new → new.last ≡ old.last
-keeps_last {old} {new} some = all_keep some.values old new some.finishes
+pub keeps_last : {s : Settings} {old new : CallerSeen ReceiptSeen} → AddsSome s old new → new.last ≡ old.last
+keeps_last {s} {old} {new} some = all_keep s some.values old new some.finishes
 
 -- the event that was taken first, and the queries that were given back behind it
-pub steps_of : {old mid new : CallerSeen ReceiptSeen} {event : Event} {came : Bool} {answer : Answer} {asked : Option Asked} (evicts asks : Bool) → asks ≡ asks_queryables event
-    → Takes old event came answer asked mid → AddsSome mid new → (evicts ≡ false → asks ≡ false → new ≡ mid) → TakesAndFinishes evicts old event came answer asked new
+pub steps_of : {s : Settings} {old mid new : CallerSeen ReceiptSeen} {event : Event} {came : Bool} {answer : Answer} {asked : Option Asked} (evicts asks : Bool) → asks ≡ asks_queryables event
+    → Takes s old event came answer asked mid → AddsSome s mid new → (evicts ≡ false → asks ≡ false → new ≡ mid) → TakesAndFinishes s evicts old event came answer asked new
 steps_of {mid} false false is takes some kept = record { taken = mid; takes = takes; values = []; none_come_back = λ _ _. refl; finishes = kept refl refl }
 steps_of {mid} true asks is takes some kept =
     record { taken = mid; takes = takes; values = some.values; none_come_back = λ no _. let wrong : true ≡ false = no in cc; finishes = some.finishes }
@@ -56,18 +62,18 @@ steps_of {mid} false true is takes some kept =
     record { taken = mid; takes = takes; values = some.values; none_come_back = λ _ no. let wrong : true ≡ false = is ∙ no in cc; finishes = some.finishes }
 
 -- an accepted event, by its answer
-pub accepts : {A E : Type 0} {old new : CallerSeen ReceiptSeen} {event : Event} {came evicts : Bool} (answer : Answer) (key : Option Key) (waits : Bool) (result : Result A E) (number : A → Option ℕ) (held : A → Bool)
-    → IfOk result (λ s. answer ≡ accepted (number s)) → IfOk result (λ s. held s ≡ waits) → TakesAndFinishes evicts old event came answer (asked_for answer key waits) new
-    → IfOk result (λ s. AcceptsFor evicts old new event came (number s) key (held s))
-accepts {A} {E} {old} {new} {event} {came} {evicts} answer key waits (Done s) number held is same by =
-    subst (λ (b : Bool). AcceptsFor evicts old new event came (number s) key b) (sym same)
-    (subst (λ (a : Answer). TakesAndFinishes evicts old event came a (asked_for a key waits) new) is by)
+pub accepts : {A E : Type 0} {s : Settings} {old new : CallerSeen ReceiptSeen} {event : Event} {came evicts : Bool} (answer : Answer) (key : Option Key) (waits : Bool) (result : Result A E) (number : A → Option ℕ) (held : A → Bool)
+    → IfOk result (λ a. answer ≡ accepted (number a)) → IfOk result (λ a. held a ≡ waits) → TakesAndFinishes s evicts old event came answer (asked_for answer key waits) new
+    → IfOk result (λ a. AcceptsFor s evicts old new event came (number a) key (held a))
+accepts {A} {E} {s} {old} {new} {event} {came} {evicts} answer key waits (Done a) number held is same by =
+    subst (λ (b : Bool). AcceptsFor s evicts old new event came (number a) key b) (sym same)
+    (subst (λ (x : Answer). TakesAndFinishes s evicts old event came x (asked_for x key waits) new) is by)
 accepts answer key waits (Failed e) number held is same by = tt
 
 -- a refused one
-pub refuses : {A E : Type 0} {old new : CallerSeen ReceiptSeen} {event : Event} {came evicts : Bool} (answer : Answer) (key : Option Key) (waits : Bool) (result : Result A E) (why : E → SessionError)
-    → IfErr result (λ e. IsRefusal answer (why e)) → TakesAndFinishes evicts old event came answer (asked_for answer key waits) new → IfErr result (λ e. Stops evicts old new event came (why e))
-refuses answer key waits (Done s) why is by = tt
+pub refuses : {A E : Type 0} {s : Settings} {old new : CallerSeen ReceiptSeen} {event : Event} {came evicts : Bool} (answer : Answer) (key : Option Key) (waits : Bool) (result : Result A E) (why : E → SessionError)
+    → IfErr result (λ e. IsRefusal answer (why e)) → TakesAndFinishes s evicts old event came answer (asked_for answer key waits) new → IfErr result (λ e. Stops s evicts old new event came (why e))
+refuses answer key waits (Done a) why is by = tt
 refuses answer key waits (Failed e) why is by = stops answer key waits (why e) by is
 
 -- no query comes back in the report of a handler that keeps what it is given, where no call that was left out had one
@@ -86,18 +92,18 @@ none_come tag asks reports told same so none =
     ap (λ (rs : List (Handed Item _)). returned tag asks rs) same ∙ (ap (λ (b : Bool). returned tag b told) so ∙ none)
 
 -- the last receipt of a caller is that of the event that its call names
-pub last_is : {old new : CallerSeen ReceiptSeen} {event : Event} {came evicts : Bool} {answer : Answer} {asked : Option Asked} (steps : TakesAndFinishes evicts old event came answer asked new)
+pub last_is : {s : Settings} {old new : CallerSeen ReceiptSeen} {event : Event} {came evicts : Bool} {answer : Answer} {asked : Option Asked} (steps : TakesAndFinishes s evicts old event came answer asked new)
     → new.last ≡ Some (record (receipt_of event came steps.takes.turn (length steps.takes.took.before) old.count) { asked = asked })
-last_is {old} {new} steps = all_keep steps.values steps.taken new steps.finishes ∙ ap (λ (c : CallerSeen ReceiptSeen). c.last) steps.takes.took.caller_is
+last_is {s} {old} {new} steps = all_keep s steps.values steps.taken new steps.finishes ∙ ap (λ (c : CallerSeen ReceiptSeen). c.last) steps.takes.took.caller_is
 
 -- it counts one event more for each query that was given back
-all_count : (values : List ℕ) (old new : CallerSeen ReceiptSeen) → AddsFinishes values old new → new.count ≡ old.count + length values
-all_count [] old new same = omega (arith, ap (λ (c : CallerSeen ReceiptSeen). c.count) same)
-all_count (v ∷ vs) old new (mid, (adds, rest)) = omega (arith, all_count vs mid new rest, ap (λ (c : CallerSeen ReceiptSeen). c.count) adds.caller_is)
+all_count : (s : Settings) (values : List ℕ) (old new : CallerSeen ReceiptSeen) → AddsFinishes s values old new → new.count ≡ old.count + length values
+all_count s [] old new same = omega (arith, ap (λ (c : CallerSeen ReceiptSeen). c.count) same)
+all_count s (v ∷ vs) old new (mid, (adds, rest)) = omega (arith, all_count s vs mid new rest, ap (λ (c : CallerSeen ReceiptSeen). c.count) adds.caller_is)
 
-pub count_is : {old new : CallerSeen ReceiptSeen} {event : Event} {came evicts : Bool} {answer : Answer} {asked : Option Asked} (steps : TakesAndFinishes evicts old event came answer asked new)
+pub count_is : {s : Settings} {old new : CallerSeen ReceiptSeen} {event : Event} {came evicts : Bool} {answer : Answer} {asked : Option Asked} (steps : TakesAndFinishes s evicts old event came answer asked new)
     → new.count ≡ old.count + 1 + length steps.values
-count_is {old} {new} steps = omega (arith, all_count steps.values steps.taken new steps.finishes, ap (λ (c : CallerSeen ReceiptSeen). c.count) steps.takes.took.caller_is)
+count_is {s} {old} {new} steps = omega (arith, all_count s steps.values steps.taken new steps.finishes, ap (λ (c : CallerSeen ReceiptSeen). c.count) steps.takes.took.caller_is)
 
 -- a list with an element isn't empty
 pub no_cons : {X : Type 0} {x : X} {xs : List X} → x ∷ xs ≡ [] → ⊥

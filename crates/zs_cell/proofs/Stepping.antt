@@ -1,5 +1,5 @@
 -- What a step makes of a caller.
-use Rattle.std.proofs.Common.{◌≡◌, ◌∙◌, ℕ, ◌+◌, Bool, List, [], ◌∷◌, length, Option, Some, None, is_some, true, false, not, cond, ap, sym, subst, refl, arith}
+use Rattle.std.proofs.Common.{◌≡◌, ◌∙◌, ℕ, ◌+◌, Bool, List, [], ◌∷◌, ◌++◌, length, Option, Some, None, is_some, true, false, not, cond, ap, sym, subst, refl, arith}
 use Rattle.zs_events.specs.declared.event.Event.{Event}
 use Rattle.zs_events.specs.declared.turn.Answer.{Answer}
 use Rattle.zs_events.specs.declared.turn.Answer.TheVariants.{Ok as accepted, Refused as refused}
@@ -8,7 +8,7 @@ use Rattle.zs_events.specs.Turn.{was_refused}
 use Rattle.zs_core.specs.Types.{Settings}
 use Rattle.zs_session_cell.specs.declared.entry.Entry.{Entry}
 use Rattle.zs_session_cell.specs.Core.{turn_at}
-use Rattle.zs_session_cell.specs.Journals.{history}
+use Rattle.zs_session_cell.specs.Journals.{Follows, history}
 use Rattle.zs_posts.specs.declared.key.Key.{Key}
 use Rattle.zs_books.specs.Callers.{CallerSeen}
 use Rattle.zs_held.specs.declared.asked.Asked.{Asked}
@@ -28,12 +28,20 @@ history_longer before (entry ∷ journal) = omega (arith, history_longer (entry.
 pub history_long : (journal : List Entry) → length journal ≡ length (history [] journal)
 history_long journal = omega (arith, history_longer [] journal)
 
+-- the last turn of a journal that follows settings is that of its event under them, behind the events of the others
+last_follows : (s : Settings) (before : List Event) (journal : List Entry) (entry : Entry) → Follows s before (journal ++ entry ∷ []) → entry.turn ≡ turn_at s (history before journal) entry.event
+last_follows s before [] entry follows = follows.0
+last_follows s before (first ∷ journal) entry follows = last_follows s (first.event ∷ before) journal entry follows.1
+
+pub turn_follows : (s : Settings) (old new : List Entry) (event : Event) (turn : Turn) → Follows s [] new → new ≡ old ++ record { event = event; turn = turn } ∷ [] → turn ≡ turn_at s (history [] old) event
+turn_follows s old new event turn follows is =
+    last_follows s [] old (record { event = event; turn = turn }) (subst (λ (journal : List Entry). Follows s [] journal) is follows)
+
 -- the receipt of an event that was taken is the caller's last
 took : {old mid new : CallerSeen ReceiptSeen} {event : Event} {came : Bool} {turn : Turn} (s : Settings) (journal : List Entry) (asked : Option Asked) {receipt : ReceiptSeen}
     → turn ≡ turn_at s (history [] journal) event → receipt ≡ receipt_of event came turn (length journal) old.count → mid ≡ entered turn old
-    → new ≡ record mid { last = Some (record receipt { asked = asked }) } → Took old event came turn asked new
+    → new ≡ record mid { last = Some (record receipt { asked = asked }) } → Took s old event came turn asked new
 took {old} {mid} {new} {event} {came} {turn} s journal asked {receipt} turn_is is counted kept = record {
-  settings = s;
   before = history [] journal;
   turn_is = turn_is;
   caller_is =
@@ -57,7 +65,7 @@ asked_is answer key held before nothing = ap (λ (o : Option Asked). asked_at (n
 pub takes : {old mid new : CallerSeen ReceiptSeen} {event : Event} {came : Bool} {turn : Turn} {answer : Answer} (s : Settings) (journal : List Entry) (key : Option Key) (held : Bool) (receipt : ReceiptSeen)
     → turn ≡ turn_at s (history [] journal) event → receipt ≡ receipt_of event came turn (length journal) old.count → mid ≡ entered turn old
     → new ≡ record mid { last = Some (record receipt { asked = asked_at (not (was_refused turn.answer)) key held receipt.asked }) } → answer ≡ turn.answer
-    → Takes old event came answer (asked_for answer key held) new
+    → Takes s old event came answer (asked_for answer key held) new
 takes {old} {mid} {new} {event} {came} {turn} {answer} s journal key held receipt turn_is is counted kept same = record {
   turn = turn;
   answer_is = sym same;
@@ -75,9 +83,9 @@ numbered s h event turn told is = go turn.answer (ap (λ (t : Turn). t.answer) i
     go (refused refusal) same = tt
 
 -- a refused event stops, with its refusal
-pub stops : {old new : CallerSeen ReceiptSeen} {event : Event} {came evicts : Bool} (answer : Answer) (key : Option Key) (held : Bool) (why : SessionError)
-    → TakesAndFinishes evicts old event came answer (asked_for answer key held) new → IsRefusal answer why → Stops evicts old new event came why
-stops {old} {new} {event} {came} {evicts} answer key held (Refused refusal) by is = subst (λ (a : Answer). TakesAndFinishes evicts old event came a (asked_for a key held) new) is by
+pub stops : {s : Settings} {old new : CallerSeen ReceiptSeen} {event : Event} {came evicts : Bool} (answer : Answer) (key : Option Key) (held : Bool) (why : SessionError)
+    → TakesAndFinishes s evicts old event came answer (asked_for answer key held) new → IsRefusal answer why → Stops s evicts old new event came why
+stops {s} {old} {new} {event} {came} {evicts} answer key held (Refused refusal) by is = subst (λ (a : Answer). TakesAndFinishes s evicts old event came a (asked_for a key held) new) is by
 stops answer key held NoMemory by is = absurd is
 stops answer key held OtherSession by is = is
 

@@ -23,21 +23,20 @@ asks_queryables (QuerierGet id inquiry to) = true
 asks_queryables (Net message) = is_request message
 asks_queryables event = false
 
--- the session took that event beside the one that the call names: the caller counts one event more, with the messages of its turn, and
--- keeps the receipt that it has
-pub record Adds (event : Event) (old new : CallerSeen ReceiptSeen) : Type 0 where
-  pub settings : Settings
+-- the session of those settings took that event beside the one that the call names: the caller counts one event more, with the messages
+-- of its turn, and keeps the receipt that it has
+pub record Adds (s : Settings) (event : Event) (old new : CallerSeen ReceiptSeen) : Type 0 where
   pub before : List Event
   pub turn : Turn
-  pub turn_is : turn ≡ turn_at settings before event
+  pub turn_is : turn ≡ turn_at s before event
   pub caller_is : new ≡ entered turn old
 
 -- the queries of these numbers were given back, each by one event
-abbrev pub AddsFinishes : List ℕ → CallerSeen ReceiptSeen → CallerSeen ReceiptSeen → Type 0
-AddsFinishes [] old new = new ≡ old
-AddsFinishes (value ∷ values) old new = (mid : CallerSeen ReceiptSeen) × (Adds (Finish value) old mid × AddsFinishes values mid new)
+abbrev pub AddsFinishes : Settings → List ℕ → CallerSeen ReceiptSeen → CallerSeen ReceiptSeen → Type 0
+AddsFinishes s [] old new = new ≡ old
+AddsFinishes s (value ∷ values) old new = (mid : CallerSeen ReceiptSeen) × (Adds s (Finish value) old mid × AddsFinishes s values mid new)
 
 -- some queries were given back, or none
-pub record AddsSome (old new : CallerSeen ReceiptSeen) : Type 0 where
+pub record AddsSome (s : Settings) (old new : CallerSeen ReceiptSeen) : Type 0 where
   pub values : List ℕ
-  pub finishes : AddsFinishes values old new
+  pub finishes : AddsFinishes s values old new

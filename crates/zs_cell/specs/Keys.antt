@@ -6,6 +6,7 @@ use Rattle.zs_keys.specs.declared.declaration.Declared.{Declared}
 use Rattle.zs_events.specs.declared.event.Event.TheVariants.{Key as declare_key}
 use Rattle.zs_events.specs.declared.key_arg.KeyArg.{KeyArg}
 use Rattle.zs_events.specs.declared.key_arg.KeyArg.TheVariants.{Text, Declared as declared_text}
+use Rattle.zs_core.specs.Types.{Settings}
 use Rattle.zs_books.specs.Callers.{CallerSeen}
 use Rattle.zs_held.specs.Receipts.{ReceiptSeen}
 use Rattle.zs_cell.specs.Steps.{Accepts}
@@ -25,9 +26,9 @@ abbrev pub declaration_of : ℕ → List ℕ → ℕ → Option Declared
 declaration_of tag text number = if nat_le number 65535 then Some (record { number = number; prefix_len = length text; tag = tag }) else None
 
 -- the session took the declaration of a key and accepted it: the key comes back, declared under the number that was answered
-pub record DeclaresKey (evicts : Bool) (old new : CallerSeen ReceiptSeen) (tag : ℕ) (key made : Key) : Type 0 where
+pub record DeclaresKey (s : Settings) (evicts : Bool) (old new : CallerSeen ReceiptSeen) (tag : ℕ) (key made : Key) : Type 0 where
   pub number : ℕ
-  pub accepts : Accepts evicts old new (declare_key (key_arg tag key)) false (Some number)
+  pub accepts : Accepts s evicts old new (declare_key (key_arg tag key)) false (Some number)
   pub made_is : made ≡ record key { declaration = declaration_of tag key.text number }
 
 -- whether a declaration is one of a whole text of that length, by a session of another tag

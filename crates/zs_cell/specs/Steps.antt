@@ -17,29 +17,28 @@ use Rattle.zs_cell.specs.declared.error.SessionError.{SessionError}
 use Rattle.zs_cell.specs.declared.error.SessionError.TheVariants.{Refused, OtherSession, NoMemory}
 use Rattle.zs_cell.specs.Further.{AddsFinishes, asks_queryables}
 
--- the session took the event, which came with a handler or not, and made this turn of it, that of the event behind those that it had
--- taken before: the caller counts one event more, with the messages of its turn, and has the receipt for it, which says which gate the
--- session was asked for in the same hold of its lock, if it was asked for one, and whether it still held it
-pub record Took (old : CallerSeen ReceiptSeen) (event : Event) (came : Bool) (turn : Turn) (asked : Option Asked) (new : CallerSeen ReceiptSeen) : Type 0 where
-  pub settings : Settings
+-- the session of those settings took the event, which came with a handler or not, and made this turn of it, that of the event behind those
+-- that it had taken before: the caller counts one event more, with the messages of its turn, and has the receipt for it, which says which
+-- gate the session was asked for in the same hold of its lock, if it was asked for one, and whether it still held it
+pub record Took (s : Settings) (old : CallerSeen ReceiptSeen) (event : Event) (came : Bool) (turn : Turn) (asked : Option Asked) (new : CallerSeen ReceiptSeen) : Type 0 where
   pub before : List Event
-  pub turn_is : turn ≡ turn_at settings before event
+  pub turn_is : turn ≡ turn_at s before event
   pub caller_is : new ≡ record (entered turn old) { last = Some (record (receipt_of event came turn (length before) old.count) { asked = asked }) }
 
 -- the same, by what the event was answered
-pub record Takes (old : CallerSeen ReceiptSeen) (event : Event) (came : Bool) (answer : Answer) (asked : Option Asked) (new : CallerSeen ReceiptSeen) : Type 0 where
+pub record Takes (s : Settings) (old : CallerSeen ReceiptSeen) (event : Event) (came : Bool) (answer : Answer) (asked : Option Asked) (new : CallerSeen ReceiptSeen) : Type 0 where
   pub turn : Turn
   pub answer_is : turn.answer ≡ answer
-  pub took : Took old event came turn asked new
+  pub took : Took s old event came turn asked new
 
 -- and then gave back queries that came back from handlers, each by one event more: none, where the type of the handlers, which gives up
 -- items or not, gives up none, and the event asks no queryables
-pub record TakesAndFinishes (evicts : Bool) (old : CallerSeen ReceiptSeen) (event : Event) (came : Bool) (answer : Answer) (asked : Option Asked) (new : CallerSeen ReceiptSeen) : Type 0 where
+pub record TakesAndFinishes (s : Settings) (evicts : Bool) (old : CallerSeen ReceiptSeen) (event : Event) (came : Bool) (answer : Answer) (asked : Option Asked) (new : CallerSeen ReceiptSeen) : Type 0 where
   pub taken : CallerSeen ReceiptSeen
-  pub takes : Takes old event came answer asked taken
+  pub takes : Takes s old event came answer asked taken
   pub values : List ℕ
   pub none_come_back : evicts ≡ false → asks_queryables event ≡ false → values ≡ []
-  pub finishes : AddsFinishes values taken new
+  pub finishes : AddsFinishes s values taken new
 
 -- an accepted event is answered a number exactly where its kind draws one, or asks for a status
 abbrev pub IsNumbered : Event → Answer → Type 0
@@ -57,26 +56,26 @@ abbrev pub asked_for : Answer → Option Key → Bool → Option Asked
 asked_for answer key held = if was_refused answer then None else asked_of key held
 
 -- the session took the event and accepted it, with that number, and was asked for no gate
-abbrev pub Accepts : Bool → CallerSeen ReceiptSeen → CallerSeen ReceiptSeen → Event → Bool → Option ℕ → Type 0
-Accepts evicts old new event came number = TakesAndFinishes evicts old event came (accepted number) None new
+abbrev pub Accepts : Settings → Bool → CallerSeen ReceiptSeen → CallerSeen ReceiptSeen → Event → Bool → Option ℕ → Type 0
+Accepts s evicts old new event came number = TakesAndFinishes s evicts old event came (accepted number) None new
 
 -- the same where it was asked for the gate of that key, if there is one, and still held it or not
-abbrev pub AcceptsFor : Bool → CallerSeen ReceiptSeen → CallerSeen ReceiptSeen → Event → Bool → Option ℕ → Option Key → Bool → Type 0
-AcceptsFor evicts old new event came number key held = TakesAndFinishes evicts old event came (accepted number) (asked_of key held) new
+abbrev pub AcceptsFor : Settings → Bool → CallerSeen ReceiptSeen → CallerSeen ReceiptSeen → Event → Bool → Option ℕ → Option Key → Bool → Type 0
+AcceptsFor s evicts old new event came number key held = TakesAndFinishes s evicts old event came (accepted number) (asked_of key held) new
 
 -- the same of an event without a handler and a number, whether or not the session still held the gate
-pub record AcceptsAsking (evicts : Bool) (old new : CallerSeen ReceiptSeen) (event : Event) (key : Key) : Type 0 where
+pub record AcceptsAsking (s : Settings) (evicts : Bool) (old new : CallerSeen ReceiptSeen) (event : Event) (key : Key) : Type 0 where
   pub held : Bool
-  pub accepts : AcceptsFor evicts old new event false None (Some key) held
+  pub accepts : AcceptsFor s evicts old new event false None (Some key) held
 
 -- the session took the event and refused it, and was asked for no gate, or, where the call says another reason, didn't take it
-abbrev pub Stops : Bool → CallerSeen ReceiptSeen → CallerSeen ReceiptSeen → Event → Bool → SessionError → Type 0
-Stops evicts old new event came (Refused refusal) = TakesAndFinishes evicts old event came (refused refusal) None new
-Stops evicts old new event came NoMemory = new ≡ old
-Stops evicts old new event came OtherSession = ⊥
+abbrev pub Stops : Settings → Bool → CallerSeen ReceiptSeen → CallerSeen ReceiptSeen → Event → Bool → SessionError → Type 0
+Stops s evicts old new event came (Refused refusal) = TakesAndFinishes s evicts old event came (refused refusal) None new
+Stops s evicts old new event came NoMemory = new ≡ old
+Stops s evicts old new event came OtherSession = ⊥
 
 -- the same where the call may also be handed another session's value: then nothing was stepped either
-abbrev pub StopsOr : Bool → CallerSeen ReceiptSeen → CallerSeen ReceiptSeen → Event → Bool → SessionError → Type 0
-StopsOr evicts old new event came (Refused refusal) = TakesAndFinishes evicts old event came (refused refusal) None new
-StopsOr evicts old new event came NoMemory = new ≡ old
-StopsOr evicts old new event came OtherSession = new ≡ old
+abbrev pub StopsOr : Settings → Bool → CallerSeen ReceiptSeen → CallerSeen ReceiptSeen → Event → Bool → SessionError → Type 0
+StopsOr s evicts old new event came (Refused refusal) = TakesAndFinishes s evicts old event came (refused refusal) None new
+StopsOr s evicts old new event came NoMemory = new ≡ old
+StopsOr s evicts old new event came OtherSession = new ≡ old

@@ -1,6 +1,7 @@
 -- What an event that a session took leaves to do.
 use Rattle.std.specs.Prelude.{ℕ, ◌==◌, Bool, true, false, List, [], ◌∷◌, Option, Some, None, if◌then◌else◌}
 use Rattle.std.specs.List.{flat_map}
+use Rattle.atomic_table.specs.Seated.{TableId}
 use Rattle.zs_events.specs.declared.turn.Answer.{Answer}
 use Rattle.zs_events.specs.Turn.{was_refused}
 use Rattle.zs_posts.specs.declared.key.Key.{Key}
@@ -13,12 +14,14 @@ use Rattle.zs_turns.specs.Queries.{QuerySeen}
 use Rattle.zs_held.specs.declared.asked.Asked.{Asked}
 use Rattle.zs_held.specs.Receipts.{asked_of}
 
--- what the event was answered, the handler that is to go back, the passes that were lent for its calls, and whether a gate is waited for
+-- what the event was answered, the handler that is to go back, the passes that were lent for its calls, and whether a gate is waited
+-- for, with that gate
 pub record WorkSeen (H : Type 0) : Type 0 where
   pub answer : Answer
   pub back : Option H
   pub lents : List LentSeen
   pub waits : Bool
+  pub gate : Option TableId
 
 -- the passes of calls that were made, and what became of each item
 pub record WorkedSeen (D : Type 0) : Type 0 where

@@ -3,6 +3,7 @@ ghost use Rattle.std.specs.Prelude.{◌≡◌, [], ◌++◌, IfSome, IfNone, OnO
 ghost use Rattle.std.specs.Option.{option_to_list};
 ghost use Rattle.zs_cell.specs.Works.{query_in, returned_in, returned};
 
+use crate::ending::AllTold;
 use std::alloc::AllocError;
 use std::collections::VecDeque;
 use std::marker::Model;
@@ -103,7 +104,8 @@ fn next_query<D: Drop>(
     None
 }
 
-/// What became of each item that was handed out, in order. It can't be let go before the queries are taken out that came back.
+/// What became of each item that was handed out, in order. It can't be let go before the queries are taken out that came back, nor
+/// before the session was asked for what has ended behind the calls that are reported.
 pub(crate) struct Reports<D> {
     items: VecDeque<Handed<Item, D>>,
 }
@@ -136,21 +138,23 @@ impl<D: Drop> Reports<D> {
         next_query(tag, asks, &mut self.items)
     }
 
-    // Puts others behind these. Want of memory lets them go.
-    pub(crate) fn add(&mut self, more: Reports<D>) -> Result<(), AllocError>
+    // Puts others behind these, for whose calls all ends were told too. Want of memory lets them go.
+    pub(crate) fn add(&mut self, more: Reports<D>, told: AllTold) -> Result<(), AllocError>
         ensures ok { OnOk result (self.new ≡ self.old ++ more) }
         ensures err { OnErr result (self.new ≡ self.old) }
     {
+        drop(told);
         let Reports { mut items } = more;
         let added = self.items.append(&mut items);
         drop(items);
         added
     }
 
-    // Lets none go.
-    pub(crate) fn end(self)
+    // Lets none go, once all ends were told that came with the calls.
+    pub(crate) fn end(self, told: AllTold)
         requires { self ≡ [] }
     {
+        drop(told);
         let Reports { items } = self;
         drop(items);
     }

@@ -122,7 +122,7 @@ pub(crate) fn take_held<H: Drop, D: Drop, B: Books>(
     caller: &mut Caller<B>,
 ) -> Result<Work<H, D>, NotNow<H>>
     requires { is_some handler ≡ true → takes_handler event ≡ true }
-    ensures ok { IfOk result (λ work. Takes caller.old event (is_some handler) work.answer (asked_for work.answer key work.waits) caller.new) }
+    ensures ok { IfOk result (λ work. Takes B.Entries.settings caller.old event (is_some handler) work.answer (asked_for work.answer key work.waits) caller.new) }
     ensures numbered { IfOk result (λ work. IsNumbered event work.answer) }
     ensures back { IfOk result (λ work. work.back ≡ back_at work.answer (option_map arc_value handler)) }
     ensures lents { IfOk result (λ work. AreOfRoom held.old.session.exchange.posts.room work.lents) }
@@ -134,7 +134,10 @@ pub(crate) fn take_held<H: Drop, D: Drop, B: Books>(
 {
     numbers_are_told();
     match held.take(event, handler, caller) {
-        Ok(given) => Ok(receive(held, given, key, caller)),
+        Ok(given) => {
+            let _ = held.journal();
+            Ok(receive(held, given, key, caller))
+        }
         Err(refused) => Err(not_now(refused)),
     }
 }
@@ -170,14 +173,17 @@ pub(crate) fn take_more<H: Drop, D: Drop, B: Books>(
     event: Shared<Event>,
     caller: &mut Caller<B>,
 ) -> Result<Work<H, D>, NoPass>
-    ensures ok { OnOk result (Adds event caller.old caller.new) }
+    ensures ok { OnOk result (Adds B.Entries.settings event caller.old caller.new) }
     ensures lents { IfOk result (λ work. AreOfRoom held.old.session.exchange.posts.room work.lents) }
     ensures waits { IfOk result (λ work. work.waits ≡ false) }
     ensures room { held.new.session.exchange.posts.room ≡ held.old.session.exchange.posts.room }
     ensures err { OnErr result (caller.new ≡ caller.old) }
 {
     match held.take(event, None, caller) {
-        Ok(given) => Ok(without_receipt(given)),
+        Ok(given) => {
+            let _ = held.journal();
+            Ok(without_receipt(given))
+        }
         Err(refused) => Err(why_not(refused)),
     }
 }

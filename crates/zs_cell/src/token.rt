@@ -67,8 +67,8 @@ impl<H: Handler<Item> + Drop, B: Books> SessionToken<H, B> {
     ///
     /// `Refused` where the event was taken and refused, else `NoMemory`.
     pub fn cancel<R: Wait>(&self, rt: &R, caller: &mut Caller<B>) -> Result<(), SessionError>
-        ensures ok { OnOk result (AcceptsAsking H.evicts caller.old caller.new (Cancel self.now.number) (Key.CancelToken self.now.number)) }
-        ensures err { IfErr result (λ why. Stops H.evicts caller.old caller.new (Cancel self.now.number) false why) }
+        ensures ok { OnOk result (AcceptsAsking B.Entries.settings H.evicts caller.old caller.new (Cancel self.now.number) (Key.CancelToken self.now.number)) }
+        ensures err { IfErr result (λ why. Stops B.Entries.settings H.evicts caller.old caller.new (Cancel self.now.number) false why) }
     {
         let event = Event::Cancel {
             cancellation_token: self.number,

@@ -25,13 +25,13 @@ pub(crate) struct Work<H, D> {
 }
 
 impl<H, D> Model for Work<H, D> {
-    ghost use Rattle.std.specs.Prelude.{map, is_some};
+    ghost use Rattle.std.specs.Prelude.{map, is_some, option_map};
     ghost use Rattle.zs_posts.specs.Calls.{call_seen, all_lents};
     ghost use Rattle.zs_cell.specs.Works.{WorkSeen};
 
     ghost Value = { WorkSeen H };
 
-    ghost view = { λ w. record { answer = w.handing.turn.answer; back = w.handing.back; lents = all_lents (map call_seen w.handing.calls); waits = is_some w.closing } };
+    ghost view = { λ w. record { answer = w.handing.turn.answer; back = w.handing.back; lents = all_lents (map call_seen w.handing.calls); waits = is_some w.closing; gate = option_map (λ c. c.draining.gate) w.closing } };
 }
 
 /// Calls that were made, with the passes that go back. Contracts see the passes, and what became of each item.
@@ -51,7 +51,7 @@ impl<D> Model for Worked<D> {
 impl<H: Drop, D: Drop> Work<H, D> {
     #[tactic(none)]
     pub(crate) fn of(handing: Handing<H, D>, closing: Option<Closing<H>>) -> Work<H, D>
-        ensures { result ≡ record { answer = handing.turn.answer; back = handing.back; lents = all_lents (map call_seen handing.calls); waits = is_some closing } }
+        ensures { result ≡ record { answer = handing.turn.answer; back = handing.back; lents = all_lents (map call_seen handing.calls); waits = is_some closing; gate = option_map (λ c. c.draining.gate) closing } }
     {
         Work { handing, closing }
     }
@@ -79,6 +79,7 @@ impl<H: Drop, D: Drop> Work<H, D> {
         H: Handler<Item, Done = D>,
         ensures room { (room : TableId) → AreOfRoom room self.lents → AreOfRoom room result.0.lents }
         ensures closing { is_some result.1 ≡ self.waits }
+        ensures gate { option_map (λ c. c.draining.gate) result.1 ≡ self.gate }
         ensures kept { H.evicts ≡ false → (tag : ℕ) → returned tag false result.0.reports ≡ [] }
     {
         let Work { handing, closing } = self;

@@ -28,8 +28,8 @@ pub fn declare<H: Handler<Item> + Drop, B: Books, R: Wait>(
 ) -> Result<u32, NotSubmitted<H>>
     requires handler { takes_handler event ≡ true }
     requires number { numbered_at event ≡ true }
-    ensures ok { IfOk result (λ id. Accepts H.evicts caller.old caller.new event (is_some (option_map arc_value handler)) (Some id)) }
-    ensures err { IfErr result (λ back. Stops H.evicts caller.old caller.new event (is_some (option_map arc_value handler)) back.why) }
+    ensures ok { IfOk result (λ id. Accepts B.Entries.settings H.evicts caller.old caller.new event (is_some (option_map arc_value handler)) (Some id)) }
+    ensures err { IfErr result (λ back. Stops B.Entries.settings H.evicts caller.old caller.new event (is_some (option_map arc_value handler)) back.why) }
     ensures handler { IfErr result (λ back. option_map arc_value back.handler ≡ option_map arc_value handler) }
 {
     match handler {
@@ -50,8 +50,8 @@ pub fn declare_alone<H: Handler<Item> + Drop, B: Books, R: Wait>(
     caller: &mut Caller<B>,
 ) -> Result<u32, SessionError>
     requires { numbered_at event ≡ true }
-    ensures ok { IfOk result (λ id. Accepts H.evicts caller.old caller.new event false (Some id)) }
-    ensures err { IfErr result (λ why. Stops H.evicts caller.old caller.new event false why) }
+    ensures ok { IfOk result (λ id. Accepts B.Entries.settings H.evicts caller.old caller.new event false (Some id)) }
+    ensures err { IfErr result (λ why. Stops B.Entries.settings H.evicts caller.old caller.new event false why) }
 {
     match session.ask(rt, event, None, caller) {
         Ok(id) => Ok(id),
@@ -75,8 +75,8 @@ pub fn leave<H: Handler<Item> + Drop, B: Books, R: Wait>(
     id: u32,
     caller: &mut Caller<B>,
 ) -> Result<(), SessionError>
-    ensures ok { OnOk result (Accepts H.evicts caller.old caller.new (Background kind id) false None) }
-    ensures err { IfErr result (λ why. Stops H.evicts caller.old caller.new (Background kind id) false why) }
+    ensures ok { OnOk result (Accepts B.Entries.settings H.evicts caller.old caller.new (Background kind id) false None) }
+    ensures err { IfErr result (λ why. Stops B.Entries.settings H.evicts caller.old caller.new (Background kind id) false why) }
 {
     session.tell(rt, background(kind, id), caller)
 }
@@ -86,7 +86,8 @@ fn wait_for<H: Handler<Item> + Drop, R: Wait>(
     rt: &R,
     closing: Option<Closing<H>>,
 ) -> Option<Drained>
-    ensures { is_some result ≡ is_some closing }
+    ensures held { is_some result ≡ is_some closing }
+    ensures gate { result ≡ option_map (λ c. c.draining.gate) closing }
 {
     match closing {
         Some(closing) => {
@@ -112,9 +113,9 @@ pub fn undeclare<H: Handler<Item> + Drop, B: Books, R: Wait>(
     waits: bool,
     caller: &mut Caller<B>,
 ) -> Result<Option<Drained>, SessionError>
-    ensures ok { IfOk result (λ drained. AcceptsFor H.evicts caller.old caller.new (Undeclare kind id) false None (waited_key waits (Undeclare kind id)) (is_some drained)) }
+    ensures ok { IfOk result (λ drained. AcceptsFor B.Entries.settings H.evicts caller.old caller.new (Undeclare kind id) false None (waited_key waits (Undeclare kind id)) (is_some drained)) }
     ensures at_once { waits ≡ false → IfOk result (λ drained. drained ≡ None) }
-    ensures err { IfErr result (λ why. Stops H.evicts caller.old caller.new (Undeclare kind id) false why) }
+    ensures err { IfErr result (λ why. Stops B.Entries.settings H.evicts caller.old caller.new (Undeclare kind id) false why) }
 {
     let event = undeclaration(kind, id);
     if waits {
@@ -142,8 +143,8 @@ pub fn status<H: Handler<Item> + Drop, B: Books, R: Wait>(
     id: u32,
     caller: &mut Caller<B>,
 ) -> Result<MatchingStatus, SessionError>
-    ensures ok { IfOk result (λ matching. Tells H.evicts caller.old caller.new parent id matching) }
-    ensures err { IfErr result (λ why. Stops H.evicts caller.old caller.new (Status parent id) false why) }
+    ensures ok { IfOk result (λ matching. Tells B.Entries.settings H.evicts caller.old caller.new parent id matching) }
+    ensures err { IfErr result (λ why. Stops B.Entries.settings H.evicts caller.old caller.new (Status parent id) false why) }
 {
     match declare_alone(session, rt, matching_status(parent, id), caller) {
         Ok(number) => Ok(MatchingStatus::of(number != 0)),

@@ -103,8 +103,8 @@ impl<'a, H: Handler<Item> + Drop, B: Books> LivelinessGetBuilder<'a, H, B> {
     ///
     /// `Refused` where the session took the get and refused it, else `NoMemory`. The handler comes back.
     pub fn wait<R: Wait>(mut self, rt: &R, caller: &mut Caller<B>) -> Result<u32, NotSubmitted<H>>
-        ensures ok { IfOk result (λ number. Accepts H.evicts caller.old caller.new (liveliness_get_event self.entry) (is_some self.entry.handler) (Some number)) }
-        ensures err { IfErr result (λ back. Stops H.evicts caller.old caller.new (liveliness_get_event self.entry) (is_some self.entry.handler) back.why) }
+        ensures ok { IfOk result (λ number. Accepts B.Entries.settings H.evicts caller.old caller.new (liveliness_get_event self.entry) (is_some self.entry.handler) (Some number)) }
+        ensures err { IfErr result (λ back. Stops B.Entries.settings H.evicts caller.old caller.new (liveliness_get_event self.entry) (is_some self.entry.handler) back.why) }
         ensures handler { IfErr result (λ back. option_map arc_value back.handler ≡ self.entry.handler) }
     {
         let session = self.session;

@@ -73,8 +73,8 @@ impl<'a, H, B: Books> MatchingListenerBuilder<'a, H, B> {
 impl<'a, H: Handler<Item> + Drop, B: Books> MatchingListenerBuilder<'a, H, B> {
     // Declares it: its number.
     fn declare<R: Wait>(&mut self, rt: &R, caller: &mut Caller<B>) -> Result<u32, NotSubmitted<H>>
-        ensures ok { IfOk result (λ id. Accepts H.evicts caller.old caller.new (listener_event self.old) (is_some self.old.handler) (Some id)) }
-        ensures err { IfErr result (λ back. Stops H.evicts caller.old caller.new (listener_event self.old) (is_some self.old.handler) back.why) }
+        ensures ok { IfOk result (λ id. Accepts B.Entries.settings H.evicts caller.old caller.new (listener_event self.old) (is_some self.old.handler) (Some id)) }
+        ensures err { IfErr result (λ back. Stops B.Entries.settings H.evicts caller.old caller.new (listener_event self.old) (is_some self.old.handler) back.why) }
         ensures handler { IfErr result (λ back. option_map arc_value back.handler ≡ self.old.handler) }
         ensures rest { self.new ≡ record self.old { handler = None } }
     {
@@ -95,9 +95,9 @@ impl<'a, H: Handler<Item> + Drop, B: Books> MatchingListenerBuilder<'a, H, B> {
         rt: &R,
         caller: &mut Caller<B>,
     ) -> Result<MatchingListener<'a, H, B>, NotSubmitted<H>>
-        ensures ok { IfOk result (λ made. Accepts H.evicts caller.old caller.new (listener_event self.entry) (is_some self.entry.handler) (Some made.id)) }
+        ensures ok { IfOk result (λ made. Accepts B.Entries.settings H.evicts caller.old caller.new (listener_event self.entry) (is_some self.entry.handler) (Some made.id)) }
         ensures session { IfOk result (λ made. made.session ≡ self.entry.session) }
-        ensures err { IfErr result (λ back. Stops H.evicts caller.old caller.new (listener_event self.entry) (is_some self.entry.handler) back.why) }
+        ensures err { IfErr result (λ back. Stops B.Entries.settings H.evicts caller.old caller.new (listener_event self.entry) (is_some self.entry.handler) back.why) }
         ensures handler { IfErr result (λ back. option_map arc_value back.handler ≡ self.entry.handler) }
     {
         let session = self.session;
@@ -116,8 +116,8 @@ impl<'a, H: Handler<Item> + Drop, B: Books> BackgroundBuilder<MatchingListenerBu
     /// `Refused` where the session took the event and refused it, as where its publisher or querier has ended, else `NoMemory`. The
     /// handler comes back.
     pub fn wait<R: Wait>(self, rt: &R, caller: &mut Caller<B>) -> Result<u32, NotSubmitted<H>>
-        ensures ok { IfOk result (λ id. Accepts H.evicts caller.old caller.new (listener_event self.entry) (is_some self.entry.handler) (Some id)) }
-        ensures err { IfErr result (λ back. Stops H.evicts caller.old caller.new (listener_event self.entry) (is_some self.entry.handler) back.why) }
+        ensures ok { IfOk result (λ id. Accepts B.Entries.settings H.evicts caller.old caller.new (listener_event self.entry) (is_some self.entry.handler) (Some id)) }
+        ensures err { IfErr result (λ back. Stops B.Entries.settings H.evicts caller.old caller.new (listener_event self.entry) (is_some self.entry.handler) back.why) }
         ensures handler { IfErr result (λ back. option_map arc_value back.handler ≡ self.entry.handler) }
     {
         let mut builder = self.into_builder();

@@ -172,8 +172,8 @@ impl<'a, H: Handler<Item> + Drop, B: Books> Publisher<'a, H, B> {
         sample: Sample,
         caller: &mut Caller<B>,
     ) -> Result<(), SessionError>
-        ensures ok { OnOk result (Accepts H.evicts caller.old caller.new (sent_event self.now sample) false None) }
-        ensures err { IfErr result (λ why. Stops H.evicts caller.old caller.new (sent_event self.now sample) false why) }
+        ensures ok { OnOk result (Accepts B.Entries.settings H.evicts caller.old caller.new (sent_event self.now sample) false None) }
+        ensures err { IfErr result (λ why. Stops B.Entries.settings H.evicts caller.old caller.new (sent_event self.now sample) false why) }
     {
         let SampleFields {
             key_expr,
@@ -212,8 +212,8 @@ impl<'a, H: Handler<Item> + Drop, B: Books> Publisher<'a, H, B> {
         rt: &R,
         caller: &mut Caller<B>,
     ) -> Result<MatchingStatus, SessionError>
-        ensures ok { IfOk result (λ matching. Tells H.evicts caller.old caller.new publisher_parent self.now.id matching) }
-        ensures err { IfErr result (λ why. Stops H.evicts caller.old caller.new (Status publisher_parent self.now.id) false why) }
+        ensures ok { IfOk result (λ matching. Tells B.Entries.settings H.evicts caller.old caller.new publisher_parent self.now.id matching) }
+        ensures err { IfErr result (λ why. Stops B.Entries.settings H.evicts caller.old caller.new (Status publisher_parent self.now.id) false why) }
     {
         status(self.session, rt, ParentKind::Pub, self.id, caller)
     }
@@ -225,9 +225,9 @@ impl<'a, H: Handler<Item> + Drop, B: Books> Publisher<'a, H, B> {
         waits: bool,
         caller: &mut Caller<B>,
     ) -> Result<Option<Drained>, SessionError>
-        ensures ok { IfOk result (λ drained. AcceptsFor H.evicts caller.old caller.new (Undeclare publisher_kind self.now.id) false None (waited_key waits (Undeclare publisher_kind self.now.id)) (is_some drained)) }
+        ensures ok { IfOk result (λ drained. AcceptsFor B.Entries.settings H.evicts caller.old caller.new (Undeclare publisher_kind self.now.id) false None (waited_key waits (Undeclare publisher_kind self.now.id)) (is_some drained)) }
         ensures at_once { waits ≡ false → IfOk result (λ drained. drained ≡ None) }
-        ensures err { IfErr result (λ why. Stops H.evicts caller.old caller.new (Undeclare publisher_kind self.now.id) false why) }
+        ensures err { IfErr result (λ why. Stops B.Entries.settings H.evicts caller.old caller.new (Undeclare publisher_kind self.now.id) false why) }
     {
         undeclare(self.session, rt, EntityKind::Pub, self.id, waits, caller)
     }
@@ -245,9 +245,9 @@ impl<'a, H: Handler<Item> + Drop, B: Books> Undeclaration<Publisher<'a, H, B>> {
         rt: &R,
         caller: &mut Caller<B>,
     ) -> Result<Option<Drained>, Unspent<Publisher<'a, H, B>>>
-        ensures ok { IfOk result (λ drained. AcceptsFor H.evicts caller.old caller.new (Undeclare publisher_kind self.entry.value.id) false None (waited_key self.entry.waits (Undeclare publisher_kind self.entry.value.id)) (is_some drained)) }
+        ensures ok { IfOk result (λ drained. AcceptsFor B.Entries.settings H.evicts caller.old caller.new (Undeclare publisher_kind self.entry.value.id) false None (waited_key self.entry.waits (Undeclare publisher_kind self.entry.value.id)) (is_some drained)) }
         ensures at_once { self.entry.waits ≡ false → IfOk result (λ drained. drained ≡ None) }
-        ensures err { IfErr result (λ back. Stops H.evicts caller.old caller.new (Undeclare publisher_kind self.entry.value.id) false back.why) }
+        ensures err { IfErr result (λ back. Stops B.Entries.settings H.evicts caller.old caller.new (Undeclare publisher_kind self.entry.value.id) false back.why) }
         ensures back { IfErr result (λ back. back.value ≡ self.entry.value) }
     {
         let (value, waits) = self.into_parts();

@@ -158,8 +158,8 @@ impl<'a, H: Handler<Item> + Drop, B: Books> Querier<'a, H, B> {
         rt: &R,
         caller: &mut Caller<B>,
     ) -> Result<MatchingStatus, SessionError>
-        ensures ok { IfOk result (λ matching. Tells H.evicts caller.old caller.new querier_parent self.now.id matching) }
-        ensures err { IfErr result (λ why. Stops H.evicts caller.old caller.new (Status querier_parent self.now.id) false why) }
+        ensures ok { IfOk result (λ matching. Tells B.Entries.settings H.evicts caller.old caller.new querier_parent self.now.id matching) }
+        ensures err { IfErr result (λ why. Stops B.Entries.settings H.evicts caller.old caller.new (Status querier_parent self.now.id) false why) }
     {
         status(self.session, rt, ParentKind::Querier, self.id, caller)
     }
@@ -171,9 +171,9 @@ impl<'a, H: Handler<Item> + Drop, B: Books> Querier<'a, H, B> {
         waits: bool,
         caller: &mut Caller<B>,
     ) -> Result<Option<Drained>, SessionError>
-        ensures ok { IfOk result (λ drained. AcceptsFor H.evicts caller.old caller.new (Undeclare querier_kind self.now.id) false None (waited_key waits (Undeclare querier_kind self.now.id)) (is_some drained)) }
+        ensures ok { IfOk result (λ drained. AcceptsFor B.Entries.settings H.evicts caller.old caller.new (Undeclare querier_kind self.now.id) false None (waited_key waits (Undeclare querier_kind self.now.id)) (is_some drained)) }
         ensures at_once { waits ≡ false → IfOk result (λ drained. drained ≡ None) }
-        ensures err { IfErr result (λ why. Stops H.evicts caller.old caller.new (Undeclare querier_kind self.now.id) false why) }
+        ensures err { IfErr result (λ why. Stops B.Entries.settings H.evicts caller.old caller.new (Undeclare querier_kind self.now.id) false why) }
     {
         undeclare(
             self.session,
@@ -198,9 +198,9 @@ impl<'a, H: Handler<Item> + Drop, B: Books> Undeclaration<Querier<'a, H, B>> {
         rt: &R,
         caller: &mut Caller<B>,
     ) -> Result<Option<Drained>, Unspent<Querier<'a, H, B>>>
-        ensures ok { IfOk result (λ drained. AcceptsFor H.evicts caller.old caller.new (Undeclare querier_kind self.entry.value.id) false None (waited_key self.entry.waits (Undeclare querier_kind self.entry.value.id)) (is_some drained)) }
+        ensures ok { IfOk result (λ drained. AcceptsFor B.Entries.settings H.evicts caller.old caller.new (Undeclare querier_kind self.entry.value.id) false None (waited_key self.entry.waits (Undeclare querier_kind self.entry.value.id)) (is_some drained)) }
         ensures at_once { self.entry.waits ≡ false → IfOk result (λ drained. drained ≡ None) }
-        ensures err { IfErr result (λ back. Stops H.evicts caller.old caller.new (Undeclare querier_kind self.entry.value.id) false back.why) }
+        ensures err { IfErr result (λ back. Stops B.Entries.settings H.evicts caller.old caller.new (Undeclare querier_kind self.entry.value.id) false back.why) }
         ensures back { IfErr result (λ back. back.value ≡ self.entry.value) }
     {
         let (value, waits) = self.into_parts();

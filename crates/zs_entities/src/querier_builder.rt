@@ -216,9 +216,9 @@ impl<'a, H: Handler<Item> + Drop, B: Books> QuerierBuilder<'a, H, B> {
         rt: &R,
         caller: &mut Caller<B>,
     ) -> Result<Querier<'a, H, B>, SessionError>
-        ensures ok { IfOk result (λ made. Accepts H.evicts caller.old caller.new (querier_event self.entry) false (Some made.id)) }
+        ensures ok { IfOk result (λ made. Accepts B.Entries.settings H.evicts caller.old caller.new (querier_event self.entry) false (Some made.id)) }
         ensures made { IfOk result (λ made. made ≡ record { session = self.entry.session; id = made.id; key = self.entry.key; settings = self.entry.settings }) }
-        ensures err { IfErr result (λ why. Stops H.evicts caller.old caller.new (querier_event self.entry) false why) }
+        ensures err { IfErr result (λ why. Stops B.Entries.settings H.evicts caller.old caller.new (querier_event self.entry) false why) }
     {
         let session = self.session;
         let Ok(event) = self.event() else {

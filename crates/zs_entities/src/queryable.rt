@@ -91,8 +91,8 @@ impl<'a, H: Handler<Item> + Drop, B: Books> Queryable<'a, H, B> {
         rt: &R,
         caller: &mut Caller<B>,
     ) -> Result<(), Unspent<Queryable<'a, H, B>>>
-        ensures ok { OnOk result (Accepts H.evicts caller.old caller.new (Background left_queryable self.entry.id) false None) }
-        ensures err { IfErr result (λ back. Stops H.evicts caller.old caller.new (Background left_queryable self.entry.id) false back.why) }
+        ensures ok { OnOk result (Accepts B.Entries.settings H.evicts caller.old caller.new (Background left_queryable self.entry.id) false None) }
+        ensures err { IfErr result (λ back. Stops B.Entries.settings H.evicts caller.old caller.new (Background left_queryable self.entry.id) false back.why) }
         ensures back { IfErr result (λ back. back.value ≡ self.entry) }
     {
         match leave(self.session, rt, BackgroundKind::Queryable, self.id, caller) {
@@ -111,9 +111,9 @@ impl<'a, H: Handler<Item> + Drop, B: Books> Queryable<'a, H, B> {
         waits: bool,
         caller: &mut Caller<B>,
     ) -> Result<Option<Drained>, SessionError>
-        ensures ok { IfOk result (λ drained. AcceptsFor H.evicts caller.old caller.new (Undeclare queryable_kind self.now.id) false None (waited_key waits (Undeclare queryable_kind self.now.id)) (is_some drained)) }
+        ensures ok { IfOk result (λ drained. AcceptsFor B.Entries.settings H.evicts caller.old caller.new (Undeclare queryable_kind self.now.id) false None (waited_key waits (Undeclare queryable_kind self.now.id)) (is_some drained)) }
         ensures at_once { waits ≡ false → IfOk result (λ drained. drained ≡ None) }
-        ensures err { IfErr result (λ why. Stops H.evicts caller.old caller.new (Undeclare queryable_kind self.now.id) false why) }
+        ensures err { IfErr result (λ why. Stops B.Entries.settings H.evicts caller.old caller.new (Undeclare queryable_kind self.now.id) false why) }
     {
         undeclare(
             self.session,
@@ -138,9 +138,9 @@ impl<'a, H: Handler<Item> + Drop, B: Books> Undeclaration<Queryable<'a, H, B>> {
         rt: &R,
         caller: &mut Caller<B>,
     ) -> Result<Option<Drained>, Unspent<Queryable<'a, H, B>>>
-        ensures ok { IfOk result (λ drained. AcceptsFor H.evicts caller.old caller.new (Undeclare queryable_kind self.entry.value.id) false None (waited_key self.entry.waits (Undeclare queryable_kind self.entry.value.id)) (is_some drained)) }
+        ensures ok { IfOk result (λ drained. AcceptsFor B.Entries.settings H.evicts caller.old caller.new (Undeclare queryable_kind self.entry.value.id) false None (waited_key self.entry.waits (Undeclare queryable_kind self.entry.value.id)) (is_some drained)) }
         ensures at_once { self.entry.waits ≡ false → IfOk result (λ drained. drained ≡ None) }
-        ensures err { IfErr result (λ back. Stops H.evicts caller.old caller.new (Undeclare queryable_kind self.entry.value.id) false back.why) }
+        ensures err { IfErr result (λ back. Stops B.Entries.settings H.evicts caller.old caller.new (Undeclare queryable_kind self.entry.value.id) false back.why) }
         ensures back { IfErr result (λ back. back.value ≡ self.entry.value) }
     {
         let (value, waits) = self.into_parts();

@@ -122,8 +122,8 @@ impl<'a, H: Handler<Item> + Drop, B: Books> Subscriber<'a, H, B> {
         rt: &R,
         caller: &mut Caller<B>,
     ) -> Result<(), Unspent<Subscriber<'a, H, B>>>
-        ensures ok { OnOk result (Accepts H.evicts caller.old caller.new (leave_subscriber self.entry) false None) }
-        ensures err { IfErr result (λ back. Stops H.evicts caller.old caller.new (leave_subscriber self.entry) false back.why) }
+        ensures ok { OnOk result (Accepts B.Entries.settings H.evicts caller.old caller.new (leave_subscriber self.entry) false None) }
+        ensures err { IfErr result (λ back. Stops B.Entries.settings H.evicts caller.old caller.new (leave_subscriber self.entry) false back.why) }
         ensures back { IfErr result (λ back. back.value ≡ self.entry) }
     {
         let kind = left_kind(self.liveliness);
@@ -143,9 +143,9 @@ impl<'a, H: Handler<Item> + Drop, B: Books> Subscriber<'a, H, B> {
         waits: bool,
         caller: &mut Caller<B>,
     ) -> Result<Option<Drained>, SessionError>
-        ensures ok { IfOk result (λ drained. AcceptsFor H.evicts caller.old caller.new (end_subscriber self.now) false None (waited_key waits (end_subscriber self.now)) (is_some drained)) }
+        ensures ok { IfOk result (λ drained. AcceptsFor B.Entries.settings H.evicts caller.old caller.new (end_subscriber self.now) false None (waited_key waits (end_subscriber self.now)) (is_some drained)) }
         ensures at_once { waits ≡ false → IfOk result (λ drained. drained ≡ None) }
-        ensures err { IfErr result (λ why. Stops H.evicts caller.old caller.new (end_subscriber self.now) false why) }
+        ensures err { IfErr result (λ why. Stops B.Entries.settings H.evicts caller.old caller.new (end_subscriber self.now) false why) }
     {
         let kind = subscriber_kind(self.liveliness);
         undeclare(self.session, rt, kind, self.id, waits, caller)
@@ -164,9 +164,9 @@ impl<'a, H: Handler<Item> + Drop, B: Books> Undeclaration<Subscriber<'a, H, B>> 
         rt: &R,
         caller: &mut Caller<B>,
     ) -> Result<Option<Drained>, Unspent<Subscriber<'a, H, B>>>
-        ensures ok { IfOk result (λ drained. AcceptsFor H.evicts caller.old caller.new (end_subscriber self.entry.value) false None (waited_key self.entry.waits (end_subscriber self.entry.value)) (is_some drained)) }
+        ensures ok { IfOk result (λ drained. AcceptsFor B.Entries.settings H.evicts caller.old caller.new (end_subscriber self.entry.value) false None (waited_key self.entry.waits (end_subscriber self.entry.value)) (is_some drained)) }
         ensures at_once { self.entry.waits ≡ false → IfOk result (λ drained. drained ≡ None) }
-        ensures err { IfErr result (λ back. Stops H.evicts caller.old caller.new (end_subscriber self.entry.value) false back.why) }
+        ensures err { IfErr result (λ back. Stops B.Entries.settings H.evicts caller.old caller.new (end_subscriber self.entry.value) false back.why) }
         ensures back { IfErr result (λ back. back.value ≡ self.entry.value) }
     {
         let (value, waits) = self.into_parts();

@@ -1,5 +1,5 @@
 //! A session's cell with its books.
-ghost use Rattle.std.specs.Prelude.{◌≡◌, ◌↔◌, ◌+◌, [], ◌++◌, None, Some, true, IsTrue, IfSome, IfNone, IsSome, is_some, length, map, option_map, IfOk, IfErr, OnErr};
+ghost use Rattle.std.specs.Prelude.{◌≡◌, ◌↔◌, ◌<◌, ◌+◌, [], ◌++◌, None, Some, true, IsTrue, IfSome, IfNone, IsSome, is_some, length, map, option_map, IfOk, IfErr, OnErr};
 ghost use Rattle.std.specs.Arc.{arc_value};
 ghost use Rattle.std.specs.Option.{option_to_list};
 ghost use Rattle.zs_core.specs.Settings.{is_valid};
@@ -10,8 +10,8 @@ ghost use Rattle.zs_hands.specs.Answers.{AreOfRoom, ran_lents, reports_of};
 ghost use Rattle.zs_exchange.specs.Exchange.{IsNew};
 ghost use Rattle.zs_exchange.specs.Ends.{IsIdle, GivesOut, AreOf};
 ghost use Rattle.zs_session_cell.specs.Journals.{Advances, Follows, IsOverdrawn, closed_in, taken_in, handler_back};
-ghost use Rattle.zs_books.specs.Callers.{all_parts, new_caller};
-ghost use Rattle.zs_held.specs.Messages.{turn_messages};
+ghost use Rattle.zs_books.specs.Callers.{all_parts, most, new_caller};
+ghost use Rattle.zs_held.specs.Messages.{turn_messages, messages_of};
 ghost use Rattle.zs_held.specs.Receipts.{asked_of};
 ghost use Rattle.zs_held.specs.Held.{held_with, AreFew, receipt_of, entered, counted, drained_by, CountsAll};
 
@@ -281,6 +281,7 @@ impl<H: Drop, B: Books> Held<H, B> {
         ensures whole { all.old.parts ≡ all_parts → result ≡ Some all.old.count }
         ensures all { CountsAll all.old self.old → IsSome result }
         ensures only { AreFew self.old → IfSome result (λ _. CountsAll all.old self.old) }
+        ensures counts { all.old.parts ≡ all_parts → CountsAll all.old self.old }
     {
         let count = self.cell.journal().len() as u64;
         if self.accounts.are_all(all) {
@@ -308,6 +309,8 @@ impl<H: Drop, B: Books> Held<H, B> {
         ensures whole { all.old.parts ≡ all_parts → IfOk result (λ found. IsSome found) }
         ensures all { CountsAll all.old self.old → IfOk result (λ found. IsSome found) }
         ensures only { AreFew self.old → IfOk result (λ found. IfSome found (λ _. CountsAll all.old self.old)) }
+        ensures sent { all.old.parts ≡ all_parts → IfOk result (λ found. IfSome found (λ entries. length (messages_of entries) ≡ all.old.sent)) }
+        ensures few { IfOk result (λ found. IfSome found (λ entries. length (messages_of entries) < most → length (messages_of entries) ≡ all.old.sent)) }
     {
         match self.entries(all) {
             Some(_) => {

@@ -257,8 +257,8 @@ impl<'a, H: Handler<Item> + Drop, B: Books> PublicationBuilder<
     ///
     /// `Refused` where the session took the put and refused it, else `NoMemory`.
     pub fn wait<R: Wait>(self, rt: &R, caller: &mut Caller<B>) -> Result<(), SessionError>
-        ensures ok { OnOk result (Accepts H.evicts caller.old caller.new (session_put_event self.entry) false None) }
-        ensures err { IfErr result (λ why. Stops H.evicts caller.old caller.new (session_put_event self.entry) false why) }
+        ensures ok { OnOk result (Accepts B.Entries.settings H.evicts caller.old caller.new (session_put_event self.entry) false None) }
+        ensures err { IfErr result (λ why. Stops B.Entries.settings H.evicts caller.old caller.new (session_put_event self.entry) false why) }
     {
         let session = self.by.session();
         let Ok(event) = self.into_event(session.alloc()) else {
@@ -278,8 +278,8 @@ impl<'a, H: Handler<Item> + Drop, B: Books> PublicationBuilder<
     ///
     /// `Refused` where the session took the delete and refused it, else `NoMemory`.
     pub fn wait<R: Wait>(self, rt: &R, caller: &mut Caller<B>) -> Result<(), SessionError>
-        ensures ok { OnOk result (Accepts H.evicts caller.old caller.new (session_delete_event self.entry) false None) }
-        ensures err { IfErr result (λ why. Stops H.evicts caller.old caller.new (session_delete_event self.entry) false why) }
+        ensures ok { OnOk result (Accepts B.Entries.settings H.evicts caller.old caller.new (session_delete_event self.entry) false None) }
+        ensures err { IfErr result (λ why. Stops B.Entries.settings H.evicts caller.old caller.new (session_delete_event self.entry) false why) }
     {
         let session = self.by.session();
         let Ok(event) = self.into_event(session.alloc()) else {

@@ -42,9 +42,9 @@ impl<H: Handler<Item> + Drop, B: Books> Session<H, B> {
         caller: &mut Caller<B>,
     ) -> Result<Option<u32>, NotSubmitted<H>>
         requires { is_some handler ≡ true → takes_handler event ≡ true }
-        ensures ok { IfOk result (λ number. Accepts H.evicts caller.old caller.new event (is_some handler) number) }
+        ensures ok { IfOk result (λ number. Accepts B.Entries.settings H.evicts caller.old caller.new event (is_some handler) number) }
         ensures numbered { IfOk result (λ number. is_some number ≡ numbered_at event) }
-        ensures err { IfErr result (λ back. Stops H.evicts caller.old caller.new event (is_some handler) back.why) }
+        ensures err { IfErr result (λ back. Stops B.Entries.settings H.evicts caller.old caller.new event (is_some handler) back.why) }
         ensures handler { IfErr result (λ back. option_map arc_value back.handler ≡ option_map arc_value handler) }
     {
         match self.step(rt, event, handler, None, caller) {
@@ -67,8 +67,8 @@ impl<H: Handler<Item> + Drop, B: Books> Session<H, B> {
         caller: &mut Caller<B>,
     ) -> Result<Option<Closing<H>>, SessionError>
         requires { numbered_at event ≡ false }
-        ensures ok { IfOk result (λ closing. AcceptsFor H.evicts caller.old caller.new event false None key (is_some closing)) }
-        ensures err { IfErr result (λ why. Stops H.evicts caller.old caller.new event false why) }
+        ensures ok { IfOk result (λ closing. AcceptsFor B.Entries.settings H.evicts caller.old caller.new event false None key (is_some closing)) }
+        ensures err { IfErr result (λ why. Stops B.Entries.settings H.evicts caller.old caller.new event false why) }
     {
         match self.step(rt, event, None, key, caller) {
             Ok(stepped) => {
@@ -96,8 +96,8 @@ impl<H: Handler<Item> + Drop, B: Books> Session<H, B> {
         caller: &mut Caller<B>,
     ) -> Result<(), SessionError>
         requires { numbered_at event ≡ false }
-        ensures ok { OnOk result (Accepts H.evicts caller.old caller.new event false None) }
-        ensures err { IfErr result (λ why. Stops H.evicts caller.old caller.new event false why) }
+        ensures ok { OnOk result (Accepts B.Entries.settings H.evicts caller.old caller.new event false None) }
+        ensures err { IfErr result (λ why. Stops B.Entries.settings H.evicts caller.old caller.new event false why) }
     {
         match self.submit(rt, event, None, caller) {
             Ok(number) => {
@@ -126,8 +126,8 @@ impl<H: Handler<Item> + Drop, B: Books> Session<H, B> {
     ) -> Result<u32, NotSubmitted<H>>
         requires handler { is_some handler ≡ true → takes_handler event ≡ true }
         requires number { numbered_at event ≡ true }
-        ensures ok { IfOk result (λ number. Accepts H.evicts caller.old caller.new event (is_some handler) (Some number)) }
-        ensures err { IfErr result (λ back. Stops H.evicts caller.old caller.new event (is_some handler) back.why) }
+        ensures ok { IfOk result (λ number. Accepts B.Entries.settings H.evicts caller.old caller.new event (is_some handler) (Some number)) }
+        ensures err { IfErr result (λ back. Stops B.Entries.settings H.evicts caller.old caller.new event (is_some handler) back.why) }
         ensures handler { IfErr result (λ back. option_map arc_value back.handler ≡ option_map arc_value handler) }
     {
         match self.submit(rt, event, handler, caller) {
@@ -147,8 +147,8 @@ impl<H: Handler<Item> + Drop, B: Books> Session<H, B> {
         caller: &mut Caller<B>,
     ) -> Result<u32, SessionError>
         requires { numbered_at event ≡ true }
-        ensures ok { IfOk result (λ number. Accepts H.evicts caller.old caller.new event false (Some number)) }
-        ensures err { IfErr result (λ why. Stops H.evicts caller.old caller.new event false why) }
+        ensures ok { IfOk result (λ number. Accepts B.Entries.settings H.evicts caller.old caller.new event false (Some number)) }
+        ensures err { IfErr result (λ why. Stops B.Entries.settings H.evicts caller.old caller.new event false why) }
     {
         match self.ask(rt, event, None, caller) {
             Ok(number) => Ok(number),
@@ -182,8 +182,8 @@ impl<H: Handler<Item> + Drop, B: Books> Session<H, B> {
         caller: &mut Caller<B>,
     ) -> Result<(), SessionError>
         requires { numbered_at event ≡ false }
-        ensures ok { OnOk result (AcceptsAsking H.evicts caller.old caller.new event key) }
-        ensures err { IfErr result (λ why. Stops H.evicts caller.old caller.new event false why) }
+        ensures ok { OnOk result (AcceptsAsking B.Entries.settings H.evicts caller.old caller.new event key) }
+        ensures err { IfErr result (λ why. Stops B.Entries.settings H.evicts caller.old caller.new event false why) }
     {
         match self.tell_and_drain(rt, event, Some(key), caller) {
             Ok(closing) => {
@@ -205,8 +205,8 @@ impl<H: Handler<Item> + Drop, B: Books> Session<H, B> {
         now: u64,
         caller: &mut Caller<B>,
     ) -> Result<(), SessionError>
-        ensures ok { OnOk result (Accepts H.evicts caller.old caller.new (Tick now) false None) }
-        ensures err { IfErr result (λ why. Stops H.evicts caller.old caller.new (Tick now) false why) }
+        ensures ok { OnOk result (Accepts B.Entries.settings H.evicts caller.old caller.new (Tick now) false None) }
+        ensures err { IfErr result (λ why. Stops B.Entries.settings H.evicts caller.old caller.new (Tick now) false why) }
     {
         self.tell(rt, Event::Tick { now }, caller)
     }
@@ -222,8 +222,8 @@ impl<H: Handler<Item> + Drop, B: Books> Session<H, B> {
         message: Message,
         caller: &mut Caller<B>,
     ) -> Result<(), SessionError>
-        ensures ok { OnOk result (Accepts H.evicts caller.old caller.new (Net message) false None) }
-        ensures err { IfErr result (λ why. Stops H.evicts caller.old caller.new (Net message) false why) }
+        ensures ok { OnOk result (Accepts B.Entries.settings H.evicts caller.old caller.new (Net message) false None) }
+        ensures err { IfErr result (λ why. Stops B.Entries.settings H.evicts caller.old caller.new (Net message) false why) }
     {
         let Ok(message) = Shared::new(self.alloc(), message) else {
             return Err(SessionError::NoMemory);
@@ -243,9 +243,9 @@ impl<H: Handler<Item> + Drop, B: Books> Session<H, B> {
         wait_callbacks: bool,
         caller: &mut Caller<B>,
     ) -> Result<(), SessionError>
-        ensures waits { wait_callbacks ≡ true → OnOk result (AcceptsAsking H.evicts caller.old caller.new Close Key.Session) }
-        ensures at_once { wait_callbacks ≡ false → OnOk result (Accepts H.evicts caller.old caller.new Close false None) }
-        ensures err { IfErr result (λ why. Stops H.evicts caller.old caller.new Close false why) }
+        ensures waits { wait_callbacks ≡ true → OnOk result (AcceptsAsking B.Entries.settings H.evicts caller.old caller.new Close Key.Session) }
+        ensures at_once { wait_callbacks ≡ false → OnOk result (Accepts B.Entries.settings H.evicts caller.old caller.new Close false None) }
+        ensures err { IfErr result (λ why. Stops B.Entries.settings H.evicts caller.old caller.new Close false why) }
     {
         if wait_callbacks {
             self.tell_and_wait(rt, Event::Close, Key::Session, caller)
@@ -264,9 +264,9 @@ impl<H: Handler<Item> + Drop, B: Books> Session<H, B> {
         rt: &R,
         caller: &mut Caller<B>,
     ) -> Result<SessionToken<H, B>, SessionError>
-        ensures ok { IfOk result (λ token. Accepts H.evicts caller.old caller.new CancelToken false (Some token.number)) }
+        ensures ok { IfOk result (λ token. Accepts B.Entries.settings H.evicts caller.old caller.new CancelToken false (Some token.number)) }
         ensures session { IfOk result (λ token. token.session ≡ self.now) }
-        ensures err { IfErr result (λ why. Stops H.evicts caller.old caller.new CancelToken false why) }
+        ensures err { IfErr result (λ why. Stops B.Entries.settings H.evicts caller.old caller.new CancelToken false why) }
     {
         let Ok(session) = self.try_clone() else {
             return Err(SessionError::NoMemory);

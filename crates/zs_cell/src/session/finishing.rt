@@ -1,10 +1,11 @@
 //! Queries that come back from handlers, and that the session is told of: each is given back by one event more.
-ghost use Rattle.std.specs.Prelude.{◌≡◌, [], false, IfOk, OnOk, OnErr};
+ghost use Rattle.std.specs.Prelude.{◌≡◌, ◌⊎◌, [], false, IfOk, OnOk, OnErr};
 ghost use Rattle.zs_events.specs.declared.event.Event.TheVariants.{Finish};
 ghost use Rattle.zs_hands.specs.Answers.{AreOfRoom};
 ghost use Rattle.zs_cell.specs.Further.{Adds, AddsSome};
 ghost use Rattle.zs_cell.specs.Works.{returned};
 
+use crate::ending::AllTold;
 use crate::reports::{Reports, Returned};
 use crate::session::Session;
 use crate::taking::take_more;
@@ -30,7 +31,7 @@ impl<H: Handler<Item> + Drop, B: Books> Session<H, B> {
         event: &Shared<Event>,
         caller: &mut Caller<B>,
     ) -> Result<Work<H, H::Done>, NoPass>
-        ensures ok { OnOk result (Adds event.now caller.old caller.new) }
+        ensures ok { OnOk result (Adds B.Entries.settings event.now caller.old caller.new) }
         ensures lents { IfOk result (λ work. AreOfRoom self.now.lock.key work.lents) }
         ensures waits { IfOk result (λ work. work.waits ≡ false) }
         ensures err { OnErr result (caller.new ≡ caller.old) }
@@ -51,7 +52,7 @@ impl<H: Handler<Item> + Drop, B: Books> Session<H, B> {
         event: &Shared<Event>,
         caller: &mut Caller<B>,
     ) -> Result<Work<H, H::Done>, AllocError>
-        ensures ok { OnOk result (Adds event.now caller.old caller.new) }
+        ensures ok { OnOk result (Adds B.Entries.settings event.now caller.old caller.new) }
         ensures lents { IfOk result (λ work. AreOfRoom self.now.lock.key work.lents) }
         ensures waits { IfOk result (λ work. work.waits ≡ false) }
         ensures err { OnErr result (caller.new ≡ caller.old) }
@@ -66,27 +67,26 @@ impl<H: Handler<Item> + Drop, B: Books> Session<H, B> {
         unreachable!()
     }
 
-    // Makes the calls of an event that was taken, where no gate is waited for: what became of each item.
-    fn run<R: Wait>(&self, rt: &R, work: Work<H, H::Done>) -> Reports<H::Done>
+    // Makes the calls of an event that was taken, where no gate is waited for: what became of each item, once all ends were told.
+    fn run<R: Wait>(&self, rt: &R, work: Work<H, H::Done>) -> (Reports<H::Done>, AllTold)
         requires lents { AreOfRoom self.now.lock.key work.lents }
         requires waits { work.waits ≡ false }
     {
         let (worked, closing) = work.run(rt);
         let None = closing else { unreachable!() };
-        let (reports, told) = self.settle(rt, worked);
-        drop(told);
-        reports
+        self.settle(rt, worked)
     }
 
-    // Gives a query back that came back, by one event more: what became of the items that were handed out of it.
+    // Gives a query back that came back, by one event more: what became of the items that were handed out of it, once all ends
+    // were told.
     fn finish<R: Wait>(
         &self,
         rt: &R,
         query: Returned,
         caller: &mut Caller<B>,
-    ) -> Result<Reports<H::Done>, AllocError>
+    ) -> Result<(Reports<H::Done>, AllTold), AllocError>
         requires { query.tag ≡ self.now.tag }
-        ensures ok { OnOk result (Adds (Finish query.value) caller.old caller.new) }
+        ensures ok { OnOk result (Adds B.Entries.settings (Finish query.value) caller.old caller.new) }
         ensures err { OnErr result (caller.new ≡ caller.old) }
     {
         let value = query.into_value();
@@ -108,22 +108,25 @@ impl<H: Handler<Item> + Drop, B: Books> Session<H, B> {
         caller: &mut Caller<B>,
     )
         requires { query.tag ≡ self.now.tag }
-        ensures { AddsSome caller.old caller.new }
+        ensures { (Adds B.Entries.settings (Finish query.value) caller.old caller.new) ⊎ (caller.new ≡ caller.old) }
     {
-        if let Ok(more) = self.finish(rt, query, caller) {
-            let _ = reports.add(more);
+        if let Ok(finished) = self.finish(rt, query, caller) {
+            let (more, told) = finished;
+            let _ = reports.add(more, told);
         }
     }
 
-    // Gives all queries of this session back that came back, in order, each by one event more. Want of memory leaves one.
+    // Gives all queries of this session back that came back, in order, each by one event more. Want of memory leaves one. The
+    // reports are those of calls behind which all ends were told.
     pub(crate) fn give_up<R: Wait>(
         &self,
         rt: &R,
         asks: bool,
         reports: Reports<H::Done>,
+        told: AllTold,
         caller: &mut Caller<B>,
     )
-        ensures further { AddsSome caller.old caller.new }
+        ensures further { AddsSome B.Entries.settings caller.old caller.new }
         ensures none { returned self.now.tag asks reports ≡ [] → caller.new ≡ caller.old }
     {
         let mut left = reports;
@@ -131,7 +134,7 @@ impl<H: Handler<Item> + Drop, B: Books> Session<H, B> {
             match left.next(self.tag(), asks) {
                 Some(query) => self.finish_into(rt, query, &mut left, caller),
                 None => {
-                    left.end();
+                    left.end(told);
                     return;
                 }
             }

@@ -58,8 +58,8 @@ impl<H: Handler<Item> + Drop, B: Books> Session<H, B> {
         key: &KeyExpr<'_>,
         caller: &mut Caller<B>,
     ) -> Result<u32, SessionError>
-        ensures ok { IfOk result (λ number. Accepts H.evicts caller.old caller.new (declare_key (key_arg self.now.tag key.now)) false (Some number)) }
-        ensures err { IfErr result (λ why. Stops H.evicts caller.old caller.new (declare_key (key_arg self.now.tag key.now)) false why) }
+        ensures ok { IfOk result (λ number. Accepts B.Entries.settings H.evicts caller.old caller.new (declare_key (key_arg self.now.tag key.now)) false (Some number)) }
+        ensures err { IfErr result (λ why. Stops B.Entries.settings H.evicts caller.old caller.new (declare_key (key_arg self.now.tag key.now)) false why) }
     {
         let Ok(key) = key_arg(self.alloc(), self.tag(), key) else {
             return Err(SessionError::NoMemory);
@@ -80,8 +80,8 @@ impl<H: Handler<Item> + Drop, B: Books> Session<H, B> {
         caller: &mut Caller<B>,
     ) -> Result<KeyExpr<'static>, SessionError>
         requires { length key.now.text ≤ 4294967295 }
-        ensures ok { IfOk result (λ made. DeclaresKey H.evicts caller.old caller.new self.now.tag key.now made) }
-        ensures err { IfErr result (λ why. Stops H.evicts caller.old caller.new (declare_key (key_arg self.now.tag key.now)) false why) }
+        ensures ok { IfOk result (λ made. DeclaresKey B.Entries.settings H.evicts caller.old caller.new self.now.tag key.now made) }
+        ensures err { IfErr result (λ why. Stops B.Entries.settings H.evicts caller.old caller.new (declare_key (key_arg self.now.tag key.now)) false why) }
     {
         let Ok(own) = key.borrowing_clone().into_owned(self.alloc()) else {
             return Err(SessionError::NoMemory);
@@ -102,8 +102,8 @@ impl<H: Handler<Item> + Drop, B: Books> Session<H, B> {
         key: &KeyExpr<'_>,
         caller: &mut Caller<B>,
     ) -> Result<(), SessionError>
-        ensures ok { OnOk result (Accepts H.evicts caller.old caller.new (UndeclareKey (key_arg self.now.tag key.now)) false None) }
-        ensures err { IfErr result (λ why. StopsOr H.evicts caller.old caller.new (UndeclareKey (key_arg self.now.tag key.now)) false why) }
+        ensures ok { OnOk result (Accepts B.Entries.settings H.evicts caller.old caller.new (UndeclareKey (key_arg self.now.tag key.now)) false None) }
+        ensures err { IfErr result (λ why. StopsOr B.Entries.settings H.evicts caller.old caller.new (UndeclareKey (key_arg self.now.tag key.now)) false why) }
         ensures own { result ≡ Err SessionError.OtherSession → ⊥ }
     {
         let Ok(key) = key_arg(self.alloc(), self.tag(), key) else {
@@ -129,9 +129,9 @@ impl<H: Handler<Item> + Drop, B: Books> Session<H, B> {
         key: KeyExpr<'a>,
         caller: &mut Caller<B>,
     ) -> Result<(), KeyBack<'a>>
-        ensures ok { OnOk result (Accepts H.evicts caller.old caller.new (UndeclareKey (key_arg self.now.tag key.entry)) false None) }
+        ensures ok { OnOk result (Accepts B.Entries.settings H.evicts caller.old caller.new (UndeclareKey (key_arg self.now.tag key.entry)) false None) }
         ensures own { OnOk result (is_foreign self.now.tag key.entry ≡ false) }
-        ensures err { IfErr result (λ back. StopsOr H.evicts caller.old caller.new (UndeclareKey (key_arg self.now.tag key.entry)) false back.why) }
+        ensures err { IfErr result (λ back. StopsOr B.Entries.settings H.evicts caller.old caller.new (UndeclareKey (key_arg self.now.tag key.entry)) false back.why) }
         ensures other { IfErr result (λ back. (back.why ≡ SessionError.OtherSession) ↔ (is_foreign self.now.tag key.entry ≡ true)) }
         ensures back { IfErr result (λ back. back.key ≡ key.entry) }
     {

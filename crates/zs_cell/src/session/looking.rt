@@ -1,9 +1,10 @@
 //! What callers ask of a session without stepping it.
-ghost use Rattle.std.specs.Prelude.{◌≡◌, ◌↔◌, [], None, IsSome, length, IfOk, IfSome};
+ghost use Rattle.std.specs.Prelude.{◌≡◌, ◌↔◌, ◌<◌, [], None, IsSome, length, IfOk, IfSome};
 ghost use Rattle.std.specs.Option.{option_to_list};
 ghost use Rattle.zs_session_cell.specs.Journals.{Follows};
-ghost use Rattle.zs_books.specs.Callers.{all_parts};
+ghost use Rattle.zs_books.specs.Callers.{all_parts, most};
 ghost use Rattle.zs_held.specs.Held.{drained_by};
+ghost use Rattle.zs_held.specs.Messages.{messages_of};
 
 use crate::clock::Clock;
 use crate::session::Session;
@@ -103,6 +104,8 @@ impl<H: Drop, B: Books> Session<H, B> {
         ensures turns { IfOk result (λ found. IfSome found (λ entries. Follows B.Entries.settings [] entries)) }
         ensures len { IfOk result (λ found. IfSome found (λ entries. length entries ≡ all.old.count)) }
         ensures whole { all.old.parts ≡ all_parts → IfOk result (λ found. IsSome found) }
+        ensures sent { all.old.parts ≡ all_parts → IfOk result (λ found. IfSome found (λ entries. length (messages_of entries) ≡ all.old.sent)) }
+        ensures few { IfOk result (λ found. IfSome found (λ entries. length (messages_of entries) < most → length (messages_of entries) ≡ all.old.sent)) }
     {
         let (mut held, taken) = self.shared.lock.take(rt);
         let found = held.copy(self.shared.alloc, all);

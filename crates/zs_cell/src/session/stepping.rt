@@ -49,7 +49,7 @@ impl<H: Handler<Item> + Drop, B: Books> Session<H, B> {
         caller: &mut Caller<B>,
     ) -> Result<Work<H, H::Done>, NotNow<H>>
         requires { is_some handler ≡ true → takes_handler event.now ≡ true }
-        ensures ok { IfOk result (λ work. Takes caller.old event.now (is_some handler) work.answer (asked_for work.answer key work.waits) caller.new) }
+        ensures ok { IfOk result (λ work. Takes B.Entries.settings caller.old event.now (is_some handler) work.answer (asked_for work.answer key work.waits) caller.new) }
         ensures numbered { IfOk result (λ work. IsNumbered event.now work.answer) }
         ensures back { IfOk result (λ work. work.back ≡ back_at work.answer (option_map arc_value handler)) }
         ensures lents { IfOk result (λ work. AreOfRoom self.now.lock.key work.lents) }
@@ -80,7 +80,7 @@ impl<H: Handler<Item> + Drop, B: Books> Session<H, B> {
         caller: &mut Caller<B>,
     ) -> Result<Work<H, H::Done>, Option<Arc<H>>>
         requires { is_some handler ≡ true → takes_handler event.now ≡ true }
-        ensures ok { IfOk result (λ work. Takes caller.old event.now (is_some handler) work.answer (asked_for work.answer key work.waits) caller.new) }
+        ensures ok { IfOk result (λ work. Takes B.Entries.settings caller.old event.now (is_some handler) work.answer (asked_for work.answer key work.waits) caller.new) }
         ensures numbered { IfOk result (λ work. IsNumbered event.now work.answer) }
         ensures back { IfOk result (λ work. work.back ≡ back_at work.answer (option_map arc_value handler)) }
         ensures lents { IfOk result (λ work. AreOfRoom self.now.lock.key work.lents) }
@@ -161,9 +161,10 @@ impl<H: Handler<Item> + Drop, B: Books> Session<H, B> {
         requires closing { was_refused work.answer ≡ true → work.waits ≡ false }
         ensures number { IfOk result (λ stepped. work.answer ≡ accepted stepped.number) }
         ensures closing { IfOk result (λ stepped. is_some stepped.closing ≡ work.waits) }
+        ensures gate { IfOk result (λ stepped. option_map (λ c. c.draining.gate) stepped.closing ≡ work.gate) }
         ensures refusal { IfErr result (λ back. IsRefusal work.answer back.why) }
         ensures handler { IfErr result (λ back. option_map arc_value back.handler ≡ work.back) }
-        ensures further { AddsSome caller.old caller.new }
+        ensures further { AddsSome B.Entries.settings caller.old caller.new }
         ensures kept { H.evicts ≡ false → asks ≡ false → caller.new ≡ caller.old }
     {
         let mut work = work;
@@ -171,8 +172,7 @@ impl<H: Handler<Item> + Drop, B: Books> Session<H, B> {
         let handler = work.refused();
         let (worked, closing) = work.run(rt);
         let (reports, told) = self.settle(rt, worked);
-        drop(told);
-        self.give_up(rt, asks, reports, caller);
+        self.give_up(rt, asks, reports, told, caller);
         match answer {
             Answer::Ok(number) => {
                 drop(handler);
@@ -196,10 +196,10 @@ impl<H: Handler<Item> + Drop, B: Books> Session<H, B> {
         caller: &mut Caller<B>,
     ) -> Result<Stepped<H>, NotSubmitted<H>>
         requires { is_some handler ≡ true → takes_handler event.now ≡ true }
-        ensures ok { IfOk result (λ stepped. AcceptsFor H.evicts caller.old caller.new event.now (is_some handler) stepped.number key (is_some stepped.closing)) }
+        ensures ok { IfOk result (λ stepped. AcceptsFor B.Entries.settings H.evicts caller.old caller.new event.now (is_some handler) stepped.number key (is_some stepped.closing)) }
         ensures numbered { IfOk result (λ stepped. is_some stepped.number ≡ numbered_at event.now) }
         ensures none { key ≡ None → IfOk result (λ stepped. stepped.closing ≡ None) }
-        ensures err { IfErr result (λ back. Stops H.evicts caller.old caller.new event.now (is_some handler) back.why) }
+        ensures err { IfErr result (λ back. Stops B.Entries.settings H.evicts caller.old caller.new event.now (is_some handler) back.why) }
         ensures handler { IfErr result (λ back. option_map arc_value back.handler ≡ option_map arc_value handler) }
     {
         let asks = asks_queryables(event.get());
@@ -223,10 +223,10 @@ impl<H: Handler<Item> + Drop, B: Books> Session<H, B> {
         caller: &mut Caller<B>,
     ) -> Result<Stepped<H>, NotSubmitted<H>>
         requires { is_some handler ≡ true → takes_handler event ≡ true }
-        ensures ok { IfOk result (λ stepped. AcceptsFor H.evicts caller.old caller.new event (is_some handler) stepped.number key (is_some stepped.closing)) }
+        ensures ok { IfOk result (λ stepped. AcceptsFor B.Entries.settings H.evicts caller.old caller.new event (is_some handler) stepped.number key (is_some stepped.closing)) }
         ensures numbered { IfOk result (λ stepped. is_some stepped.number ≡ numbered_at event) }
         ensures none { key ≡ None → IfOk result (λ stepped. stepped.closing ≡ None) }
-        ensures err { IfErr result (λ back. Stops H.evicts caller.old caller.new event (is_some handler) back.why) }
+        ensures err { IfErr result (λ back. Stops B.Entries.settings H.evicts caller.old caller.new event (is_some handler) back.why) }
         ensures handler { IfErr result (λ back. option_map arc_value back.handler ≡ option_map arc_value handler) }
     {
         let Ok(event) = Shared::new(self.shared.alloc, event) else {

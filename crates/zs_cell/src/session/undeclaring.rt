@@ -56,8 +56,8 @@ impl<H: Handler<Item> + Drop, B: Books> Session<H, B> {
         caller: &mut Caller<B>,
     ) -> Result<Option<Closing<H>>, SessionError>
         requires { numbered_at event ≡ false }
-        ensures ok { IfOk result (λ closing. AcceptsFor H.evicts caller.old caller.new event false None (undeclared_key event) (is_some closing)) }
-        ensures err { IfErr result (λ why. Stops H.evicts caller.old caller.new event false why) }
+        ensures ok { IfOk result (λ closing. AcceptsFor B.Entries.settings H.evicts caller.old caller.new event false None (undeclared_key event) (is_some closing)) }
+        ensures err { IfErr result (λ why. Stops B.Entries.settings H.evicts caller.old caller.new event false why) }
     {
         let key = undeclared_key(&event);
         self.tell_and_drain(rt, event, key, caller)

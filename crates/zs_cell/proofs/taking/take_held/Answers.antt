@@ -8,7 +8,7 @@ use Rattle.zs_session_cell.specs.Journals.{history}
 use Rattle.zs_cell.specs.Steps.{IsNumbered}
 use Rattle.zs_cell.specs.Works.{back_at}
 use Rattle.zs_held.specs.Receipts.{ReceiptSeen}
-use Rattle.zs_cell.proofs.Stepping.{takes, numbered}
+use Rattle.zs_cell.proofs.Stepping.{takes, turn_follows, numbered}
 use Rattle.zs_cell.proofs.taking.take_held.Goals as goal
 
 pub take-requires : goal.take-requires
@@ -19,8 +19,10 @@ receive-requires g c = ap (λ (r : ReceiptSeen). r.asked) c.in-Ok.ensures.receip
 
 pub returns-in-Ok-clause-ok : goal.returns-in-Ok-clause-ok
 returns-in-Ok-clause-ok g c =
-    let session = c.args.held.now.session in
-    takes session.settings session.journal c.args.key c.receive.result.waits c.in-Ok.given.1 c.in-Ok.ensures.ok.turn_is c.in-Ok.ensures.receipt c.in-Ok.ensures.caller c.receive.ensures.caller
+    let s = g.B.Entries.EntryLedger.settings in
+    let journal = c.args.held.now.session.journal in
+    takes s journal c.args.key c.receive.result.waits c.in-Ok.given.1
+    (turn_follows s journal c.take.new.self.session.journal c.args.event c.in-Ok.given.0.turn c.journal.ensures.turns c.in-Ok.ensures.ok.journal_is) c.in-Ok.ensures.receipt c.in-Ok.ensures.caller c.receive.ensures.caller
     c.receive.ensures.answer
 
 pub returns-in-Ok-clause-numbered : goal.returns-in-Ok-clause-numbered

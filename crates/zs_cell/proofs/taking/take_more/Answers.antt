@@ -2,6 +2,7 @@ use Rattle.std.proofs.Common.{◌≡◌, [], List, true, false, sym, subst}
 use Rattle.zs_posts.specs.Passes.{LentSeen}
 use Rattle.zs_hands.specs.Answers.{AreOfRoom}
 use Rattle.zs_session_cell.specs.Journals.{history}
+use Rattle.zs_cell.proofs.Stepping.{turn_follows}
 use Rattle.zs_cell.proofs.taking.take_more.Goals as goal
 
 pub take-requires : goal.take-requires
@@ -9,12 +10,11 @@ take-requires g c = λ came. let wrong : false ≡ true = came in cc
 
 pub returns-in-Ok-clause-ok : goal.returns-in-Ok-clause-ok
 returns-in-Ok-clause-ok g c =
-    let session = c.args.held.now.session in
+    let journal = c.args.held.now.session.journal in
     record {
-      settings = session.settings;
-      before = history [] session.journal;
+      before = history [] journal;
       turn = c.in-Ok.given.0.turn;
-      turn_is = c.in-Ok.ensures.ok.turn_is;
+      turn_is = turn_follows g.B.Entries.EntryLedger.settings journal c.take.new.self.session.journal c.args.event c.in-Ok.given.0.turn c.journal.ensures.turns c.in-Ok.ensures.ok.journal_is;
       caller_is = c.in-Ok.ensures.caller;
     }
 

@@ -15,7 +15,7 @@ put-requires g c = c.take_more-adding.ensures.room ∙ (c.take-held.ensures.fact
 
 pub returns-clause-ok : goal.returns-clause-ok
 returns-clause-ok g c =
-    subst (λ (e : Event). OnOk c.take_more-adding.result (Adds e c.args.caller.now c.take_more-adding.new.caller)) c.in-Ok.ensures c.take_more-adding.ensures.ok
+    subst (λ (e : Event). OnOk c.take_more-adding.result (Adds g.B.Entries.EntryLedger.settings e c.args.caller.now c.take_more-adding.new.caller)) c.in-Ok.ensures c.take_more-adding.ensures.ok
 
 pub returns-clause-lents : goal.returns-clause-lents
 returns-clause-lents g c =

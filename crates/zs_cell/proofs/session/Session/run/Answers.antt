@@ -1,4 +1,4 @@
 use Rattle.zs_cell.proofs.session.Session.run.Goals as goal
 
-pub settle-reports-requires : goal.settle-reports-requires
-settle-reports-requires g c = c.run-worked.ensures.room c.args.self.now.lock.key c.requires.lents
+pub settle-requires : goal.settle-requires
+settle-requires g c = c.run-worked.ensures.room c.args.self.now.lock.key c.requires.lents

@@ -21,7 +21,7 @@ put-requires g c = c.take_held-taking.ensures.room ∙ (c.take-held.ensures.fact
 
 pub returns-clause-ok : goal.returns-clause-ok
 returns-clause-ok g c =
-    subst (λ (e : Event). IfOk c.take_held-taking.result (λ (work : WorkSeen _). Takes c.args.caller.now e (is_some c.args.handler) work.answer (asked_for work.answer c.args.key work.waits) c.take_held-taking.new.caller)) c.in-Ok.ensures c.take_held-taking.ensures.ok
+    subst (λ (e : Event). IfOk c.take_held-taking.result (λ (work : WorkSeen _). Takes g.B.Entries.EntryLedger.settings c.args.caller.now e (is_some c.args.handler) work.answer (asked_for work.answer c.args.key work.waits) c.take_held-taking.new.caller)) c.in-Ok.ensures c.take_held-taking.ensures.ok
 
 pub returns-clause-numbered : goal.returns-clause-numbered
 returns-clause-numbered g c =

@@ -1,4 +1,4 @@
-use Rattle.std.proofs.Common.{None, is_some, map, ap, ◌∙◌}
+use Rattle.std.proofs.Common.{None, is_some, map, option_map, ap, ◌∙◌}
 use Rattle.zs_posts.specs.Calls.{call_seen, all_lents}
 use Rattle.zs_session_cell.specs.Journals.{HandingSeen}
 use Rattle.zs_cell.specs.Works.{WorkSeen}
@@ -9,5 +9,5 @@ returns-clause-back g c = c.refused.ensures.back ∙ ap (λ (w : WorkSeen _). w.
 
 pub returns-clause-rest : goal.returns-clause-rest
 returns-clause-rest g c =
-    ap (λ (h : HandingSeen _). record { answer = h.turn.answer; back = h.back; lents = all_lents (map call_seen h.calls); waits = is_some c.self.inside.closing }) c.refused.ensures.rest
+    ap (λ (h : HandingSeen _). record { answer = h.turn.answer; back = h.back; lents = all_lents (map call_seen h.calls); waits = is_some c.self.inside.closing; gate = option_map (λ x. x.draining.gate) c.self.inside.closing }) c.refused.ensures.rest
     ∙ ap (λ (w : WorkSeen _). record w { back = None }) c.self.view_is

@@ -12,5 +12,8 @@ returns-clause-room g c =
 pub returns-clause-closing : goal.returns-clause-closing
 returns-clause-closing g c = ap (λ (w : WorkSeen _). w.waits) c.self.view_is
 
+pub returns-clause-gate : goal.returns-clause-gate
+returns-clause-gate g c = ap (λ (w : WorkSeen _). w.gate) c.self.view_is
+
 pub returns-clause-kept : goal.returns-clause-kept
 returns-clause-kept g c = λ no tag. none_back tag c.run-ran.result.ran.items (c.run-ran.ensures.kept no)
