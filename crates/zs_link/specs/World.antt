@@ -6,7 +6,7 @@ use Rattle.zs_events.specs.declared.event.Event.TheVariants.{Net}
 use Rattle.zs_events.specs.declared.turn.Turn.{Turn}
 use Rattle.zs_core.specs.Types.{Settings}
 use Rattle.zs_core.specs.World.{World as Tables}
-use Rattle.zs_exchange.specs.Handlers.{AreGates}
+use Rattle.zs_exchange.specs.Handlers.{AreGates, AreBare}
 use Rattle.zs_session_cell.specs.Core.{turn_at, StandsFor}
 use Rattle.zs_session_cell.specs.Cells.{CellSeen}
 use Rattle.zs_delivery.specs.declared.side.LinkSide.{LinkSide}
@@ -25,10 +25,11 @@ pub record LinkSeen : Type 0 where
   pub a : SideSeen
   pub b : SideSeen
 
--- a cell that keeps what is sent and holds no handler
+-- a cell that keeps what is sent and holds no handler, nor do the posts that wait to be given out
 pub record IsWithoutHandlers {H : Type 0} (cell : CellSeen H) : Type 0 where
   pub keeps : cell.exchange.keeps ≡ true
   pub gates : AreGates cell.exchange.posts.rows
+  pub bare : AreBare cell.exchange.posts.ready
 
 -- a side stands for settings and for what happened at it
 pub record StandsAs (x : SideSeen) (s : Settings) (side : Side) : Type 0 where

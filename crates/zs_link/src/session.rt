@@ -1,6 +1,6 @@
 //! One of two linked sessions.
 
-ghost use Rattle.std.specs.Prelude.{◌≡◌, [], IsTrue, IfOk, OnErr, length, slice_get};
+ghost use Rattle.std.specs.Prelude.{◌≡◌, IsTrue, IfOk, OnErr, length, slice_get};
 ghost use Rattle.zs_core.specs.Settings.{is_valid};
 ghost use Rattle.zs_link.specs.World.{IsNew, TakesEvent, without_first};
 
@@ -9,7 +9,7 @@ use std::marker::Model;
 use zs_core::Settings;
 use zs_events::{Event, Turn};
 use zs_gate::NoPass;
-use zs_session_cell::{CellState, NoHandler, Taken};
+use zs_session_cell::{CellState, NoHandler, let_ended_go, turn_alone};
 use zs_shared::Shared;
 use zs_wire::Message;
 
@@ -29,23 +29,6 @@ impl Model for LinkedSession {
     ghost invariant = { λ s. IsWithoutHandlers s.cell };
 }
 
-/// The turn alone, where no call is to be made.
-fn turn_alone(taken: Taken<NoHandler, ()>) -> Shared<Turn>
-    requires { taken.hands.calls.items ≡ [] }
-    ensures { result ≡ taken.turn }
-{
-    let Taken {
-        turn,
-        copy,
-        spare,
-        hands,
-    } = taken;
-    hands.let_go();
-    drop(copy);
-    drop(spare);
-    turn
-}
-
 impl LinkedSession {
     /// A new session, of which no message waits.
     pub(crate) fn new(alloc: Global, settings: &Settings) -> Result<LinkedSession, AllocError>
@@ -56,7 +39,7 @@ impl LinkedSession {
         Ok(LinkedSession { cell })
     }
 
-    /// Takes an event. What that sends waits behind the rest.
+    /// Takes an event, and lets the gates go that it ended. What it sends waits behind the rest.
     ///
     /// # Errors
     ///
@@ -65,11 +48,28 @@ impl LinkedSession {
         ensures ok { IfOk result (λ turn. TakesEvent event.now self.old turn self.new) }
         ensures err { OnErr result (self.new ≡ self.old) }
     {
+        let turn = self.take_event(event)?;
+        self.let_ended_go();
+        Ok(turn)
+    }
+
+    /// It is `take` but for the gates.
+    fn take_event(&mut self, event: &Event) -> Result<Shared<Turn>, AllocError>
+        ensures ok { IfOk result (λ turn. TakesEvent event.now self.old turn self.new) }
+        ensures err { OnErr result (self.new ≡ self.old) }
+    {
         match self.cell.take(event, &None, 0) {
             Ok(taken) => Ok(turn_alone(taken)),
             Err(NoPass::NoMemory) => Err(AllocError),
             Err(NoPass::Full) => unreachable!(),
         }
+    }
+
+    /// Lets the gates go that were ended.
+    fn let_ended_go(&mut self)
+        ensures { self.new ≡ self.old }
+    {
+        let_ended_go(&mut self.cell);
     }
 
     /// The oldest message that waits, in the place where it stands.

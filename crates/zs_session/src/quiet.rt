@@ -1,7 +1,6 @@
 //! A session without handlers: each turn is read by whoever gave the event.
 
 ghost use Rattle.std.specs.Prelude.{◌≡◌, [], IsTrue, IfOk, OnErr};
-ghost use Rattle.zs_exchange.specs.Handlers.{AreBare};
 ghost use Rattle.zs_core.specs.Settings.{is_valid};
 ghost use Rattle.zs_core.specs.Stands.{Stands, TakesStep, ClosedIs};
 
@@ -9,7 +8,7 @@ use std::alloc::{AllocError, Global};
 use std::marker::Model;
 use zs_core::{Event, Settings, Turn};
 use zs_gate::NoPass;
-use zs_session_cell::{CellState, NoHandler, Taken};
+use zs_session_cell::{CellState, NoHandler, let_ended_go, turn_alone};
 use zs_shared::Shared;
 
 /// A session whose cell holds no handler and keeps no message, so that it holds no more than what is live. Contracts see
@@ -28,35 +27,6 @@ impl Model for QuietSession {
     ghost view = { λ s. s.cell.world };
 
     ghost invariant = { λ s. IsQuiet s.cell };
-}
-
-/// The turn alone, where no call is to be made.
-fn turn_alone(taken: Taken<NoHandler, ()>) -> Shared<Turn>
-    requires { taken.hands.calls.items ≡ [] }
-    ensures { result ≡ taken.turn }
-{
-    let Taken {
-        turn,
-        copy,
-        spare,
-        hands,
-    } = taken;
-    hands.let_go();
-    drop(copy);
-    drop(spare);
-    turn
-}
-
-/// Lets the gates go that were ended. None has a handler to be told.
-fn let_ended_go(cell: &mut CellState<NoHandler>)
-    requires { AreBare cell.old.exchange.posts.ready }
-    ensures world { cell.new.world ≡ cell.old.world }
-    ensures rows { cell.new.exchange.posts.rows ≡ cell.old.exchange.posts.rows }
-    ensures bare { AreBare cell.new.exchange.posts.ready }
-{
-    'endings: while let Some(ending) = cell.ending() {
-        ending.let_go();
-    }
 }
 
 impl QuietSession {

@@ -1,4 +1,5 @@
 mod Core
 mod Keeping
 mod Naming
+mod Quietly
 mod Taking

@@ -3,8 +3,8 @@ use Rattle.zs_session_cell.specs.Cells.{CellSeen}
 use Rattle.zs_session_cell.specs.declared.no_handler.NoHandler.{NoHandler}
 use Rattle.zs_link.specs.World.{SideSeen, IsWithoutHandlers, TakesEvent}
 use Rattle.zs_link.proofs.Side.{seen, takes_event, keeps_still}
-use Rattle.zs_link.proofs.session.LinkedSession.take.Goals as goal
-use Rattle.zs_link.proofs.session.LinkedSession.take.Goals.{in-Ok, in-Err-NoMemory}
+use Rattle.zs_link.proofs.session.LinkedSession.take_event.Goals as goal
+use Rattle.zs_link.proofs.session.LinkedSession.take_event.Goals.{in-Ok, in-Err-NoMemory}
 
 pub turn_alone-requires : goal.turn_alone-requires
 turn_alone-requires c = c.in-Ok.ensures.none (record { came = refl; held = c.self.invariant.gates })
@@ -22,6 +22,7 @@ invariant_of-self c =
           record {
             keeps = keeps_still c.self.inside.cell c.take.new.self c.args.event.now w.in-Ok.taken.turn _ c.self.invariant w.in-Ok.ensures.ok;
             gates = w.in-Ok.ensures.gates (record { came = refl; held = c.self.invariant.gates });
+            bare = w.in-Ok.ensures.waiting (record { came = refl; held = c.self.invariant.gates }) c.self.invariant.bare;
           }
       | in-Err-NoMemory w ↦ subst (λ (cell : CellSeen NoHandler). IsWithoutHandlers cell) (sym w.in-Err-NoMemory.ensures.err) c.self.invariant
     ]
