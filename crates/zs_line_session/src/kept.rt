@@ -70,12 +70,15 @@ impl KeptText {
         count
     }
 
-    /// Begins at the front of the memory again, where all was read.
+    /// Moves what waits to the front of the memory, once as much was read as waits: so the memory never has twice as much
+    /// as waits, and a byte is moved once at most for each that was read.
     fn forget_read(&mut self)
         ensures { self.new ≡ self.old }
     {
-        if self.start == self.bytes.len() {
-            self.bytes.clear();
+        let waiting = self.bytes.len() - self.start;
+        if waiting <= self.start {
+            self.bytes.rotate_left(self.start);
+            self.bytes.truncate(waiting);
             self.start = 0;
         }
     }
