@@ -289,7 +289,9 @@ impl<'a, H: Handler<Item> + Drop, B: Books> SessionGetBuilder<'a, H, B> {
     ///
     /// # Errors
     ///
-    /// `Refused` where the session took the get and refused it, else `NoMemory`. The handler comes back.
+    /// `Refused`: `SessionClosedError` behind the close, `QueryCancelled` where its cancellation token was cancelled,
+    /// `IdsExhausted` where no number of a get is left, or fewer numbers of queries than it meets queryables here. Else
+    /// `NoMemory`: no event was taken. The handler comes back.
     pub fn wait<R: Wait>(mut self, rt: &R, caller: &mut Caller<B>) -> Result<u32, NotSubmitted<H>>
         ensures ok { IfOk result (λ number. Accepts B.Entries.settings H.evicts caller.old caller.new (session_get_event self.entry) (is_some self.entry.handler) (Some number)) }
         ensures err { IfErr result (λ back. Stops B.Entries.settings H.evicts caller.old caller.new (session_get_event self.entry) (is_some self.entry.handler) back.why) }

@@ -61,12 +61,13 @@ pub trait QueryValues {
     ///
     /// # Errors
     ///
-    /// `OtherSession` where the query is of another session, `Refused` where the session took the event and refused it,
-    /// else `NoMemory`.
+    /// `OtherSession` where the query is of another session: no event was taken. `Refused`: `SessionClosedError` behind
+    /// the close, `NotFound` where nothing is left to give back under the query's number, `IdsExhausted` where no
+    /// number of a query is left. Else `NoMemory`: no event was taken.
     fn share<H: Handler<Item> + Drop, B: Books, R: Wait>(
         &self,
-        session: &Session<H, B>,
         rt: &R,
+        session: &Session<H, B>,
         caller: &mut Caller<B>,
     ) -> Result<Query, SessionError>;
 
@@ -74,11 +75,13 @@ pub trait QueryValues {
     ///
     /// # Errors
     ///
-    /// As `share`. The query comes back.
+    /// `OtherSession` where the query is of another session: no event was taken. `Refused`: `NotFound` where nothing is
+    /// left to give back under the query's number, unless the session is closed. Else `NoMemory`: no event was taken.
+    /// The query comes back.
     fn finish<H: Handler<Item> + Drop, B: Books, R: Wait>(
         self,
-        session: &Session<H, B>,
         rt: &R,
+        session: &Session<H, B>,
         caller: &mut Caller<B>,
     ) -> Result<(), Unspent<Query>>;
 }
@@ -131,8 +134,8 @@ impl QuerySamples for Query {
 impl QueryValues for Query {
     fn share<H: Handler<Item> + Drop, B: Books, R: Wait>(
         &self,
-        session: &Session<H, B>,
         rt: &R,
+        session: &Session<H, B>,
         caller: &mut Caller<B>,
     ) -> Result<Query, SessionError>
         ensures ok { IfOk result (λ query. Accepts B.Entries.settings H.evicts caller.old caller.new (Share self.now.value) false (Some query.value)) }
@@ -157,8 +160,8 @@ impl QueryValues for Query {
 
     fn finish<H: Handler<Item> + Drop, B: Books, R: Wait>(
         self,
-        session: &Session<H, B>,
         rt: &R,
+        session: &Session<H, B>,
         caller: &mut Caller<B>,
     ) -> Result<(), Unspent<Query>>
         ensures ok { OnOk result (Accepts B.Entries.settings H.evicts caller.old caller.new (Finish self.value) false None) }

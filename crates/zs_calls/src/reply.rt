@@ -210,8 +210,9 @@ impl<'a, H: Handler<Item> + Drop, B: Books> ReplyBuilder<'a, H, B, ReplyBuilderP
     ///
     /// # Errors
     ///
-    /// `OtherSession` where the query is of another session, `Refused` where the session took the reply and refused it,
-    /// else `NoMemory`.
+    /// `OtherSession` where the query is of another session: no event was taken. `Refused`, unless the session is
+    /// closed: `NotFound` where nothing is left to give back under the query's number, `ReplyDisjoint` where the key
+    /// doesn't meet the query's and the query doesn't take replies on any key. Else `NoMemory`: no event was taken.
     pub fn wait<R: Wait>(self, rt: &R, caller: &mut Caller<B>) -> Result<(), SessionError>
         ensures ok { OnOk result (Accepts B.Entries.settings H.evicts caller.old caller.new (reply_put_event self.entry) false None) }
         ensures err { IfErr result (λ why. StopsOr B.Entries.settings H.evicts caller.old caller.new (reply_put_event self.entry) false why) }
@@ -234,8 +235,9 @@ impl<'a, H: Handler<Item> + Drop, B: Books> ReplyBuilder<'a, H, B, ReplyBuilderD
     ///
     /// # Errors
     ///
-    /// `OtherSession` where the query is of another session, `Refused` where the session took the reply and refused it,
-    /// else `NoMemory`.
+    /// `OtherSession` where the query is of another session: no event was taken. `Refused`, unless the session is
+    /// closed: `NotFound` where nothing is left to give back under the query's number, `ReplyDisjoint` where the key
+    /// doesn't meet the query's and the query doesn't take replies on any key. Else `NoMemory`: no event was taken.
     pub fn wait<R: Wait>(self, rt: &R, caller: &mut Caller<B>) -> Result<(), SessionError>
         ensures ok { OnOk result (Accepts B.Entries.settings H.evicts caller.old caller.new (reply_delete_event self.entry) false None) }
         ensures err { IfErr result (λ why. StopsOr B.Entries.settings H.evicts caller.old caller.new (reply_delete_event self.entry) false why) }

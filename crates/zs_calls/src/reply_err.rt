@@ -85,8 +85,8 @@ impl<'a, H: Handler<Item> + Drop, B: Books> ReplyErrBuilder<'a, H, B> {
     ///
     /// # Errors
     ///
-    /// `OtherSession` where the query is of another session, `Refused` where the session took the reply and refused it,
-    /// else `NoMemory`.
+    /// `OtherSession` where the query is of another session: no event was taken. `Refused`: `NotFound` where nothing is
+    /// left to give back under the query's number, unless the session is closed. Else `NoMemory`: no event was taken.
     pub fn wait<R: Wait>(self, rt: &R, caller: &mut Caller<B>) -> Result<(), SessionError>
         ensures ok { OnOk result (Accepts B.Entries.settings H.evicts caller.old caller.new (reply_err_event self.entry) false None) }
         ensures err { IfErr result (λ why. StopsOr B.Entries.settings H.evicts caller.old caller.new (reply_err_event self.entry) false why) }

@@ -17,7 +17,9 @@ use zs_turns::Item;
 
 type Caller<B> = zs_books::Caller<B, Receipt<B>>;
 
-/// A cancellation token of a session: gets that were given it are cancelled together. Contracts see the session and the number.
+/// A cancellation token of a session: gets that were given it are cancelled together. One that is dropped uncancelled
+/// keeps its gate in the session for as long as the session lives: the close doesn't end it. Contracts see the session
+/// and the number.
 #[derive(Drop)]
 pub struct SessionToken<H, B: Books> {
     session: Session<H, B>,
@@ -65,7 +67,7 @@ impl<H: Handler<Item> + Drop, B: Books> SessionToken<H, B> {
     ///
     /// # Errors
     ///
-    /// `Refused` where the event was taken and refused, else `NoMemory`.
+    /// `NoMemory` alone: no event was taken. No cancel is refused, neither behind another one nor behind the close.
     pub fn cancel<R: Wait>(&self, rt: &R, caller: &mut Caller<B>) -> Result<(), SessionError>
         ensures ok { OnOk result (AcceptsAsking B.Entries.settings H.evicts caller.old caller.new (Cancel self.now.number) (Key.CancelToken self.now.number)) }
         ensures err { IfErr result (λ why. Stops B.Entries.settings H.evicts caller.old caller.new (Cancel self.now.number) false why) }

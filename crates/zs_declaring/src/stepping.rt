@@ -18,7 +18,9 @@ use zs_sample::MatchingStatus;
 ///
 /// # Errors
 ///
-/// `Refused` where the session took the event and refused it, else `NoMemory`. The handler comes back.
+/// `Refused`: `SessionClosedError` behind the close, `NotFound` where what the event names isn't there, `BadKeyExpr`
+/// where its key is no canonical key expression, `QueryCancelled` where its cancellation token was cancelled,
+/// `IdsExhausted` where too few numbers are left. Else `NoMemory`: no event was taken. The handler comes back.
 pub fn declare<H: Handler<Item> + Drop, B: Books, R: Wait>(
     session: &Session<H, B>,
     rt: &R,
@@ -42,7 +44,7 @@ pub fn declare<H: Handler<Item> + Drop, B: Books, R: Wait>(
 ///
 /// # Errors
 ///
-/// `Refused` where the session took the event and refused it, else `NoMemory`.
+/// `Refused`: as `declare` has it. Else `NoMemory`: no event was taken.
 pub fn declare_alone<H: Handler<Item> + Drop, B: Books, R: Wait>(
     session: &Session<H, B>,
     rt: &R,
@@ -67,7 +69,8 @@ pub fn declare_alone<H: Handler<Item> + Drop, B: Books, R: Wait>(
 ///
 /// # Errors
 ///
-/// `Refused` where the session took the event and refused it, else `NoMemory`.
+/// `Refused`: `NotFound` where nothing of that kind and number lives or it was left already, unless the session is
+/// closed. Else `NoMemory`: no event was taken.
 pub fn leave<H: Handler<Item> + Drop, B: Books, R: Wait>(
     session: &Session<H, B>,
     rt: &R,
@@ -104,7 +107,8 @@ fn wait_for<H: Handler<Item> + Drop, R: Wait>(
 ///
 /// # Errors
 ///
-/// `Refused` where the session took the event and refused it, else `NoMemory`.
+/// `Refused`: `NotFound` where nothing of that kind and number lives or it was left to itself, unless the session is
+/// closed. Else `NoMemory`: no event was taken.
 pub fn undeclare<H: Handler<Item> + Drop, B: Books, R: Wait>(
     session: &Session<H, B>,
     rt: &R,
@@ -135,7 +139,8 @@ pub fn undeclare<H: Handler<Item> + Drop, B: Books, R: Wait>(
 ///
 /// # Errors
 ///
-/// `Refused` where the session took the event and refused it, else `NoMemory`.
+/// `Refused`: `SessionClosedError` behind the close, `NotFound` where no such publisher or querier lives. Else
+/// `NoMemory`: no event was taken.
 pub fn status<H: Handler<Item> + Drop, B: Books, R: Wait>(
     session: &Session<H, B>,
     rt: &R,

@@ -2,8 +2,7 @@ ghost use Rattle.std.specs.Prelude.{◌≡◌};
 
 use std::marker::Model;
 
-/// A builder whose entity is left to itself from the first: its `wait` declares it, and gives its number alone. Contracts see the
-/// builder.
+/// A builder of an entity that nobody will hold: its `wait` declares it, and gives its number alone. Contracts see the builder.
 #[must_use = "nothing is declared before `wait`"]
 #[derive(Drop)]
 pub struct BackgroundBuilder<V> {

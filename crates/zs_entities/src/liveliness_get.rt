@@ -101,7 +101,9 @@ impl<'a, H: Handler<Item> + Drop, B: Books> LivelinessGetBuilder<'a, H, B> {
     ///
     /// # Errors
     ///
-    /// `Refused` where the session took the get and refused it, else `NoMemory`. The handler comes back.
+    /// `Refused`: `SessionClosedError` behind the close, `QueryCancelled` where its cancellation token was cancelled,
+    /// `IdsExhausted` where no number of an entity is left: the get draws one. Else `NoMemory`: no event was taken. The
+    /// handler comes back.
     pub fn wait<R: Wait>(mut self, rt: &R, caller: &mut Caller<B>) -> Result<u32, NotSubmitted<H>>
         ensures ok { IfOk result (λ number. Accepts B.Entries.settings H.evicts caller.old caller.new (liveliness_get_event self.entry) (is_some self.entry.handler) (Some number)) }
         ensures err { IfErr result (λ back. Stops B.Entries.settings H.evicts caller.old caller.new (liveliness_get_event self.entry) (is_some self.entry.handler) back.why) }

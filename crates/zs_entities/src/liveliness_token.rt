@@ -104,7 +104,8 @@ impl<'a, H: Handler<Item> + Drop, B: Books> Undeclaration<LivelinessToken<'a, H,
     ///
     /// # Errors
     ///
-    /// `Refused` where the session took the event and refused it, else `NoMemory`. The token comes back.
+    /// `Refused`: `NotFound` where it was ended by its number already, unless the session is closed. Else `NoMemory`:
+    /// no event was taken. The token comes back.
     pub fn wait<R: Wait>(
         self,
         rt: &R,

@@ -59,7 +59,8 @@ impl<'a, H: Handler<Item> + Drop, B: Books> MatchingListener<'a, H, B> {
     ///
     /// # Errors
     ///
-    /// `Refused` where the session took the event and refused it, else `NoMemory`. The listener comes back.
+    /// `Refused`: `NotFound` where its publisher or querier has ended or it was ended or left to itself by its number,
+    /// unless the session is closed. Else `NoMemory`: no event was taken. The listener comes back.
     pub fn set_background<R: Wait>(
         self,
         rt: &R,
@@ -106,7 +107,8 @@ impl<'a, H: Handler<Item> + Drop, B: Books> Undeclaration<MatchingListener<'a, H
     ///
     /// # Errors
     ///
-    /// `Refused` where the session took the event and refused it, else `NoMemory`. The listener comes back.
+    /// `Refused`: `NotFound` where its publisher or querier has ended or it was ended or left to itself by its number,
+    /// unless the session is closed. Else `NoMemory`: no event was taken. The listener comes back.
     pub fn wait<R: Wait>(
         self,
         rt: &R,

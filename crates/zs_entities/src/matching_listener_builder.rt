@@ -61,8 +61,7 @@ impl<'a, H, B: Books> MatchingListenerBuilder<'a, H, B> {
         }
     }
 
-    /// The same, left to itself from the first: it lives until its publisher or querier ends or the session is closed, and can't be
-    /// named.
+    /// The same as what nobody holds: it lives until its publisher or querier ends or the session is closed.
     pub fn background(self) -> BackgroundBuilder<MatchingListenerBuilder<'a, H, B>>
         ensures { result ≡ self.entry }
     {
@@ -88,8 +87,9 @@ impl<'a, H: Handler<Item> + Drop, B: Books> MatchingListenerBuilder<'a, H, B> {
     ///
     /// # Errors
     ///
-    /// `Refused` where the session took the event and refused it, as where its publisher or querier has ended, else `NoMemory`. The
-    /// handler comes back.
+    /// `Refused`: `SessionClosedError` behind the close, `NotFound` where its publisher or querier has ended,
+    /// `IdsExhausted` where no number of an entity is left. Else `NoMemory`: no event was taken. The handler comes
+    /// back.
     pub fn wait<R: Wait>(
         mut self,
         rt: &R,
@@ -113,8 +113,9 @@ impl<'a, H: Handler<Item> + Drop, B: Books> BackgroundBuilder<MatchingListenerBu
     ///
     /// # Errors
     ///
-    /// `Refused` where the session took the event and refused it, as where its publisher or querier has ended, else `NoMemory`. The
-    /// handler comes back.
+    /// `Refused`: `SessionClosedError` behind the close, `NotFound` where its publisher or querier has ended,
+    /// `IdsExhausted` where no number of an entity is left. Else `NoMemory`: no event was taken. The handler comes
+    /// back.
     pub fn wait<R: Wait>(self, rt: &R, caller: &mut Caller<B>) -> Result<u32, NotSubmitted<H>>
         ensures ok { IfOk result (λ id. Accepts B.Entries.settings H.evicts caller.old caller.new (listener_event self.entry) (is_some self.entry.handler) (Some id)) }
         ensures err { IfErr result (λ back. Stops B.Entries.settings H.evicts caller.old caller.new (listener_event self.entry) (is_some self.entry.handler) back.why) }

@@ -165,7 +165,8 @@ impl<'a, H: Handler<Item> + Drop, B: Books> Publisher<'a, H, B> {
     ///
     /// # Errors
     ///
-    /// `Refused` where the session took the event and refused it, else `NoMemory`.
+    /// `Refused`: `SessionClosedError` behind the close, `NotFound` where the publisher was ended by its number. Else
+    /// `NoMemory`: no event was taken.
     pub fn send<R: Wait>(
         &self,
         rt: &R,
@@ -206,7 +207,8 @@ impl<'a, H: Handler<Item> + Drop, B: Books> Publisher<'a, H, B> {
     ///
     /// # Errors
     ///
-    /// `Refused` where the session took the event and refused it, else `NoMemory`.
+    /// `Refused`: `SessionClosedError` behind the close, `NotFound` where the publisher was ended by its number. Else
+    /// `NoMemory`: no event was taken.
     pub fn matching_status<R: Wait>(
         &self,
         rt: &R,
@@ -239,7 +241,8 @@ impl<'a, H: Handler<Item> + Drop, B: Books> Undeclaration<Publisher<'a, H, B>> {
     ///
     /// # Errors
     ///
-    /// `Refused` where the session took the event and refused it, else `NoMemory`. The publisher comes back.
+    /// `Refused`: `NotFound` where it was ended by its number already, unless the session is closed. Else `NoMemory`:
+    /// no event was taken. The publisher comes back.
     pub fn wait<R: Wait>(
         self,
         rt: &R,

@@ -175,7 +175,8 @@ impl<'a, H: Handler<Item> + Drop, B: Books> PublisherBuilder<'a, H, B> {
     ///
     /// # Errors
     ///
-    /// `Refused` where the session took the event and refused it, else `NoMemory`.
+    /// `Refused`: `SessionClosedError` behind the close, `IdsExhausted` where no number of an entity is left. Else
+    /// `NoMemory`: no event was taken.
     pub fn wait<R: Wait>(
         self,
         rt: &R,

@@ -152,7 +152,8 @@ impl<'a, H: Handler<Item> + Drop, B: Books> Querier<'a, H, B> {
     ///
     /// # Errors
     ///
-    /// `Refused` where the session took the event and refused it, else `NoMemory`.
+    /// `Refused`: `SessionClosedError` behind the close, `NotFound` where the querier was ended by its number. Else
+    /// `NoMemory`: no event was taken.
     pub fn matching_status<R: Wait>(
         &self,
         rt: &R,
@@ -192,7 +193,8 @@ impl<'a, H: Handler<Item> + Drop, B: Books> Undeclaration<Querier<'a, H, B>> {
     ///
     /// # Errors
     ///
-    /// `Refused` where the session took the event and refused it, else `NoMemory`. The querier comes back.
+    /// `Refused`: `NotFound` where it was ended by its number already, unless the session is closed. Else `NoMemory`:
+    /// no event was taken. The querier comes back.
     pub fn wait<R: Wait>(
         self,
         rt: &R,

@@ -85,7 +85,8 @@ impl<'a, H: Handler<Item> + Drop, B: Books> Queryable<'a, H, B> {
     ///
     /// # Errors
     ///
-    /// `Refused` where the session took the event and refused it, else `NoMemory`. The queryable comes back.
+    /// `Refused`: `NotFound` where it was ended or left to itself by its number, unless the session is closed. Else
+    /// `NoMemory`: no event was taken. The queryable comes back.
     pub fn set_background<R: Wait>(
         self,
         rt: &R,
@@ -132,7 +133,8 @@ impl<'a, H: Handler<Item> + Drop, B: Books> Undeclaration<Queryable<'a, H, B>> {
     ///
     /// # Errors
     ///
-    /// `Refused` where the session took the event and refused it, else `NoMemory`. The queryable comes back.
+    /// `Refused`: `NotFound` where it was ended or left to itself by its number, unless the session is closed. Else
+    /// `NoMemory`: no event was taken. The queryable comes back.
     pub fn wait<R: Wait>(
         self,
         rt: &R,

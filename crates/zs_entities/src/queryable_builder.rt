@@ -81,7 +81,7 @@ impl<'a, H, B: Books> QueryableBuilder<'a, H, B> {
         }
     }
 
-    /// The same, left to itself from the first: it lives until the session is closed, and can't be named.
+    /// The same as what nobody holds: it lives until the session is closed.
     pub fn background(self) -> BackgroundBuilder<QueryableBuilder<'a, H, B>>
         ensures { result ≡ self.entry }
     {
@@ -140,7 +140,8 @@ impl<'a, H: Handler<Item> + Drop, B: Books> QueryableBuilder<'a, H, B> {
     ///
     /// # Errors
     ///
-    /// `Refused` where the session took the event and refused it, else `NoMemory`. The handler comes back.
+    /// `Refused`: `SessionClosedError` behind the close, `IdsExhausted` where no number of an entity is left. Else
+    /// `NoMemory`: no event was taken. The handler comes back.
     pub fn wait<R: Wait>(
         mut self,
         rt: &R,
@@ -163,7 +164,8 @@ impl<'a, H: Handler<Item> + Drop, B: Books> BackgroundBuilder<QueryableBuilder<'
     ///
     /// # Errors
     ///
-    /// `Refused` where the session took the event and refused it, else `NoMemory`. The handler comes back.
+    /// `Refused`: `SessionClosedError` behind the close, `IdsExhausted` where no number of an entity is left. Else
+    /// `NoMemory`: no event was taken. The handler comes back.
     pub fn wait<R: Wait>(self, rt: &R, caller: &mut Caller<B>) -> Result<u32, NotSubmitted<H>>
         ensures ok { IfOk result (λ id. Accepts B.Entries.settings H.evicts caller.old caller.new (queryable_event self.entry) (is_some self.entry.handler) (Some id)) }
         ensures err { IfErr result (λ back. Stops B.Entries.settings H.evicts caller.old caller.new (queryable_event self.entry) (is_some self.entry.handler) back.why) }

@@ -116,7 +116,8 @@ impl<'a, H: Handler<Item> + Drop, B: Books> Subscriber<'a, H, B> {
     ///
     /// # Errors
     ///
-    /// `Refused` where the session took the event and refused it, else `NoMemory`. The subscriber comes back.
+    /// `Refused`: `NotFound` where it was ended or left to itself by its number, unless the session is closed. Else
+    /// `NoMemory`: no event was taken. The subscriber comes back.
     pub fn set_background<R: Wait>(
         self,
         rt: &R,
@@ -158,7 +159,8 @@ impl<'a, H: Handler<Item> + Drop, B: Books> Undeclaration<Subscriber<'a, H, B>> 
     ///
     /// # Errors
     ///
-    /// `Refused` where the session took the event and refused it, else `NoMemory`. The subscriber comes back.
+    /// `Refused`: `NotFound` where it was ended or left to itself by its number, unless the session is closed. Else
+    /// `NoMemory`: no event was taken. The subscriber comes back.
     pub fn wait<R: Wait>(
         self,
         rt: &R,

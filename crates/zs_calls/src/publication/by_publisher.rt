@@ -153,7 +153,8 @@ impl<'a, H: Handler<Item> + Drop, B: Books> PublicationBuilder<
     ///
     /// # Errors
     ///
-    /// `Refused` where the session took the put and refused it, else `NoMemory`.
+    /// `Refused`: `SessionClosedError` behind the close, `NotFound` where no publisher of that number lives. Else
+    /// `NoMemory`: no event was taken.
     pub fn wait<R: Wait>(self, rt: &R, caller: &mut Caller<B>) -> Result<(), SessionError>
         ensures ok { OnOk result (Accepts B.Entries.settings H.evicts caller.old caller.new (publisher_put_event self.entry) false None) }
         ensures err { IfErr result (λ why. Stops B.Entries.settings H.evicts caller.old caller.new (publisher_put_event self.entry) false why) }
@@ -174,7 +175,8 @@ impl<'a, H: Handler<Item> + Drop, B: Books> PublicationBuilder<
     ///
     /// # Errors
     ///
-    /// `Refused` where the session took the delete and refused it, else `NoMemory`.
+    /// `Refused`: `SessionClosedError` behind the close, `NotFound` where no publisher of that number lives. Else
+    /// `NoMemory`: no event was taken.
     pub fn wait<R: Wait>(self, rt: &R, caller: &mut Caller<B>) -> Result<(), SessionError>
         ensures ok { OnOk result (Accepts B.Entries.settings H.evicts caller.old caller.new (publisher_delete_event self.entry) false None) }
         ensures err { IfErr result (λ why. Stops B.Entries.settings H.evicts caller.old caller.new (publisher_delete_event self.entry) false why) }

@@ -255,7 +255,7 @@ impl<'a, H: Handler<Item> + Drop, B: Books> PublicationBuilder<
     ///
     /// # Errors
     ///
-    /// `Refused` where the session took the put and refused it, else `NoMemory`.
+    /// `Refused`: `SessionClosedError` behind the close, and no other. Else `NoMemory`: no event was taken.
     pub fn wait<R: Wait>(self, rt: &R, caller: &mut Caller<B>) -> Result<(), SessionError>
         ensures ok { OnOk result (Accepts B.Entries.settings H.evicts caller.old caller.new (session_put_event self.entry) false None) }
         ensures err { IfErr result (λ why. Stops B.Entries.settings H.evicts caller.old caller.new (session_put_event self.entry) false why) }
@@ -276,7 +276,7 @@ impl<'a, H: Handler<Item> + Drop, B: Books> PublicationBuilder<
     ///
     /// # Errors
     ///
-    /// `Refused` where the session took the delete and refused it, else `NoMemory`.
+    /// `Refused`: `SessionClosedError` behind the close, and no other. Else `NoMemory`: no event was taken.
     pub fn wait<R: Wait>(self, rt: &R, caller: &mut Caller<B>) -> Result<(), SessionError>
         ensures ok { OnOk result (Accepts B.Entries.settings H.evicts caller.old caller.new (session_delete_event self.entry) false None) }
         ensures err { IfErr result (λ why. Stops B.Entries.settings H.evicts caller.old caller.new (session_delete_event self.entry) false why) }

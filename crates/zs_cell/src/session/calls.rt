@@ -33,7 +33,8 @@ impl<H: Handler<Item> + Drop, B: Books> Session<H, B> {
     ///
     /// # Errors
     ///
-    /// `Refused` where the event was taken and refused, else `NoMemory`. The handler comes back.
+    /// `Refused`: any `Refusal` that the event has cause for, of several the one that `Refusal` names first. Else
+    /// `NoMemory`: no event was taken. The handler comes back.
     pub fn submit<R: Wait>(
         &self,
         rt: &R,
@@ -88,7 +89,7 @@ impl<H: Handler<Item> + Drop, B: Books> Session<H, B> {
     ///
     /// # Errors
     ///
-    /// `Refused` where the event was taken and refused, else `NoMemory`.
+    /// `Refused`: as `submit` has it, but never `QueryCancelled`. Else `NoMemory`: no event was taken.
     pub fn tell<R: Wait>(
         &self,
         rt: &R,
@@ -116,7 +117,10 @@ impl<H: Handler<Item> + Drop, B: Books> Session<H, B> {
     ///
     /// # Errors
     ///
-    /// `Refused` where the event was taken and refused, else `NoMemory`. The handler comes back.
+    /// `Refused`: `SessionClosedError` behind the close, `NotFound` where what the event names isn't there,
+    /// `BadKeyExpr` where its key is no canonical key expression, `QueryCancelled` where its cancellation token was
+    /// cancelled, `IdsExhausted` where too few numbers are left. Else `NoMemory`: no event was taken. The handler comes
+    /// back.
     pub fn ask<R: Wait>(
         &self,
         rt: &R,
@@ -198,7 +202,7 @@ impl<H: Handler<Item> + Drop, B: Books> Session<H, B> {
     ///
     /// # Errors
     ///
-    /// `Refused` where the event was taken and refused, else `NoMemory`.
+    /// `NoMemory` alone: no event was taken. No moment is refused, not even behind the close.
     pub fn tick<R: Wait>(
         &self,
         rt: &R,
@@ -215,7 +219,10 @@ impl<H: Handler<Item> + Drop, B: Books> Session<H, B> {
     ///
     /// # Errors
     ///
-    /// `Refused` where the event was taken and refused, else `NoMemory`.
+    /// `Refused`: `UnknownScope` where a key that is looked at has a number that stands for nothing, or the message
+    /// would tell what number 0 stands for; `BadKeyExpr` where such a key is no canonical key expression;
+    /// `IdsExhausted` where a request meets more queryables than there are numbers of queries left; `Ignored` where the
+    /// message means nothing here, as all do behind the close. Else `NoMemory`: no event was taken.
     pub fn recv<R: Wait>(
         &self,
         rt: &R,
@@ -236,7 +243,7 @@ impl<H: Handler<Item> + Drop, B: Books> Session<H, B> {
     ///
     /// # Errors
     ///
-    /// `Refused` where the event was taken and refused, else `NoMemory`.
+    /// `NoMemory` alone: no event was taken. No close is refused, not even behind another one.
     pub fn close<R: Wait>(
         &self,
         rt: &R,
@@ -258,7 +265,8 @@ impl<H: Handler<Item> + Drop, B: Books> Session<H, B> {
     ///
     /// # Errors
     ///
-    /// `Refused` where the event was taken and refused, else `NoMemory`.
+    /// `Refused`: `SessionClosedError` behind the close, `IdsExhausted` where no number of a token is left. Else
+    /// `NoMemory`: no event was taken.
     pub fn cancellation_token<R: Wait>(
         &self,
         rt: &R,

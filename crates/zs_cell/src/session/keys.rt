@@ -72,7 +72,8 @@ impl<H: Handler<Item> + Drop, B: Books> Session<H, B> {
     ///
     /// # Errors
     ///
-    /// `Refused` where the event was taken and refused, else `NoMemory`.
+    /// `Refused`: `SessionClosedError` behind the close, `IdsExhausted` where the key isn't held yet and no number of a
+    /// key is left. Else `NoMemory`: no event was taken.
     pub fn declare_keyexpr<R: Wait>(
         &self,
         rt: &R,
@@ -121,8 +122,9 @@ impl<H: Handler<Item> + Drop, B: Books> Session<H, B> {
     ///
     /// # Errors
     ///
-    /// `OtherSession` where another session declared the whole key, `Refused` where the event was taken and refused, else
-    /// `NoMemory`. The key comes back.
+    /// `OtherSession` where another session declared the whole key: no event was taken. `Refused`: `SessionClosedError`
+    /// behind the close, `NotFound` where its number no longer stands for it, `NotDeclared` where it wasn't declared as
+    /// a whole. Else `NoMemory`: no event was taken. The key comes back.
     pub fn undeclare<'a, R: Wait>(
         &self,
         rt: &R,

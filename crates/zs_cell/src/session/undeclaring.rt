@@ -48,7 +48,8 @@ impl<H: Handler<Item> + Drop, B: Books> Session<H, B> {
     ///
     /// # Errors
     ///
-    /// `Refused` where the event was taken and refused, else `NoMemory`.
+    /// `Refused`: `NotFound` where nothing of that kind and number lives or it was left to itself, unless the session
+    /// is closed; an event that is no undeclaration is refused as by `tell`. Else `NoMemory`: no event was taken.
     pub fn submit_and_drain<R: Wait>(
         &self,
         rt: &R,
