@@ -14,9 +14,7 @@ fn show_sample<R: Print>(rt: &R, alloc: Global, sample: &Sample) -> Result<(), T
         SampleKind::Delete => "delete",
     };
     let key = sample.key_expr().as_str();
-    let Ok(text) = sample.payload().try_to_string(alloc) else {
-        return Err(Trouble::Nothing);
-    };
+    let text = sample.payload().try_to_string(alloc)?;
     let text = text.as_str();
     println!(rt; "{kind} {key} '{text}'")?;
     Ok(())

@@ -24,7 +24,7 @@ fn answer<B: Books, R: Wait + Print>(
     let key = KeyExpr::new("demo/example/zenoh-queryable")?;
     let payload = ZBytes::from_str(session.alloc(), "Queryable from Rattle!")?;
     query.reply(&*session, key, payload).wait(rt, caller)?;
-    match query.finish(session, rt, caller) {
+    match query.finish(rt, session, caller) {
         Ok(()) => Ok(()),
         Err(unspent) => Err(Trouble::Session(unspent.why)),
     }

@@ -19,9 +19,7 @@ fn show_sample<R: Print>(
         SampleKind::Delete => "DELETE",
     };
     let key = sample.key_expr().as_str();
-    let Ok(text) = sample.payload().try_to_string(alloc) else {
-        return Err(Trouble::Nothing);
-    };
+    let text = sample.payload().try_to_string(alloc)?;
     let text = text.as_str();
     println!(rt; ">> {words} {kind} ('{key}': '{text}')")?;
     Ok(())
@@ -38,7 +36,7 @@ pub(crate) fn show<R: Wait + Print>(
         Ok(Some(Item::Sample(sample))) => show_sample(rt, alloc, words, sample.get()),
         Ok(Some(Item::Reply(reply))) => match reply.get().result() {
             Ok(sample) => show_sample(rt, alloc, words, sample),
-            Err(_) => Err(Trouble::Nothing),
+            Err(_) => Err(Trouble::ErrorReply),
         },
         _ => Err(Trouble::Nothing),
     }

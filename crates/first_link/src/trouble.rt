@@ -1,6 +1,7 @@
 use std::alloc::AllocError;
 use std::io;
 use thiserror::Error;
+use zs_bytes::TextError;
 use zs_cell::{NotSubmitted, SessionError};
 use zs_handlers::ChannelError;
 use zs_keys::KeyError;
@@ -8,28 +9,35 @@ use zs_keys::KeyError;
 /// What can go wrong.
 #[derive(Debug, Drop, Error)]
 pub(crate) enum Trouble {
-    #[error("the session didn't do it: {0:?}")]
-    Session(SessionError),
-    #[error("there is no such channel")]
+    #[error("{0}")]
+    Session(#[from] SessionError),
+    #[error("{0}")]
     Channel(#[from] ChannelError),
-    #[error("there is no such key")]
+    #[error("{0}")]
     Key(#[from] KeyError),
     #[error("out of memory")]
     Memory(#[from] AllocError),
     #[error("nothing can be printed")]
     Print(#[from] io::Error),
+    #[error("a payload is no text")]
+    NoText,
+    #[error("a get was answered by an error")]
+    ErrorReply,
     #[error("nothing came")]
     Nothing,
-}
-
-impl From<SessionError> for Trouble {
-    fn from(why: SessionError) -> Trouble {
-        Trouble::Session(why)
-    }
 }
 
 impl<H: Drop> From<NotSubmitted<H>> for Trouble {
     fn from(back: NotSubmitted<H>) -> Trouble {
         Trouble::Session(back.why)
+    }
+}
+
+impl From<TextError> for Trouble {
+    fn from(why: TextError) -> Trouble {
+        match why {
+            TextError::Utf8 => Trouble::NoText,
+            TextError::NoMemory => Trouble::Memory(AllocError),
+        }
     }
 }

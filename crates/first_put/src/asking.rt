@@ -21,7 +21,7 @@ fn answer<B: Books, R: Wait>(
     let key = KeyExpr::new("home/kitchen/temp")?;
     let payload = ZBytes::from_str(session.alloc(), "21")?;
     query.reply(&*session, key, payload).wait(rt, caller)?;
-    match query.finish(session, rt, caller) {
+    match query.finish(rt, session, caller) {
         Ok(()) => Ok(()),
         Err(unspent) => Err(Trouble::Session(unspent.why)),
     }

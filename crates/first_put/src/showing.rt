@@ -15,9 +15,7 @@ fn show_sample<R: Print>(
     sample: &Sample,
 ) -> Result<(), Trouble> {
     let key = sample.key_expr().as_str();
-    let Ok(text) = sample.payload().try_to_string(alloc) else {
-        return Err(Trouble::Nothing);
-    };
+    let text = sample.payload().try_to_string(alloc)?;
     let text = text.as_str();
     println!(rt; "{word} {key} is {text}")?;
     Ok(())
@@ -33,7 +31,7 @@ pub(crate) fn show<R: Wait + Print>(
         Ok(Some(Item::Sample(sample))) => show_sample(rt, alloc, "sample:", sample.get()),
         Ok(Some(Item::Reply(reply))) => match reply.get().result() {
             Ok(sample) => show_sample(rt, alloc, "reply:", sample),
-            Err(_) => Err(Trouble::Nothing),
+            Err(_) => Err(Trouble::ErrorReply),
         },
         _ => Err(Trouble::Nothing),
     }
