@@ -40,6 +40,7 @@ pub fn spell(bytes: &mut Vec<u8>, text: &str) -> Result<(), AllocError> {
     Ok(())
 }
 
+/// Puts a text behind the bytes, with tabs for spaces and nothing else changed.
 fn tabbed(bytes: &mut Vec<u8>, text: &str) -> Result<(), AllocError> {
     for byte in text.bytes() {
         bytes.push(if byte == b' ' { b'\t' } else { byte })?;
@@ -51,6 +52,13 @@ fn tabbed(bytes: &mut Vec<u8>, text: &str) -> Result<(), AllocError> {
 pub fn spelled(alloc: Global, text: &str) -> Result<Vec<u8>, AllocError> {
     let mut bytes = Vec::new(alloc);
     spell(&mut bytes, text)?;
+    Ok(bytes)
+}
+
+/// The bytes of a line, with a tab for each space.
+pub fn spelled_line(alloc: Global, line: &str) -> Result<Vec<u8>, AllocError> {
+    let mut bytes = Vec::new(alloc);
+    tabbed(&mut bytes, line)?;
     Ok(bytes)
 }
 
