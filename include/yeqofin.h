@@ -150,11 +150,22 @@ typedef struct {
     uint32_t sn;
 } yq_source;
 
+/* How urgent a message is; the less, the more urgent. */
+enum {
+    YQ_PRIORITY_REAL_TIME = 1,
+    YQ_PRIORITY_INTERACTIVE_HIGH = 2,
+    YQ_PRIORITY_INTERACTIVE_LOW = 3,
+    YQ_PRIORITY_DATA_HIGH = 4,
+    YQ_PRIORITY_DATA = 5, /* the usual one */
+    YQ_PRIORITY_DATA_LOW = 6,
+    YQ_PRIORITY_BACKGROUND = 7
+};
+
 /* How a publication is made. All of it zero is the usual way. */
 typedef struct {
     uint8_t destination; /* whose subscribers are handed it: YQ_ANY, YQ_SESSION_LOCAL or YQ_REMOTE */
     struct {
-        uint8_t priority; /* from 1, the most urgent, to 7; 0 is 5 */
+        uint8_t priority; /* YQ_PRIORITY_..; 0 is YQ_PRIORITY_DATA */
         bool blocks;      /* where a queue is full the sender waits; else it is lost */
         bool express;     /* it goes out at once, and isn't batched with others */
     } qos;
@@ -200,12 +211,27 @@ uint32_t yq_declare_publisher(yq_session *session, const yq_key *key, const yq_p
 /* Declares a queryable, which is handed queries of that origin. A complete one knows all values of its key. */
 uint32_t yq_declare_queryable(yq_session *session, const yq_key *key, uint8_t origin, bool complete, yq_answer *answer);
 
+/* Which queryables a get asks. */
+enum {
+    YQ_QUERY_TARGET_BEST_MATCHING = 0,
+    YQ_QUERY_TARGET_ALL = 1,
+    YQ_QUERY_TARGET_ALL_COMPLETE = 2 /* all that are complete */
+};
+
+/* Which replies on one key are handed out. */
+enum {
+    YQ_CONSOLIDATION_MODE_AUTO = 0,      /* as suits the query: none where its parameters name a time, else the latest */
+    YQ_CONSOLIDATION_MODE_NONE = 1,      /* all, as they come */
+    YQ_CONSOLIDATION_MODE_MONOTONIC = 2, /* as they come, but none older than one before */
+    YQ_CONSOLIDATION_MODE_LATEST = 3     /* the newest, at the end */
+};
+
 /* How a get asks, or a querier with all its gets. All of it zero is the usual way. */
 typedef struct {
     uint8_t destination;   /* whose queryables are asked: YQ_ANY, YQ_SESSION_LOCAL or YQ_REMOTE */
-    uint8_t target;        /* 0 the best matching ones, 1 all, 2 all that are complete */
-    uint8_t consolidation; /* which replies on one key are handed out: 0 as suits the query, 1 all, 2 ever newer ones, 3 the newest */
-    uint8_t priority;      /* from 1, the most urgent, to 7; 0 is 5 */
+    uint8_t target;        /* YQ_QUERY_TARGET_.. */
+    uint8_t consolidation; /* YQ_CONSOLIDATION_MODE_.. */
+    uint8_t priority;      /* YQ_PRIORITY_..; 0 is YQ_PRIORITY_DATA */
     bool drops;            /* where a queue is full the query is lost; else the sender waits */
     bool express;          /* it goes out at once, and isn't batched with others */
     bool any_key;          /* replies are taken on any key */
@@ -266,11 +292,19 @@ uint32_t yq_liveliness_get(yq_session *session, const yq_key *key, const yq_live
 uint32_t yq_cancellation_token(yq_session *session, yq_answer *answer);
 uint32_t yq_cancel(yq_session *session, uint32_t token, yq_answer *answer);
 
+/* What a reply says of its quality of service where it isn't as its query has it, which is 0. */
+enum {
+    YQ_REPLY_DROPS = 1,   /* of congestion: where a queue is full it is lost */
+    YQ_REPLY_BLOCKS = 2,  /* and the sender waits */
+    YQ_REPLY_BATCHED = 1, /* of express: it can be batched with others */
+    YQ_REPLY_EXPRESS = 2  /* and it goes out at once */
+};
+
 /* The quality of service of a reply. What is 0 is as its query has it. */
 typedef struct {
-    uint8_t priority;   /* from 1, the most urgent, to 7 */
-    uint8_t congestion; /* where a queue is full: 1 it is lost, 2 the sender waits */
-    uint8_t express;    /* 1 it can be batched with others, 2 it goes out at once */
+    uint8_t priority;   /* YQ_PRIORITY_.. */
+    uint8_t congestion; /* YQ_REPLY_DROPS or YQ_REPLY_BLOCKS */
+    uint8_t express;    /* YQ_REPLY_BATCHED or YQ_REPLY_EXPRESS */
 } yq_reply_quality;
 
 /* Answers a query that was handed out under that number: with bytes on a key, its deletion, or an error. */
@@ -302,8 +336,8 @@ typedef struct {
     bool complete;          /* whether a queryable is complete */
     bool has_interest;      /* whether the next is the number of an interest */
     uint32_t interest;
-    uint8_t mode;           /* of an interest: 0 what stands, 1 what is to come, 2 both, 3 nothing any more */
-    uint8_t what;           /* of an interest: 0 subscribers, 1 queryables, 2 tokens, 3 nothing is named */
+    uint8_t mode;           /* of an interest: YQ_INTEREST_CURRENT .. */
+    uint8_t what;           /* of an interest: YQ_INTEREST_SUBSCRIBERS .. */
     bool deletes;           /* whether a publication or reply deletes; else it puts */
     bool is_error;          /* whether a reply is an error */
     bool has_value;         /* whether a query has a payload */
@@ -319,6 +353,18 @@ typedef struct {
     yq_source source;
     yq_entity responder;    /* the queryable that replies */
 } yq_message;
+
+/* What an interest asks for, and of what. */
+enum {
+    YQ_INTEREST_CURRENT = 0,        /* mode: what stands */
+    YQ_INTEREST_FUTURE = 1,         /* what is to come */
+    YQ_INTEREST_CURRENT_FUTURE = 2, /* both */
+    YQ_INTEREST_FINAL = 3,          /* nothing any more */
+    YQ_INTEREST_SUBSCRIBERS = 0,    /* what */
+    YQ_INTEREST_QUERYABLES = 1,
+    YQ_INTEREST_TOKENS = 2,
+    YQ_INTEREST_OF_NOTHING = 3 /* an end names none */
+};
 
 enum {
     YQ_DECLARE_KEY_EXPR = 1,      /* key_number stands for the key */
