@@ -9,7 +9,7 @@ use zs_keys::KeyExpr;
 #[derive(Clone, Copy, Debug, PartialEq, Eq, Hash, Error)]
 pub enum SessionError {
     /// The session took the event and refused it.
-    #[error("the session refused it: {0:?}")]
+    #[error("the session refused it: {0}")]
     Refused(Refusal),
     /// A value of another session was handed in. No event was taken.
     #[error("it is of another session")]

@@ -4,31 +4,41 @@ ghost use Rattle.zs_events.specs.Turn.{was_refused, answered};
 
 use std::alloc::{AllocError, Global};
 use std::marker::Model;
+use thiserror::Error;
 use zs_query::QueryData;
 use zs_sample::{Reply, Sample};
 use zs_shared::Shared;
 use zs_wire::Message;
 
 /// Why a session refused an event. Nothing else follows from a refused event.
-#[derive(Clone, Copy, Debug, PartialEq, Eq, Hash)]
+#[derive(Clone, Copy, Debug, PartialEq, Eq, Hash, Error)]
 pub enum Refusal {
     /// The session is closed.
+    #[error("the session is closed")]
     SessionClosedError,
     /// The event names something that isn't there.
+    #[error("it names something that isn't there")]
     NotFound,
     /// A wire expression has a number that the other side never declared.
+    #[error("the other side never declared its number")]
     UnknownScope,
     /// A key is no canonical key expression.
+    #[error("the key is no canonical key expression")]
     BadKeyExpr,
     /// The get's cancellation token is spent.
+    #[error("its cancellation token is spent")]
     QueryCancelled,
     /// The reply's key doesn't meet that of its query.
+    #[error("the key has none in common with the query's")]
     ReplyDisjoint,
     /// The key that is to be undeclared was never declared.
+    #[error("the key was never declared")]
     NotDeclared,
     /// The numbers of that sort are all drawn.
+    #[error("no number is left")]
     IdsExhausted,
     /// A message from the network that means nothing here.
+    #[error("it means nothing here")]
     Ignored,
 }
 
