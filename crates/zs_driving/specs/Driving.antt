@@ -110,7 +110,7 @@ abbrev pub IsCalm : Result Driven DriveError → Supply → Supply → Outlet �
 IsCalm r before after from to = r ≢ Err ReadFault → r ≢ Err WriteFault → (after.faults ≡ before.faults) × (to.faults ≡ from.faults)
 
 -- What every run says, where that is what it says at its end: of what was put out at whatever exit, and the cause of
--- each error.
+-- each error but want of memory.
 pub record DrivesTo (t : Task) (IsEnd : ℕ → Type 0) (r : Result Driven DriveError) (before after : Supply) (from to : Outlet) (Puts : List ℕ → Type 0) : Type 0 where
   pub done : IfOk r (λ driven. IsEnd driven.events)
   pub all_read : IfOk r (λ driven. HasReadAll before after)

@@ -20,8 +20,8 @@ pub struct AskForm {
     pub destination: u8,
     /// 0 the best matching ones, 1 all, 2 all that are complete.
     pub target: u8,
-    /// Which replies on one key are handed out: 0 as suits the question, 1 all, 2 those that are newer than the ones before,
-    /// 3 the newest alone.
+    /// Which replies on one key are handed out: 0 as suits the question, 1 all, 2 those that aren't older than the ones
+    /// before, 3 the newest alone.
     pub consolidation: u8,
     /// From 1 to 7, where the lowest goes first; 0 is 5.
     pub priority: u8,

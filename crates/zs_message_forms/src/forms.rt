@@ -46,7 +46,7 @@ pub struct MessageForm {
     pub reliable: bool,
     /// Which queryables a query is for: 0 the best matching ones, 1 all, 2 all that are complete.
     pub target: u8,
-    /// Which replies its asker takes: 0 as suits the query, 1 all, 2 ever newer ones, 3 the newest alone.
+    /// Which replies its asker takes: 0 as suits the query, 1 all, 2 none that is older, 3 the newest alone.
     pub consolidation: u8,
     /// After how many milliseconds its asker stops to wait.
     pub timeout: u64,

@@ -43,7 +43,7 @@ timestamps are the same, a deletion is newer than a put, and then the greater by
 Output lines begin with the number of the line, from 1, and a tab:
   ok, ok N               it was done; N is the get's number, or how many messages there were
   refused NAME           BadKeyExpr: the key is no canonical key expression; WildKey: a key
-                         that is written has a *; Outside: it isn't below r; IdsExhausted:
+                         that is written has a *; Outside: it is neither r nor below it; IdsExhausted:
                          no number is left
   SIDE has KEY put BYTES TS, SIDE has KEY del TS
                          a key of the store, the keys ascending by their bytes

@@ -25,7 +25,7 @@ pub enum ReplicaRefusal {
     BadKeyExpr,
     /// The key of a write has a `*`.
     WildKey,
-    /// The key of a write isn't below `r`: it isn't replicated.
+    /// The key of a write is neither `r` nor below it: it isn't replicated.
     Outside,
 }
 

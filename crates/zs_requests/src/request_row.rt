@@ -40,7 +40,7 @@ impl RequestRow {
     }
 }
 
-/// The same key in memory of its own.
+/// The same key. It shares the memory of a text that is shared.
 pub fn clone_key(key: &KeyExpr<'static>, alloc: Global) -> Result<KeyExpr<'static>, AllocError>
     ensures { IfOk result (λ copy. copy ≡ key.now) }
 {

@@ -50,7 +50,7 @@ impl Sample {
         fields
     }
 
-    /// The same sample in memory of its own.
+    /// The same sample. It shares the memory of its texts and bytes.
     pub fn try_clone(&self, alloc: Global) -> Result<Sample, AllocError>
         ensures { IfOk result (λ copy. copy ≡ self.now) }
     {

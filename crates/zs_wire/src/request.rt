@@ -10,7 +10,8 @@ use zs_bytes::{Text, ZBytes};
 /// Which queryables a query is for.
 #[derive(Clone, Copy, Debug, Default, PartialEq, Eq, Hash)]
 pub enum QueryTarget {
-    /// The nearest complete one, or all where none is complete.
+    /// Those that a router chooses: the nearest complete one, or all where none is complete. Of its own queryables a
+    /// session asks each that matches.
     #[default]
     BestMatching,
     All,
@@ -26,7 +27,7 @@ pub enum ConsolidationMode {
     Auto,
     /// All, as they come.
     None,
-    /// Those that are newer than what was handed out before, as they come.
+    /// Those that aren't older than what was handed out before, as they come. One without a timestamp is handed out.
     Monotonic,
     /// The newest alone, once all have come.
     Latest,

@@ -25,7 +25,7 @@ pub struct WireExpr {
 }
 
 impl WireExpr {
-    /// The same wire expression in memory of its own.
+    /// The same wire expression. It shares the memory of the suffix.
     pub fn try_clone(&self, alloc: Global) -> Result<WireExpr, AllocError>
         ensures { IfOk result (λ copy. copy ≡ self.now) }
     {
