@@ -1,5 +1,5 @@
 //! What a session gives out for an event.
-ghost use Rattle.std.specs.Prelude.{◌≡◌, false, [], None, map, option_map};
+ghost use Rattle.std.specs.Prelude.{◌≡◌, false, None, map, option_map};
 ghost use Rattle.std.specs.Arc.{arc_value};
 ghost use Rattle.atomic_table.specs.Seated.{TableId};
 ghost use Rattle.zs_posts.specs.Calls.{call_seen, all_lents};
@@ -74,22 +74,5 @@ impl<H: Drop, D: Drop> Handing<H, D> {
         drop(spare);
         drop(back);
         hands.run(rt)
-    }
-
-    /// The turn alone, where no call is to be made: a session without handlers needs nothing else.
-    pub fn into_turn(self) -> Shared<Turn>
-        requires { self.calls ≡ [] }
-        ensures { result ≡ self.turn }
-    {
-        let Handing {
-            turn,
-            spare,
-            hands,
-            back,
-        } = self;
-        hands.let_go();
-        drop(spare);
-        drop(back);
-        turn
     }
 }

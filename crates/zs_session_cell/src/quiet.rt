@@ -1,6 +1,7 @@
 //! A cell that holds no handler: whoever gives it an event reads the turn, and no call is to be made.
 
 ghost use Rattle.std.specs.Prelude.{◌≡◌, []};
+ghost use Rattle.zs_exchange.specs.Ends.{IsIdle};
 ghost use Rattle.zs_exchange.specs.Handlers.{AreBare};
 
 use crate::no_handler::NoHandler;
@@ -25,7 +26,7 @@ pub fn turn_alone(taken: Taken<NoHandler, ()>) -> Shared<Turn>
     turn
 }
 
-/// Lets the gates go that were ended. None has a handler to be told.
+/// Lets the gates go that were ended and have no pass out. None has a handler to be told.
 pub fn let_ended_go(cell: &mut CellState<NoHandler>)
     requires { AreBare cell.old.exchange.posts.ready }
     ensures world { cell.new.world ≡ cell.old.world }
@@ -33,6 +34,7 @@ pub fn let_ended_go(cell: &mut CellState<NoHandler>)
     ensures outbox { cell.new.exchange.outbox ≡ cell.old.exchange.outbox }
     ensures rows { cell.new.exchange.posts.rows ≡ cell.old.exchange.posts.rows }
     ensures bare { AreBare cell.new.exchange.posts.ready }
+    ensures idle { IsIdle cell.new.exchange.posts }
 {
     'endings: while let Some(ending) = cell.ending() {
         ending.let_go();
