@@ -1,2 +1,3 @@
 mod Effects
 mod Replies
+mod Gathering

@@ -1,6 +1,6 @@
 //! What a store answers a query.
 
-ghost use Rattle.std.specs.Prelude.{◌≡◌, ◌++◌, IfOk, OnOk};
+ghost use Rattle.std.specs.Prelude.{◌≡◌, ◌==◌, ◌++◌, length, IfOk, OnOk};
 ghost use Rattle.zs_bytes.specs.Payload.{bytes_of, one_slice};
 ghost use Rattle.zs_store.specs.Entry.{seen};
 ghost use Rattle.zs_keeping.specs.Answering.{answers_to, effect_answers, item_answers, answers_of, replies_of, reply_if, reply_of, update_of, body_of};
@@ -177,11 +177,32 @@ fn body(alloc: Global, entry: &Entry) -> Result<PushBody, AllocError>
     }
 }
 
-/// The bytes of a payload in one slice.
+/// The bytes of a payload in one slice. Where they lie in one already, that slice is shared; otherwise they are copied.
+#[tactic(auto, using(crate::proofs::Gathering::gathered_already))]
 fn gathered(alloc: Global, payload: &ZBytes) -> Result<ZBytes, AllocError>
     ensures { IfOk result (λ made. made ≡ one_slice (bytes_of payload.now)) }
 {
+    if payload.is_empty() {
+        return Ok(ZBytes::new());
+    }
+    if is_one_slice(payload) {
+        return payload.try_clone(alloc);
+    }
+    joined(alloc, payload)
+}
+
+/// Whether a payload has just one slice.
+fn is_one_slice(payload: &ZBytes) -> bool
+    ensures { result ≡ (length payload.now == 1) }
+{
+    let mut slices = payload.slices();
+    slices.next().is_some() && slices.next().is_none()
+}
+
+/// A copy of the bytes of a payload, in one slice.
+fn joined(alloc: Global, payload: &ZBytes) -> Result<ZBytes, AllocError>
+    ensures { IfOk result (λ made. made ≡ one_slice (bytes_of payload.now)) }
+{
     let bytes = payload.to_bytes(alloc)?;
-    let bytes: &[u8] = &bytes;
-    ZBytes::from_slice(alloc, bytes)
+    ZBytes::from_vec(alloc, bytes.into_owned(alloc)?)
 }
