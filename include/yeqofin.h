@@ -41,7 +41,8 @@ enum {
     YQ_NO_EVENT = 5,     /* what was given says no event: a text that is not UTF-8, a number that means nothing, a line of no
                             form of the language, or one that reads a channel (recv), as this session has none */
     YQ_NO_MEMORY = 6,    /* want of memory */
-    YQ_NOTHING = 7       /* no effect waits */
+    YQ_NOTHING = 7,      /* no effect waits */
+    YQ_NO_PART = 8       /* there is no part of that number */
 };
 
 /* A slot. */
@@ -433,9 +434,9 @@ enum { YQ_KEY = 1, YQ_PAYLOAD = 2, YQ_ENCODING = 3, YQ_PARAMETERS = 4, YQ_ATTACH
  * YQ_OK, YQ_NOT_OPEN, YQ_NOTHING (nothing is written but for YQ_OK). */
 uint32_t yq_effect(yq_session *session, yq_effect_numbers *effect);
 
-/* Copies as much of one of its texts and bytes as fits into `room` bytes to the front of `out`, and writes how many bytes. Another
- * number than those above names nothing, of which no byte is copied.
- * YQ_OK, YQ_NOT_OPEN, YQ_NOTHING (then *count is 0). */
+/* Copies as much of one of its texts and bytes as fits into `room` bytes to the front of `out`, and writes how many bytes.
+ * YQ_OK, YQ_NOT_OPEN, YQ_NO_PART (`part` is none of the numbers above; said also where no effect waits), YQ_NOTHING (at all but
+ * YQ_OK *count is 0). */
 uint32_t yq_effect_bytes(yq_session *session, uint8_t part, uint8_t *out, size_t room, size_t *count);
 
 /* Lets go of the first effect that waits; the next is the first then.

@@ -134,6 +134,7 @@ static size_t read_effects(yq_session *session, uint8_t *out, size_t length)
             want(yq_effect_bytes(session, part, out + length, 64, &count), YQ_OK, "yq_effect_bytes");
             length += count;
         }
+        want(yq_effect_bytes(session, YQ_ATTACHMENT + 1, out + length, 64, &count), YQ_NO_PART, "yq_effect_bytes of no part");
         want(yq_next_effect(session), YQ_OK, "yq_next_effect");
     }
     return length;

@@ -1,5 +1,5 @@
 -- What a call of an event comes to.
-use Rattle.std.specs.Prelude.{◌≡◌, ◌⊎◌, ℕ, ◌<◌, List, [], ◌∷◌, ◌++◌, length, take, drop, min, IsSomeAnd}
+use Rattle.std.specs.Prelude.{◌≡◌, ◌⊎◌, ℕ, ◌<◌, ◌≤◌, List, [], ◌∷◌, ◌++◌, length, take, drop, min, IsSomeAnd}
 use Rattle.std.specs.declared.option.Option.{Option}
 use Rattle.std.specs.declared.option.Option.TheVariants.{None, Some}
 use Rattle.zs_events.specs.declared.event.Event.{Event}
@@ -32,6 +32,10 @@ pub record Called (said : Option Event) (old new : Option Lined) (kept written :
 abbrev pub TellsFirst : List Effect → EffectForm → Type 0
 TellsFirst [] form = ⊥
 TellsFirst (effect ∷ more) form = form ≡ effect_form effect
+
+-- the number of one of an effect's texts and bytes
+abbrev pub IsPart : ℕ → Type 0
+IsPart part = (1 ≤ part) × (part ≤ 5)
 
 -- as much of a part of the first effect as fits was copied to the front
 abbrev pub CopiesFirst : ℕ → List Effect → List ℕ → List ℕ → ℕ → Type 0

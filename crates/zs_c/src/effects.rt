@@ -1,12 +1,12 @@
 //! The calls by which the effects come out.
 
-ghost use Rattle.std.specs.Prelude.{◌≡◌, ◌⊎◌, []};
+ghost use Rattle.std.specs.Prelude.{◌≡◌, ◌⊎◌, ◌↔◌, [], IsTrue, IsSome};
 ghost use Rattle.std.specs.declared.option.Option.TheVariants.{None, Some};
-ghost use Rattle.zs_c.specs.Called.{TellsFirst, CopiesFirst, DropsFirst};
+ghost use Rattle.zs_c.specs.Called.{TellsFirst, IsPart, CopiesFirst, DropsFirst};
 ghost use Rattle.zs_c.specs.Through.{Through};
 
 use crate::slot::Slot;
-use crate::status::{NOT_OPEN, NOTHING, OK};
+use crate::status::{NO_PART, NOT_OPEN, NOTHING, OK};
 use std::alloc::Global;
 use zs_line_session::LineSession;
 use zs_message_forms::{EffectForm, effect_form, effect_parts};
@@ -45,7 +45,8 @@ fn tell_first(session: &LineSession, effect: &mut EffectForm) -> u32
     }
 }
 
-/// Copies as much of a part of the first effect as fits to the front of `out`, and writes how many bytes.
+/// Copies as much of a part of the first effect as fits to the front of `out`, and writes how many bytes. That there is no
+/// such part is said also where no effect waits.
 #[unsafe(no_mangle)]
 pub extern "C" fn yq_effect_bytes(
     alloc: Global,
@@ -58,11 +59,12 @@ pub extern "C" fn yq_effect_bytes(
     ensures kept { ¬ (result ≡ 0) → (slot.new.handle.value ≡ slot.old.handle.value) × (out.new ≡ out.old) × (count.new ≡ 0) }
     ensures empty { result ≡ 1 → slot.old.handle.value ≡ None }
     ensures nothing { result ≡ 7 → Through (λ before after. before.effects ≡ []) slot.old.handle.value slot.new.handle.value }
-    ensures known { (result ≡ 0) ⊎ (result ≡ 1) ⊎ (result ≡ 7) }
+    ensures no_part { (result ≡ 8) ↔ (IsSome slot.old.handle.value × ¬ IsPart part) }
+    ensures known { (result ≡ 0) ⊎ (result ≡ 1) ⊎ (result ≡ 7) ⊎ (result ≡ 8) }
 {
     match slot.take(alloc) {
         Some(session) => {
-            let status = copy_first(&session, part, out, count);
+            let status = copy_part(&session, part, out, count);
             slot.put(session);
             status
         }
@@ -71,6 +73,29 @@ pub extern "C" fn yq_effect_bytes(
             NOT_OPEN
         }
     }
+}
+
+/// It is `copy_first`, if there is such a part.
+fn copy_part(session: &LineSession, part: u8, out: &mut [u8], count: &mut usize) -> u32
+    ensures done { result ≡ 0 → CopiesFirst part session.now.effects out.old out.new count.new }
+    ensures kept { ¬ (result ≡ 0) → (out.new ≡ out.old) × (count.new ≡ 0) }
+    ensures nothing { result ≡ 7 → session.now.effects ≡ [] }
+    ensures no_part { (result ≡ 8) ↔ (¬ IsPart part) }
+    ensures known { (result ≡ 0) ⊎ (result ≡ 7) ⊎ (result ≡ 8) }
+{
+    if is_part(part) {
+        copy_first(session, part, out, count)
+    } else {
+        *count = 0;
+        NO_PART
+    }
+}
+
+/// Whether an effect has a part of that number, which the header names.
+fn is_part(part: u8) -> bool
+    ensures { IsTrue result ↔ IsPart part }
+{
+    1 <= part && part <= 5
 }
 
 fn copy_first(session: &LineSession, part: u8, out: &mut [u8], count: &mut usize) -> u32

@@ -16,3 +16,5 @@ pub(crate) const NO_EVENT: u32 = 5;
 pub(crate) const NO_MEMORY: u32 = 6;
 /// There is no effect.
 pub(crate) const NOTHING: u32 = 7;
+/// There is no such part.
+pub(crate) const NO_PART: u32 = 8;
