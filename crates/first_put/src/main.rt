@@ -1,4 +1,5 @@
-//! A session as callers share it: a subscriber that is handed a put, and a get that a queryable answers, all in one session.
+//! A session as callers share it: a subscriber that is handed a put, a get that a queryable answers, and a publisher that asks
+//! whether anyone listens, all in one session.
 #![tactic(auto)]
 
 use crate::trouble::Trouble;
@@ -9,6 +10,7 @@ use std::sync::ledger::Blank;
 mod asking;
 mod channel;
 mod opening;
+mod publishing;
 mod putting;
 mod showing;
 mod trouble;

@@ -3,6 +3,7 @@ ghost use Rattle.std.specs.Prelude.{◌≡◌};
 ghost use Rattle.zs_core.specs.Settings.{default_settings};
 
 use crate::asking::offer_and_ask;
+use crate::publishing::subscribe_and_publish;
 use crate::putting::subscribe_and_put;
 use crate::trouble::Trouble;
 use std::alloc::Global;
@@ -13,7 +14,7 @@ use zs_cell::{Books, Caller, EntryLedger, Item, Session, Three};
 use zs_core::Settings;
 use zs_handlers::FifoSender;
 
-/// Puts, asks and closes the session.
+/// Puts, asks, publishes and closes the session.
 fn use_session<B: Books, R: Wait + Print>(
     rt: &R,
     session: &Session<FifoSender<Item>, B>,
@@ -21,6 +22,7 @@ fn use_session<B: Books, R: Wait + Print>(
 ) -> Result<(), Trouble> {
     subscribe_and_put(rt, session, caller)?;
     offer_and_ask(rt, session, caller)?;
+    subscribe_and_publish(rt, session, caller)?;
     session.close(rt, false, caller)?;
     let count = caller.count();
     println!(rt; "{count} events")?;

@@ -5,9 +5,9 @@ use std::io::Print;
 use std::sync::Wait;
 use zs_cell::Item;
 use zs_handlers::FifoChannelHandler;
-use zs_sample::Sample;
+use zs_sample::{Sample, SampleKind};
 
-/// Prints a sample as its key and its text.
+/// Prints a sample as its key and its text, or that the key was deleted.
 fn show_sample<R: Print>(
     rt: &R,
     alloc: Global,
@@ -15,9 +15,14 @@ fn show_sample<R: Print>(
     sample: &Sample,
 ) -> Result<(), Trouble> {
     let key = sample.key_expr().as_str();
-    let text = sample.payload().try_to_string(alloc)?;
-    let text = text.as_str();
-    println!(rt; "{word} {key} is {text}")?;
+    match sample.kind() {
+        SampleKind::Put => {
+            let text = sample.payload().try_to_string(alloc)?;
+            let text = text.as_str();
+            println!(rt; "{word} {key} is {text}")?;
+        }
+        SampleKind::Delete => println!(rt; "{word} {key} is deleted")?,
+    }
     Ok(())
 }
 

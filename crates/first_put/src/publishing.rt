@@ -1,4 +1,4 @@
-//! Who lives in the home.
+//! A publisher, and a subscriber that hears it and whose callbacks are waited for.
 use crate::channel::channel;
 use crate::showing::show;
 use crate::trouble::Trouble;
@@ -28,7 +28,7 @@ fn publish<B: Books, R: Wait + Print>(
 }
 
 /// Declares the kitchen's publisher, and ends it once it has published.
-fn heat<B: Books, R: Wait + Print>(
+fn declare_and_publish<B: Books, R: Wait + Print>(
     rt: &R,
     session: &Session<FifoSender<Item>, B>,
     caller: &mut Caller<B>,
@@ -47,20 +47,20 @@ fn heat<B: Books, R: Wait + Print>(
     }
 }
 
-/// Lets the kitchen publish, and shows what the subscriber was handed.
-fn heat_and_show<B: Books, R: Wait + Print>(
+/// Publishes twice, and shows what the subscriber was handed.
+fn publish_and_show<B: Books, R: Wait + Print>(
     rt: &R,
     session: &Session<FifoSender<Item>, B>,
     samples: &FifoChannelHandler<Item>,
     caller: &mut Caller<B>,
 ) -> Result<(), Trouble> {
-    heat(rt, session, caller)?;
+    declare_and_publish(rt, session, caller)?;
     show(rt, session.alloc(), samples)?;
     show(rt, session.alloc(), samples)
 }
 
-/// Subscribes to the home while the kitchen is heated, and waits in the end until the subscriber's callbacks have ended.
-pub(crate) fn live<B: Books, R: Wait + Print>(
+/// Subscribes to all of a home while its kitchen publishes, and waits in the end until the subscriber's callbacks have ended.
+pub(crate) fn subscribe_and_publish<B: Books, R: Wait + Print>(
     rt: &R,
     session: &Session<FifoSender<Item>, B>,
     caller: &mut Caller<B>,
@@ -69,7 +69,7 @@ pub(crate) fn live<B: Books, R: Wait + Print>(
     let home = KeyExpr::new("home/**")?;
     let subscriber = session.declare_subscriber(home).with(sender);
     let subscriber = subscriber.wait(rt, caller)?;
-    let shown = heat_and_show(rt, session, &samples, caller);
+    let shown = publish_and_show(rt, session, &samples, caller);
     match subscriber.undeclare().wait_callbacks().wait(rt, caller) {
         Ok(drained) => {
             let ended = drained.is_some();
