@@ -138,34 +138,48 @@ fn is_third<B: Books>(caller: &Caller<B>, number: u32) -> bool {
     }
 }
 
-// Declares a subscriber, puts and undeclares it.
+// Declares a subscriber, puts and undeclares it: whether it was handed the put, and was told its end.
 fn steps<B: Books, R: Wait + Abort>(
     rt: &R,
     session: &Session<FifoSender<Item>, B>,
     caller: &mut Caller<B>,
-) {
+) -> bool {
     let (sender, receiver) = channel(rt, session.alloc(), 4);
     let id = subscribe(rt, session, sender, caller);
-    assert!(rt; id == 2);
-    assert!(rt; put(rt, session, caller));
-    assert!(rt; undeclare(rt, session, id, caller));
-    assert!(rt; heard_one(rt, &receiver));
-    assert!(rt; is_third(caller, id));
+    let put = put(rt, session, caller);
+    let ended = undeclare(rt, session, id, caller);
+    let heard = heard_one(rt, &receiver);
+    drop(receiver);
+    id == 2 && put && ended && heard && is_third(caller, id)
 }
 
-// What such a caller is told: three events with their turns, and the message of each.
-fn tells_three<B: Books, R: Wait + Abort>(
+// Whether just the message of each of the three events is drained.
+fn drains_three<B: Books, R: Wait>(
     rt: &R,
     session: &Session<FifoSender<Item>, B>,
     caller: &mut Caller<B>,
-) {
-    assert!(rt; session.entries(rt, caller) == Some(3));
-    for about in [About::Declaration, About::Publication, About::End] {
-        assert!(rt; drained_about(rt, session, caller) == Some(about));
-    }
-    assert!(rt; drained_about(rt, session, caller).is_none());
-    assert!(rt; tells_journal(rt, session, caller));
-    assert!(rt; caller.count() == 3 && caller.sent() == 3 && caller.drained() == 3);
+) -> bool {
+    let first = drained_about(rt, session, caller);
+    let second = drained_about(rt, session, caller);
+    let third = drained_about(rt, session, caller);
+    let fourth = drained_about(rt, session, caller);
+    first == Some(About::Declaration)
+        && second == Some(About::Publication)
+        && third == Some(About::End)
+        && fourth.is_none()
+}
+
+// Whether such a caller is told three events with their turns, and the message of each.
+fn tells_three<B: Books, R: Wait>(
+    rt: &R,
+    session: &Session<FifoSender<Item>, B>,
+    caller: &mut Caller<B>,
+) -> bool {
+    let counted = session.entries(rt, caller) == Some(3);
+    let drained = drains_three(rt, session, caller);
+    let told = tells_journal(rt, session, caller);
+    let own = caller.count() == 3 && caller.sent() == 3 && caller.drained() == 3;
+    counted && drained && told && own
 }
 
 /// Steps a session with one caller, and looks at what it is told.
@@ -174,9 +188,11 @@ pub(crate) fn one_caller<B: Books, R: Wait + Abort>(
     session: &Session<FifoSender<Item>, B>,
     mut caller: Caller<B>,
 ) {
-    steps(rt, session, &mut caller);
-    tells_three(rt, session, &mut caller);
+    let stepped = steps(rt, session, &mut caller);
+    let told = tells_three(rt, session, &mut caller);
     drop(caller);
+    assert!(rt; stepped);
+    assert!(rt; told);
 }
 
 /// A share counts alone what it took.
@@ -188,9 +204,10 @@ pub(crate) fn two_callers<B: Books, R: Wait + Abort>(
     requires { 2 < caller.parts }
 {
     let mut other = caller.split(1);
-    assert!(rt; put(rt, session, &mut other));
-    assert!(rt; session.entries(rt, &mut caller).is_none());
+    let taken = put(rt, session, &mut other);
+    let shared = session.entries(rt, &mut caller);
     let mut all = caller.join(other);
-    assert!(rt; session.entries(rt, &mut all) == Some(1));
+    let whole = session.entries(rt, &mut all);
     drop(all);
+    assert!(rt; taken && shared.is_none() && whole == Some(1));
 }

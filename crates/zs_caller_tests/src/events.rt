@@ -18,11 +18,12 @@ fn update() -> Update {
 }
 
 /// A put of no bytes.
-pub(crate) fn publication(alloc: Global, key: &'static str) -> Result<Event, AllocError> {
+pub(crate) fn publication(alloc: Global, key: &str) -> Result<Event, AllocError> {
+    let key = KeyArg::Text(Text::of(alloc, key)?);
     let update = Shared::new(alloc, update())?;
     Ok(Event::Publish {
         destination: Locality::Any,
-        key: KeyArg::Text(Text::fixed(key)),
+        key,
         update,
         quality: PublicationQuality {
             qos: QoSType {

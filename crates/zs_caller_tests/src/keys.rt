@@ -25,16 +25,35 @@ fn declaration<B: Books, R: Wait>(
     }
 }
 
-// Gives `k` back, declared so or not: why it was not taken, if it wasn't.
+/// What a session makes of a key that is given back.
+#[derive(Clone, Copy, PartialEq, Eq)]
+enum GivenBack {
+    Taken,
+    NotFound,
+    NotDeclared,
+    OtherSession,
+    Otherwise,
+}
+
+fn refused_for(why: SessionError) -> GivenBack {
+    match why {
+        SessionError::Refused(Refusal::NotFound) => GivenBack::NotFound,
+        SessionError::Refused(Refusal::NotDeclared) => GivenBack::NotDeclared,
+        SessionError::OtherSession => GivenBack::OtherSession,
+        _ => GivenBack::Otherwise,
+    }
+}
+
+// Gives `k` back, declared so or not: what is made of that.
 fn give_back<B: Books, R: Wait>(
     rt: &R,
     session: &Session<FifoSender<Item>, B>,
     number: Option<u16>,
     tag: u64,
     caller: &mut Caller<B>,
-) -> Option<SessionError> {
+) -> GivenBack {
     let Ok(key) = KeyExpr::new("k") else {
-        return None;
+        return GivenBack::Otherwise;
     };
     let key = match number {
         Some(number) => key.with_declaration(Declared {
@@ -45,14 +64,50 @@ fn give_back<B: Books, R: Wait>(
         None => key,
     };
     match session.undeclare(rt, key, caller) {
-        Ok(()) => None,
+        Ok(()) => GivenBack::Taken,
         Err(back) => {
             let KeyBack { why, key } = back;
             drop(key);
-            Some(why)
+            refused_for(why)
         }
     }
 }
+
+/// A key that is given back, under that number if under one, with the session's tag or with a stranger's.
+struct Step {
+    number: Option<u16>,
+    stranger: bool,
+    wanted: GivenBack,
+}
+
+/// What is made of keys that are given back, once `k` was declared twice.
+static STEPS: [Step; 5] = [
+    Step {
+        number: Some(1),
+        stranger: false,
+        wanted: GivenBack::Taken,
+    },
+    Step {
+        number: Some(1),
+        stranger: true,
+        wanted: GivenBack::OtherSession,
+    },
+    Step {
+        number: None,
+        stranger: false,
+        wanted: GivenBack::NotDeclared,
+    },
+    Step {
+        number: Some(1),
+        stranger: false,
+        wanted: GivenBack::Taken,
+    },
+    Step {
+        number: Some(1),
+        stranger: false,
+        wanted: GivenBack::NotFound,
+    },
+];
 
 /// A key that is declared twice is given back twice, and no other is.
 pub(crate) fn with_keys<B: Books, R: Wait + Abort>(
@@ -61,20 +116,18 @@ pub(crate) fn with_keys<B: Books, R: Wait + Abort>(
     caller: &mut Caller<B>,
 ) {
     let tag = session.tag();
-    let whole = Declared {
+    let whole = Some(Declared {
         number: 1,
         prefix_len: 1,
         tag,
-    };
-    assert!(rt; declaration(rt, session, caller) == Some(whole));
-    assert!(rt; declaration(rt, session, caller) == Some(whole));
-    let not_found = Some(SessionError::Refused(Refusal::NotFound));
-    let not_declared = Some(SessionError::Refused(Refusal::NotDeclared));
-    let other = Some(SessionError::OtherSession);
-    assert!(rt; give_back(rt, session, Some(1), tag, caller).is_none());
-    assert!(rt; give_back(rt, session, Some(1), tag ^ 1, caller) == other);
-    assert!(rt; give_back(rt, session, None, tag, caller) == not_declared);
-    assert!(rt; give_back(rt, session, Some(1), tag, caller).is_none());
-    assert!(rt; give_back(rt, session, Some(1), tag, caller) == not_found);
+    });
+    let first = declaration(rt, session, caller);
+    let second = declaration(rt, session, caller);
+    assert!(rt; first == whole && second == whole);
+    for step in &STEPS {
+        let tag = if step.stranger { tag ^ 1 } else { tag };
+        let made = give_back(rt, session, step.number, tag, caller);
+        assert!(rt; made == step.wanted);
+    }
     assert!(rt; caller.count() == 6 && caller.sent() == 2);
 }

@@ -51,10 +51,13 @@ pub(crate) fn subscribe<B: Books, R: Wait + Abort>(
     sender: FifoSender<Item>,
     caller: &mut Caller<B>,
 ) -> u32 {
+    let Ok(key) = Text::of(session.alloc(), "k") else {
+        panic!(rt; "no memory")
+    };
     let Ok(sender) = Arc::new(session.alloc(), sender) else {
         panic!(rt; "no memory")
     };
-    let event = subscriber(Locality::Any, KeyArg::Text(Text::fixed("k")));
+    let event = subscriber(Locality::Any, KeyArg::Text(key));
     match submits(rt, session, event, Some(sender), caller) {
         Some(Some(id)) => id,
         _ => panic!(rt; "no subscriber"),

@@ -1,119 +1,66 @@
 //! Groups of notifiers, and who waits for them.
 
 use crate::notifiers::{given, is_refused};
-use crate::words::{Word, comes, stays, word_twice};
-use std::alloc::{AllocError, Global};
+use crate::running::{Host, Running, Task};
 use std::sync::Wait;
-use std::sync::atomic::Ordering;
-use std::test::Fail;
-use std::thread;
 use zs_gate::{Notifier, SyncGroup, Waited};
 
-// A group, and a second value of it for another thread.
-fn group_twice(alloc: Global) -> Result<(SyncGroup, SyncGroup), AllocError> {
-    let group = SyncGroup::new(alloc)?;
-    let other = group.try_clone(alloc)?;
-    Ok((group, other))
-}
-
-// A notifier of an open group.
-fn notifier_of<R: Wait>(rt: &R, group: &SyncGroup, alloc: Global) -> Result<Notifier, Fail> {
-    given(group.notifier(rt, alloc)?, "the group is open")
-}
-
-// Whether a group gives no notifier.
-fn is_over<R: Wait>(rt: &R, group: &SyncGroup, alloc: Global) -> Result<bool, AllocError> {
-    let notifier = group.notifier(rt, alloc)?;
-    Ok(is_refused(rt, notifier))
-}
-
-#[test]
-fn waits_until_notifiers_are_released(rt: HostRuntime) -> Result<(), Fail> {
-    let group = SyncGroup::new(rt.alloc())?;
-    let notifier = notifier_of(&rt, &group, rt.alloc())?;
-    let out = group.num_active_notifiers(&rt);
-    let was_closed = group.is_closed();
-    notifier.release(&rt);
-    assert_eq!(rt; out, 1);
-    assert!(rt; !was_closed);
-    assert_eq!(rt; group.num_active_notifiers(&rt), 0);
-    assert_eq!(rt; group.wait(&rt), Waited::Drained);
-    assert!(rt; is_over(&rt, &group, rt.alloc())?, "someone waited");
-    assert!(rt; group.is_closed());
-    Ok(())
-}
-
-#[test]
-fn waits_for_no_one_once_closed(rt: HostRuntime) -> Result<(), Fail> {
-    let (group, other) = group_twice(rt.alloc())?;
-    let notifier = notifier_of(&rt, &group, rt.alloc())?;
-    other.close(&rt);
-    drop(other);
-    let waited = group.wait(&rt);
-    notifier.release(&rt);
-    assert!(rt; group.is_closed());
-    assert_eq!(rt; waited, Waited::WasClosed);
-    Ok(())
-}
-
-// What a thread waits for, how it is to be answered, and the word that it then stores 1 in.
+// Who waits for a group, and how it is to be answered.
 #[derive(Drop)]
 struct Waiter {
     group: SyncGroup,
     wanted: Waited,
-    done: Word,
 }
 
-impl Waiter {
-    fn wait<R: Wait>(self, rt: &R) {
-        let Waiter {
-            group,
-            wanted,
-            done,
-        } = self;
-        if group.wait(rt) == wanted {
-            done.store(1, Ordering::SeqCst);
-        }
+impl Task for Waiter {
+    fn run<R: Wait>(self, rt: &R) -> bool {
+        self.group.wait(rt) == self.wanted
     }
 }
 
-#[test]
-fn wakes_who_waits_for_a_release(rt: HostRuntime) -> Result<(), Fail> {
-    let (group, theirs) = group_twice(rt.alloc())?;
-    let (word, done) = word_twice(rt.alloc())?;
-    let notifier = notifier_of(&rt, &group, rt.alloc())?;
-    drop(group);
-    let waiter = Waiter {
-        group: theirs,
-        wanted: Waited::Drained,
-        done,
-    };
-    let waiting = thread::spawn(&rt, move || waiter.wait(&rt));
-    let waits = stays(&rt, &word, 0);
-    notifier.release(&rt);
-    assert!(rt; comes(&rt, &word, 1), "no one wakes who waits");
-    waiting?.join(&rt);
-    assert!(rt; waits, "a notifier is out");
-    Ok(())
+// A thread that waits for a group.
+fn start<R: Host>(rt: &R, group: &SyncGroup, wanted: Waited) -> Running {
+    let group = group.try_clone(rt.alloc()).expect(rt, "the group");
+    Running::start(rt, Waiter { group, wanted })
+}
+
+// How many notifiers are out, and whether there are no more.
+fn readings<R: Wait>(rt: &R, group: &SyncGroup) -> (u64, bool) {
+    (group.num_active_notifiers(rt), group.is_closed())
+}
+
+// Whether a thread waits for a group until its only notifier is released.
+fn wakes_at_a_release<R: Host>(rt: &R, group: &SyncGroup, notifier: Notifier) -> bool {
+    let before = readings(rt, group);
+    let waiter = start(rt, group, Waited::Drained);
+    let waits = waiter.waits(rt);
+    notifier.release(rt);
+    let seen = (before, waits, waiter.ends(rt), readings(rt, group));
+    seen == ((1, false), true, true, (0, true))
 }
 
 #[test]
-fn wakes_who_waits_as_it_closes(rt: HostRuntime) -> Result<(), Fail> {
-    let (group, theirs) = group_twice(rt.alloc())?;
-    let (word, done) = word_twice(rt.alloc())?;
-    let notifier = notifier_of(&rt, &group, rt.alloc())?;
-    let waiter = Waiter {
-        group: theirs,
-        wanted: Waited::WasClosed,
-        done,
-    };
-    let waiting = thread::spawn(&rt, move || waiter.wait(&rt));
-    let waits = stays(&rt, &word, 0);
-    group.close(&rt);
-    drop(group);
-    assert!(rt; comes(&rt, &word, 1), "no one wakes who waits");
+fn wakes_who_waits_for_a_release(rt: HostRuntime) {
+    let group = SyncGroup::new(rt.alloc()).expect(&rt, "a group");
+    let notifier = given(&rt, group.notifier(&rt, rt.alloc()));
+    assert!(rt; wakes_at_a_release(&rt, &group, notifier));
+    assert!(rt; is_refused(&rt, group.notifier(&rt, rt.alloc())));
+}
+
+// Whether a thread waits for a group until that is closed, and who waits then is answered at once.
+fn wakes_at_the_close<R: Host>(rt: &R, group: &SyncGroup) -> bool {
+    let waiter = start(rt, group, Waited::WasClosed);
+    let waits = waiter.waits(rt);
+    group.close(rt);
+    let seen = (waits, waiter.ends(rt), group.wait(rt), group.is_closed());
+    seen == (true, true, Waited::WasClosed, true)
+}
+
+#[test]
+fn wakes_who_waits_as_it_closes(rt: HostRuntime) {
+    let group = SyncGroup::new(rt.alloc()).expect(&rt, "a group");
+    let notifier = given(&rt, group.notifier(&rt, rt.alloc()));
+    let wakes = wakes_at_the_close(&rt, &group);
     notifier.release(&rt);
-    waiting?.join(&rt);
-    assert!(rt; waits, "a notifier is out");
-    Ok(())
+    assert!(rt; wakes);
 }

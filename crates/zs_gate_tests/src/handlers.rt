@@ -1,10 +1,9 @@
 //! A handler of a program's own.
 ghost use Rattle.std.specs.Prelude.{◌≡◌, false, IsSome};
 
-use crate::entering::{end_gate, enter_gate};
+use crate::entering::Caller;
 use std::sync::Wait;
 use std::sync::atomic::{AtomicU64, Ordering};
-use std::test::Fail;
 use zs_gate::{Drained, Inside};
 use zs_handlers::{Handled, Handler};
 
@@ -31,25 +30,23 @@ impl Handler<u64> for Sum {
 // What the handler tells of an item that it takes: all of them, if it gives none up.
 fn done_of<R: Wait, H: Handler<u64>>(
     rt: &R,
-    inside: &Inside,
+    caller: &Caller,
     handler: &H,
     item: u64,
 ) -> Option<H::Done>
     ensures { H.evicts ≡ false → IsSome result }
 {
-    match handler.on(rt, inside, item) {
+    match handler.on(rt, caller.inside(), item) {
         Handled::Taken(done) => Some(done),
         Handled::Evicted(_, _) => None,
     }
 }
 
 #[test]
-fn takes_each_item(rt: HostRuntime) -> Result<(), Fail> {
-    let inside = enter_gate(rt.alloc())?;
-    let drained = end_gate(rt.alloc())?;
+fn takes_each_item(rt: HostRuntime) {
+    let caller = Caller::new(&rt);
     let sum = Sum(AtomicU64::new(0));
-    assert!(rt; done_of(&rt, &inside, &sum, 3).unwrap() == 0);
-    assert!(rt; done_of(&rt, &inside, &sum, 4).unwrap() == 3);
-    assert!(rt; sum.ended(&rt, &drained) == 7);
-    Ok(())
+    let before = done_of(&rt, &caller, &sum, 3).unwrap();
+    let then = done_of(&rt, &caller, &sum, 4).unwrap();
+    assert!(rt; (before, then, caller.ends(&rt, &sum)) == (0, 3, 7));
 }

@@ -1,19 +1,83 @@
 //! Jobs that write down that they ran.
 
-use crate::words::{Word, word};
-use std::alloc::{AllocError, Global};
-use std::sync::Arc;
+use crate::words::{Word, hold, word};
+use std::alloc::AllocGlobal;
+use std::process::Abort;
 use std::sync::atomic::Ordering;
 use std::thread;
 use zs_cancel::{Job, JobFailed};
 
-// A job that writes its digit behind those in a word, waits until it is released, and fails where it is to.
+// The word that jobs write their digits in, and the one that they wait for.
+pub(crate) struct Words {
+    pub(crate) digits: Word,
+    released: Word,
+}
+
+impl Drop for Words {
+    fn drop(self) {
+        let Words {
+            digits: _,
+            released: _,
+        } = self;
+    }
+}
+
+impl Words {
+    // No digit is written, and no job is released.
+    pub(crate) fn new<R: AllocGlobal + Abort>(rt: &R) -> Words {
+        let digits = word(rt);
+        let released = word(rt);
+        Words { digits, released }
+    }
+
+    fn again<R: Abort>(&self, rt: &R) -> Words {
+        let digits = hold(rt, &self.digits);
+        let released = hold(rt, &self.released);
+        Words { digits, released }
+    }
+
+    pub(crate) fn release(&self) {
+        self.released.store(1, Ordering::SeqCst);
+    }
+
+    pub(crate) fn written(&self) -> u64 {
+        self.digits.load(Ordering::SeqCst)
+    }
+
+    // Writes a digit behind the others.
+    fn write(&self, digit: u64) {
+        let before = self.written();
+        let digits = before.wrapping_mul(10).wrapping_add(digit);
+        self.digits.store(digits, Ordering::SeqCst);
+    }
+
+    // Waits until the jobs are released.
+    fn wait(&self) {
+        for _ in 0..u64::MAX {
+            if self.released.load(Ordering::SeqCst) == 1 {
+                return;
+            }
+            thread::yield_now();
+        }
+    }
+}
+
+// A job that writes its digit, waits until it is released, and fails where it is to.
 #[derive(Drop)]
 pub(crate) struct Write {
-    digits: Word,
-    pub(crate) digit: u64,
-    released: Word,
+    words: Words,
+    digit: u64,
     failing: bool,
+}
+
+impl Write {
+    pub(crate) fn new<R: Abort>(rt: &R, words: &Words, digit: u64, failing: bool) -> Write {
+        Write {
+            words: words.again(rt),
+            digit,
+            failing,
+        }
+    }
 }
 
 impl Job for Write {
@@ -22,50 +86,8 @@ impl Job for Write {
     ghost fails = { λ job failed. failed ≡ job.failing };
 
     fn run(self) -> Result<(), JobFailed> {
-        let before = self.digits.load(Ordering::SeqCst);
-        self.digits.store(
-            before.wrapping_mul(10).wrapping_add(self.digit),
-            Ordering::SeqCst,
-        );
-        for _ in 0..u64::MAX {
-            if self.released.load(Ordering::SeqCst) == 1 {
-                break;
-            }
-            thread::yield_now();
-        }
-        if self.failing {
-            return Err(JobFailed);
-        }
-        Ok(())
-    }
-}
-
-// The word that jobs write their digits in, and the one that they wait for.
-#[derive(Drop)]
-pub(crate) struct Words {
-    pub(crate) digits: Word,
-    pub(crate) released: Word,
-}
-
-impl Words {
-    pub(crate) fn new(alloc: Global, released: u64) -> Result<Words, AllocError> {
-        let digits = word(alloc, 0)?;
-        let released = word(alloc, released)?;
-        Ok(Words { digits, released })
-    }
-
-    pub(crate) fn job(&self, digit: u64, failing: bool) -> Result<Write, AllocError> {
-        let digits = Arc::try_clone(&self.digits)?;
-        let released = Arc::try_clone(&self.released)?;
-        Ok(Write {
-            digits,
-            digit,
-            released,
-            failing,
-        })
-    }
-
-    pub(crate) fn written(&self) -> u64 {
-        self.digits.load(Ordering::SeqCst)
+        self.words.write(self.digit);
+        self.words.wait();
+        if self.failing { Err(JobFailed) } else { Ok(()) }
     }
 }

@@ -1,20 +1,21 @@
 //! What a group or a token answers to whoever asks it for a notifier.
 
+use std::alloc::AllocError;
+use std::process::Abort;
 use std::sync::Wait;
-use std::test::Fail;
 use zs_gate::Notifier;
 
 // The notifier, where one has to be given.
-pub(crate) fn given(notifier: Option<Notifier>, why: &'static str) -> Result<Notifier, Fail> {
-    match notifier {
-        Some(notifier) => Ok(notifier),
-        None => Err(Fail::new(why)),
-    }
+pub(crate) fn given<R: Abort>(rt: &R, answer: Result<Option<Notifier>, AllocError>) -> Notifier {
+    answer.expect(rt, "memory").expect(rt, "a notifier")
 }
 
 // Whether none is given.
-pub(crate) fn is_refused<R: Wait>(rt: &R, notifier: Option<Notifier>) -> bool {
-    match notifier {
+pub(crate) fn is_refused<R: Wait + Abort>(
+    rt: &R,
+    answer: Result<Option<Notifier>, AllocError>,
+) -> bool {
+    match answer.expect(rt, "memory") {
         Some(late) => {
             late.release(rt);
             false

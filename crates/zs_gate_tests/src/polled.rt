@@ -1,16 +1,15 @@
 //! Fifos as futures and streams.
 
-use crate::entering::{end_gate, enter_gate, takes};
+use crate::entering::{Fifo, fifo};
 use futures::StreamExt;
 use futures::executor::block_on;
 use futures::task::Poll;
 use futures::test::MockTask;
 use std::alloc::AllocGlobal;
+use std::process::Abort;
 use std::random::RandomSource;
 use std::sync::Wait;
-use std::test::Fail;
-use zs_gate::{Drained, Inside};
-use zs_handlers::{Disconnected, FifoChannel, FifoChannelHandler, FifoSender, Handler, RecvStream};
+use zs_handlers::{Disconnected, FifoChannelHandler, RecvStream};
 
 type Items<'a, R> = RecvStream<'a, u64, R>;
 
@@ -22,143 +21,106 @@ fn poll_next<R: Wait + Drop>(task: &MockTask, stream: &mut Items<'_, R>) -> Poll
 // Whether an item wakes the task that waits for it, and is given to it.
 fn wakes_for_an_item<R: Wait, S: Wait + Drop>(
     rt: &R,
-    inside: &Inside,
-    sender: &FifoSender<u64>,
+    fifo: &Fifo,
     task: &MockTask,
     stream: &mut Items<'_, S>,
 ) -> bool {
-    let before = poll_next(task, stream);
-    let was_woken = task.is_woken();
-    let took = takes(rt, inside, sender, 1);
-    let is_woken = task.is_woken();
-    let after = poll_next(task, stream);
-    let waited = before == Poll::Pending && !was_woken && took && is_woken;
-    waited && after == Poll::Ready(Some(1))
+    let seen = (
+        poll_next(task, stream),
+        task.is_woken(),
+        fifo.takes(rt, 1),
+        task.is_woken(),
+        poll_next(task, stream),
+    );
+    seen == (Poll::Pending, false, true, true, Poll::Ready(Some(1)))
 }
 
 // Whether the end wakes the task that waits, and is given to it.
 fn wakes_at_the_end<R: Wait, S: Wait + Drop>(
     rt: &R,
-    drained: &Drained,
-    sender: &FifoSender<u64>,
+    fifo: &Fifo,
     task: &MockTask,
     stream: &mut Items<'_, S>,
 ) -> bool {
     let before = poll_next(task, stream);
-    let _ = sender.ended(rt, drained);
-    let is_woken = task.is_woken();
-    let after = poll_next(task, stream);
-    before == Poll::Pending && is_woken && after == Poll::Ready(None)
+    fifo.ends(rt);
+    let seen = (before, task.is_woken(), poll_next(task, stream));
+    seen == (Poll::Pending, true, Poll::Ready(None))
 }
 
 #[test]
-fn streams_by_hand(rt: HostRuntime) -> Result<(), Fail> {
-    let task = MockTask::new(&rt)?;
-    let inside = enter_gate(rt.alloc())?;
-    let drained = end_gate(rt.alloc())?;
-    let (sender, receiver) = FifoChannel::new(2).into_handler(rt.alloc())?;
-    let mut stream = receiver.stream(&rt);
-    assert!(rt; wakes_for_an_item(&rt, &inside, &sender, &task, &mut stream));
-    assert!(rt; wakes_at_the_end(&rt, &drained, &sender, &task, &mut stream));
-    assert!(rt; stream.is_terminated());
-    Ok(())
+fn streams_by_hand(rt: HostRuntime) {
+    let task = MockTask::new(&rt).expect(&rt, "a task");
+    let fifo = fifo(&rt);
+    let mut stream = fifo.receiver.stream(&rt);
+    let seen = (
+        wakes_for_an_item(&rt, &fifo, &task, &mut stream),
+        wakes_at_the_end(&rt, &fifo, &task, &mut stream),
+        stream.is_terminated(),
+    );
+    assert!(rt; seen == (true, true, true));
 }
 
-// Whether a fifo takes two items and then hears its end.
-fn takes_two_and_ends<R: Wait>(
-    rt: &R,
-    inside: &Inside,
-    drained: &Drained,
-    sender: &FifoSender<u64>,
-) -> bool {
-    let first = takes(rt, inside, sender, 1);
-    let second = takes(rt, inside, sender, 2);
-    let _ = sender.ended(rt, drained);
-    first && second
-}
-
-fn is_full_stream<R: Wait + Drop>(stream: &Items<'_, R>) -> bool {
-    let is_full = stream.is_full();
-    let len = stream.len();
-    let capacity = stream.capacity();
-    is_full && len == 2 && capacity == 2
-}
-
-fn is_ended_stream<R: Wait + Drop>(stream: &Items<'_, R>) -> bool {
-    let is_empty = stream.is_empty();
-    let has_ended = stream.is_disconnected();
-    is_empty && has_ended
-}
-
-// Whether a stream gives that next.
-fn gives<R: Wait + AllocGlobal + RandomSource, S: Wait + Drop>(
+// What a stream gives next.
+fn next<R: Wait + AllocGlobal + RandomSource + Abort, S: Wait + Drop>(
     rt: &R,
     stream: &mut Items<'_, S>,
-    wanted: Option<u64>,
+) -> Option<u64> {
+    block_on(rt, stream.next()).expect(rt, "an executor")
+}
+
+// Whether a stream is full, how many items it has and can have, whether it has none, and whether it has ended.
+fn readings<R: Wait + Drop>(stream: &Items<'_, R>) -> (bool, usize, usize, bool, bool) {
+    (
+        stream.is_full(),
+        stream.len(),
+        stream.capacity(),
+        stream.is_empty(),
+        stream.is_disconnected(),
+    )
+}
+
+// Whether a stream that has ended is full of two items, gives them, and is empty then.
+fn gives_two<R: Wait + AllocGlobal + RandomSource + Abort, S: Wait + Drop>(
+    rt: &R,
+    stream: &mut Items<'_, S>,
 ) -> bool {
-    match block_on(rt, stream.next()) {
-        Ok(given) => given == wanted,
-        Err(error) => {
-            drop(error);
-            false
-        }
-    }
+    let before = readings(stream);
+    let given = (next(rt, stream), next(rt, stream), next(rt, stream));
+    let seen = (before, given, readings(stream));
+    seen == (
+        (true, 2, 2, false, true),
+        (Some(1), Some(2), None),
+        (false, 0, 2, true, true),
+    )
 }
 
 #[test]
-fn streams_an_ended_fifo(rt: HostRuntime) -> Result<(), Fail> {
-    let inside = enter_gate(rt.alloc())?;
-    let drained = end_gate(rt.alloc())?;
-    let (sender, receiver) = FifoChannel::new(2).into_handler(rt.alloc())?;
-    assert!(rt; takes_two_and_ends(&rt, &inside, &drained, &sender));
-    let mut stream = receiver.into_stream(&rt);
-    assert!(rt; is_full_stream(&stream));
-    assert!(rt; gives(&rt, &mut stream, Some(1)));
-    assert!(rt; gives(&rt, &mut stream, Some(2)));
-    assert!(rt; gives(&rt, &mut stream, None));
-    assert!(rt; is_ended_stream(&stream));
-    Ok(())
+fn streams_an_ended_fifo(rt: HostRuntime) {
+    let fifo = fifo(&rt);
+    let takes = (fifo.takes(&rt, 1), fifo.takes(&rt, 2));
+    fifo.ends(&rt);
+    let mut stream = fifo.into_receiver().into_stream(&rt);
+    assert!(rt; (takes, gives_two(&rt, &mut stream)) == ((true, true), true));
 }
 
-// Whether a future of an item is not over, and becomes that.
-fn becomes<R: Wait + AllocGlobal + RandomSource>(
+// What a future of a receiver becomes, and whether it was over before.
+fn becomes<R: Wait + AllocGlobal + RandomSource + Abort>(
     rt: &R,
     receiver: &FifoChannelHandler<u64>,
-    item: u64,
-) -> bool {
+) -> (bool, Result<u64, Disconnected>) {
     let future = receiver.recv_async(rt);
-    let is_over = future.is_terminated();
-    match block_on(rt, future) {
-        Ok(given) => given == Ok(item) && !is_over,
-        Err(error) => {
-            drop(error);
-            false
-        }
-    }
-}
-
-// Whether a future of a receiver that is given up becomes the end.
-fn becomes_the_end<R: Wait + AllocGlobal + RandomSource>(
-    rt: &R,
-    receiver: FifoChannelHandler<u64>,
-) -> bool {
-    match block_on(rt, receiver.into_recv_async(rt)) {
-        Ok(given) => given == Err(Disconnected),
-        Err(error) => {
-            drop(error);
-            false
-        }
-    }
+    let was_over = future.is_terminated();
+    (was_over, block_on(rt, future).expect(rt, "an executor"))
 }
 
 #[test]
-fn becomes_an_item_or_the_end(rt: HostRuntime) -> Result<(), Fail> {
-    let inside = enter_gate(rt.alloc())?;
-    let drained = end_gate(rt.alloc())?;
-    let (sender, receiver) = FifoChannel::new(2).into_handler(rt.alloc())?;
-    assert!(rt; takes(&rt, &inside, &sender, 1));
-    assert!(rt; becomes(&rt, &receiver, 1));
-    let _ = sender.ended(&rt, &drained);
-    assert!(rt; becomes_the_end(&rt, receiver));
-    Ok(())
+fn becomes_an_item_or_the_end(rt: HostRuntime) {
+    let fifo = fifo(&rt);
+    let takes = fifo.takes(&rt, 1);
+    let item = becomes(&rt, &fifo.receiver);
+    fifo.ends(&rt);
+    let end = block_on(&rt, fifo.into_receiver().into_recv_async(&rt));
+    let end = end.expect(&rt, "an executor");
+    assert!(rt; (takes, item, end) == (true, (false, Ok(1)), Err(Disconnected)));
 }

@@ -1,13 +1,12 @@
 //! Posts and their passes, as a session uses them.
 
-use std::alloc::{AllocError, Global};
+use std::alloc::AllocGlobal;
+use std::process::Abort;
 use std::sync::Arc;
-use std::test::Fail;
 use zs_events::Kind;
-use zs_gate::NoPass;
 use zs_posts::{Call, Key, Name, NotOpened, Posts, Wanted};
 
-#[derive(Debug, Drop)]
+#[derive(Drop)]
 struct Nobody;
 
 // The key of a post that has a handler, and that of one that has none.
@@ -28,58 +27,65 @@ fn named(key: Key) -> Name {
 fn crosses_threads<T: Send>(_value: &T) {}
 
 // Whether both posts are opened, and no second one under a key.
-fn opens_both(alloc: Global, posts: &mut Posts<Nobody>) -> Result<bool, AllocError> {
-    let handler = Some(Arc::new(alloc, Nobody)?);
-    let first = posts.open(alloc, named(HANDLED), &handler).is_ok();
-    let second = posts.open(alloc, named(PLAIN), &None).is_ok();
-    let again = posts.open(alloc, named(HANDLED), &None) == Err(NotOpened::Held);
-    Ok(first && second && again)
+fn opens_both<R: AllocGlobal + Abort>(rt: &R, posts: &mut Posts<Nobody>) -> bool {
+    let handler = Some(Arc::new(rt.alloc(), Nobody).expect(rt, "a handler"));
+    let opened = (
+        posts.open(rt.alloc(), named(HANDLED), &handler),
+        posts.open(rt.alloc(), named(PLAIN), &None),
+        posts.open(rt.alloc(), named(HANDLED), &None),
+    );
+    opened == (Ok(()), Ok(()), Err(NotOpened::Held))
 }
 
 // Lends the passes of a turn that has an item for each key.
-fn lend(alloc: Global, posts: &mut Posts<Nobody>) -> Result<Vec<Call<Nobody, u64>>, NoPass> {
-    let mut wanted = Vec::with_capacity(alloc, 2)?;
-    wanted.push_reserved(Wanted {
+fn lend<R: AllocGlobal + Abort>(rt: &R, posts: &mut Posts<Nobody>) -> Vec<Call<Nobody, u64>> {
+    let handled = Wanted {
         key: HANDLED,
-        item: 7u64,
-    });
-    wanted.push_reserved(Wanted {
+        item: 7,
+    };
+    let plain = Wanted {
         key: PLAIN,
-        item: 8u64,
-    });
-    posts.lend_turn(alloc, wanted)
+        item: 8,
+    };
+    let wanted = Vec::from_array(rt.alloc(), [handled, plain]).expect(rt, "two items");
+    posts.lend_turn(rt.alloc(), wanted).expect(rt, "passes")
 }
 
-// Whether the plain post, and no other one, is given out once both were ended.
-fn gives_out_one(posts: &mut Posts<Nobody>) -> bool {
+// Whose post is given out next of those that were ended.
+fn next_ended(posts: &mut Posts<Nobody>) -> Option<Key> {
+    let post = posts.next_ended()?;
+    let key = post.name().key;
+    drop(post);
+    Some(key)
+}
+
+// Whether the post of a key is given out.
+fn takes_out(posts: &mut Posts<Nobody>, key: Key) -> bool {
+    match posts.take_out(key) {
+        Some(post) => {
+            drop(post);
+            true
+        }
+        None => false,
+    }
+}
+
+// Whether both posts are ended, of which the plain one alone waits, and the other one is there.
+fn gives_out_each(posts: &mut Posts<Nobody>) -> bool {
     posts.end(HANDLED);
     posts.end(PLAIN);
-    let Some(first) = posts.next_ended() else {
-        return false;
-    };
-    let is_plain = first.name().key == PLAIN;
-    drop(first);
-    is_plain && posts.next_ended().is_none()
-}
-
-// Whether the post of a handler alone is there, and is given out by its key.
-fn gives_out_the_other(posts: &mut Posts<Nobody>) -> bool {
-    let is_there = posts.holds(HANDLED) && !posts.holds(PLAIN);
-    let is_given = posts.take_out(HANDLED).is_some();
-    is_there && is_given && !posts.holds(HANDLED)
+    let ended = (next_ended(posts), next_ended(posts));
+    let left = (posts.holds(HANDLED), takes_out(posts, HANDLED));
+    (ended, left) == ((Some(PLAIN), None), (true, true))
 }
 
 // A post that has a pass out is given out by its key alone, and one that has none once it was ended.
 #[test]
-fn ended_posts_are_given_out(rt: HostRuntime) -> Result<(), Fail> {
-    let mut posts = Posts::new(rt.alloc())?;
-    assert!(rt; opens_both(rt.alloc(), &mut posts)?);
-    let calls = lend(rt.alloc(), &mut posts)?;
-    assert!(rt; calls.len() == 1);
+fn ended_posts_are_given_out(rt: HostRuntime) {
+    let mut posts = Posts::new(rt.alloc()).expect(&rt, "posts");
+    assert!(rt; opens_both(&rt, &mut posts));
+    let calls = lend(&rt, &mut posts);
     crosses_threads(&calls);
-    assert!(rt; gives_out_one(&mut posts));
-    assert!(rt; gives_out_the_other(&mut posts));
-    drop(calls);
     crosses_threads(&posts);
-    Ok(())
+    assert!(rt; (calls.len(), gives_out_each(&mut posts)) == (1, true));
 }

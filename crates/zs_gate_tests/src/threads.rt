@@ -1,90 +1,116 @@
 //! Threads that wait for room in a fifo, for an item, and for the end.
 
-use crate::entering::{end_gate, enter_gate, takes};
-use crate::words::{Word, comes, stays, word_twice};
+use crate::entering::Caller;
+use crate::running::{Host, Running, Task};
+use crate::words::{Word, comes, hold, stays, word};
 use std::sync::Wait;
-use std::sync::atomic::{AtomicU64, Ordering};
-use std::test::Fail;
-use std::thread;
-use std::time::Duration;
-use zs_gate::Inside;
-use zs_handlers::{FifoChannel, FifoChannelHandler, FifoSender, Handler};
+use std::sync::atomic::Ordering;
+use zs_handlers::{FifoChannel, FifoChannelHandler, FifoSender};
 
-// Hands the items 1, 2 and 3 to a fifo, and counts them in the word.
-fn send_three<R: Wait>(rt: &R, inside: &Inside, sender: &FifoSender<u64>, word: &AtomicU64) {
-    for item in 1..4 {
-        if takes(rt, inside, sender, item) {
-            word.store(item, Ordering::SeqCst);
-        }
+// Who sends the items 1, 2 and 3, and the word that it stores in what was taken last.
+struct Sending {
+    caller: Caller,
+    sender: FifoSender<u64>,
+    last: Word,
+}
+
+impl Drop for Sending {
+    fn drop(self) {
+        let Sending {
+            caller: _,
+            sender: _,
+            last: _,
+        } = self;
     }
 }
 
-// Who receives, and the word that it stores in what came last, or 9 at the end.
-#[derive(Drop)]
+impl Task for Sending {
+    fn run<R: Wait>(self, rt: &R) -> bool {
+        for item in 1..4 {
+            if !self.caller.hands(rt, &self.sender, item) {
+                return false;
+            }
+            self.last.store(item, Ordering::SeqCst);
+        }
+        true
+    }
+}
+
+// Whether the sender waits for room once two items are taken, and goes on once one was received.
+fn waits_for_a_receive<R: Host>(
+    rt: &R,
+    caller: Caller,
+    sender: FifoSender<u64>,
+    receiver: &FifoChannelHandler<u64>,
+) -> bool {
+    let word = word(rt);
+    let last = hold(rt, &word);
+    let sending = Running::start(
+        rt,
+        Sending {
+            caller,
+            sender,
+            last,
+        },
+    );
+    let waits = (comes(rt, &word, 2), stays(rt, &word, 2));
+    let received = receiver.try_recv(rt);
+    (waits, received, sending.ends(rt)) == ((true, true), Ok(Some(1)), true)
+}
+
+#[test]
+fn waits_for_room(rt: HostRuntime) {
+    let ends = FifoChannel::new(2).into_handler(rt.alloc());
+    let (sender, receiver) = ends.expect(&rt, "a fifo");
+    let caller = Caller::new(&rt);
+    assert!(rt; waits_for_a_receive(&rt, caller, sender, &receiver));
+}
+
+// Who receives, and the word that it stores in what came last.
 struct Receiving {
     receiver: FifoChannelHandler<u64>,
-    word: Word,
+    last: Word,
 }
 
-impl Receiving {
-    fn run<R: Wait>(self, rt: &R) {
-        let Receiving { receiver, word } = self;
-        for item in receiver.iter(rt) {
-            word.store(item, Ordering::SeqCst);
+impl Drop for Receiving {
+    fn drop(self) {
+        let Receiving {
+            receiver: _,
+            last: _,
+        } = self;
+    }
+}
+
+impl Task for Receiving {
+    fn run<R: Wait>(self, rt: &R) -> bool {
+        for item in self.receiver.iter(rt) {
+            self.last.store(item, Ordering::SeqCst);
         }
-        word.store(9, Ordering::SeqCst);
+        true
     }
 }
 
-// Who sends the items 1, 2 and 3, and the word that counts them.
-#[derive(Drop)]
-struct Sending {
-    inside: Inside,
-    sender: FifoSender<u64>,
-    word: Word,
-}
-
-impl Sending {
-    fn run<R: Wait>(self, rt: &R) {
-        send_three(rt, &self.inside, &self.sender, &self.word);
-    }
-}
-
-#[test]
-fn waits_for_room(rt: HostRuntime) -> Result<(), Fail> {
-    let (theirs, word) = word_twice(rt.alloc())?;
-    let inside = enter_gate(rt.alloc())?;
-    let (sender, receiver) = FifoChannel::new(2).into_handler(rt.alloc())?;
-    let send = Sending {
-        inside,
-        sender,
-        word: theirs,
-    };
-    let sending = thread::spawn(&rt, move || send.run(&rt))?;
-    assert!(rt; comes(&rt, &word, 2));
-    assert!(rt; stays(&rt, &word, 2), "there is no room");
-    assert!(rt; receiver.try_recv(&rt) == Ok(Some(1)));
-    assert!(rt; comes(&rt, &word, 3), "no one wakes the sender");
-    sending.join(&rt);
-    Ok(())
+// Whether the receiver waits for an item, and then for the end.
+fn waits_for_a_send<R: Host>(
+    rt: &R,
+    caller: &Caller,
+    sender: &FifoSender<u64>,
+    receiver: FifoChannelHandler<u64>,
+) -> bool {
+    let word = word(rt);
+    let last = hold(rt, &word);
+    let receiving = Running::start(rt, Receiving { receiver, last });
+    let waits = receiving.waits(rt);
+    let takes = caller.hands(rt, sender, 1);
+    let came = comes(rt, &word, 1);
+    let _ = caller.ends(rt, sender);
+    (waits, takes, came, receiving.ends(rt)) == (true, true, true, true)
 }
 
 #[test]
-fn waits_for_an_item_and_the_end(rt: HostRuntime) -> Result<(), Fail> {
-    let (theirs, word) = word_twice(rt.alloc())?;
-    let inside = enter_gate(rt.alloc())?;
-    let drained = end_gate(rt.alloc())?;
-    let (sender, receiver) = FifoChannel::new(2).into_handler(rt.alloc())?;
-    let receive = Receiving {
-        receiver,
-        word: theirs,
-    };
-    let receiving = thread::spawn(&rt, move || receive.run(&rt))?;
-    thread::sleep(&rt, Duration::from_millis(20));
-    assert!(rt; takes(&rt, &inside, &sender, 1));
-    assert!(rt; comes(&rt, &word, 1), "no one wakes the receiver");
-    let _ = sender.ended(&rt, &drained);
-    assert!(rt; comes(&rt, &word, 9), "no one tells of the end");
-    receiving.join(&rt);
-    Ok(())
+fn waits_for_an_item_and_the_end(rt: HostRuntime) {
+    let ends = FifoChannel::new(2).into_handler(rt.alloc());
+    let (sender, receiver) = ends.expect(&rt, "a fifo");
+    let caller = Caller::new(&rt);
+    assert!(rt; waits_for_a_send(&rt, &caller, &sender, receiver));
 }

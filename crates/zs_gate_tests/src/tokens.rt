@@ -2,207 +2,171 @@
 
 use crate::jobs::{Words, Write};
 use crate::notifiers::{given, is_refused};
-use crate::words::{Word, comes, stays, word_twice};
-use std::alloc::{AllocError, Global};
+use crate::running::{Host, Running, Task};
+use crate::words::comes;
+use std::alloc::AllocGlobal;
+use std::process::Abort;
 use std::sync::Wait;
-use std::sync::atomic::Ordering;
-use std::test::Fail;
-use std::thread;
 use zs_cancel::{AddError, CancelFailed, CancelResult, CancellationToken};
 use zs_gate::Notifier;
 
-// Who cancels a token, and the word that becomes 1 where the answer is as wanted.
+// Who cancels a token, and how it is to be answered.
 #[derive(Drop)]
 struct Canceller {
     cancel: CancelResult<Write>,
     wanted: Result<(), CancelFailed>,
-    done: Word,
 }
 
-impl Canceller {
-    fn run<R: Wait>(self, rt: &R) {
-        let Canceller {
-            cancel,
-            wanted,
-            done,
-        } = self;
-        if cancel.wait(rt) == wanted {
-            done.store(1, Ordering::SeqCst);
-        }
+impl Task for Canceller {
+    fn run<R: Wait>(self, rt: &R) -> bool {
+        let Canceller { cancel, wanted } = self;
+        cancel.wait(rt) == wanted
     }
 }
 
 // A token, and the words of its jobs.
-#[derive(Drop)]
 struct Trial {
     words: Words,
     token: CancellationToken<Write>,
 }
 
+impl Drop for Trial {
+    fn drop(self) {
+        let Trial { words: _, token: _ } = self;
+    }
+}
+
 impl Trial {
-    fn new(alloc: Global, released: u64) -> Result<Trial, AllocError> {
-        let words = Words::new(alloc, released)?;
-        let token = CancellationToken::new(alloc)?;
-        Ok(Trial { words, token })
+    // A token whose jobs wait.
+    fn new<R: AllocGlobal + Abort>(rt: &R) -> Trial {
+        let words = Words::new(rt);
+        let token = CancellationToken::new(rt.alloc()).expect(rt, "a token");
+        Trial { words, token }
     }
 
-    // Adds a job of that digit, and answers its number.
-    fn add<R: Wait>(
+    // Adds a job of that digit: its number, or why it comes back.
+    fn add<R: Wait + AllocGlobal + Abort>(
         &self,
         rt: &R,
-        alloc: Global,
         digit: u64,
         failing: bool,
-    ) -> Result<u32, AllocError> {
-        let job = self.words.job(digit, failing)?;
-        match self.token.add_on_cancel_handler(rt, alloc, job) {
+    ) -> Result<u32, AddError> {
+        let job = Write::new(rt, &self.words, digit, failing);
+        match self.token.add_on_cancel_handler(rt, rt.alloc(), job) {
             Ok(number) => Ok(number),
-            Err(refused) => {
-                drop(refused);
-                Err(AllocError)
-            }
-        }
-    }
-
-    // Why the token hands a job back.
-    fn refusal<R: Wait>(&self, rt: &R, alloc: Global) -> Result<Option<AddError>, AllocError> {
-        let job = self.words.job(1, false)?;
-        match self.token.add_on_cancel_handler(rt, alloc, job) {
-            Ok(_) => Ok(None),
             Err(refused) => {
                 let why = refused.why;
                 drop(refused);
-                Ok(Some(why))
+                Err(why)
             }
         }
     }
 
-    // Who is to cancel the token in another thread, and a hold of that one's word.
-    fn canceller(
+    // Who is to cancel the token.
+    fn canceller<R: AllocGlobal + Abort>(
         &self,
-        alloc: Global,
+        rt: &R,
         wanted: Result<(), CancelFailed>,
-    ) -> Result<(Canceller, Word), AllocError> {
-        let (word, done) = word_twice(alloc)?;
-        let cancel = self.token.cancel(alloc)?;
-        let canceller = Canceller {
-            cancel,
-            wanted,
-            done,
-        };
-        Ok((canceller, word))
+    ) -> Canceller {
+        let cancel = self.token.cancel(rt.alloc()).expect(rt, "a cancel");
+        Canceller { cancel, wanted }
     }
 
     // Whether the token, cancelled here, answers as wanted.
-    fn ends<R: Wait>(
+    fn ends<R: Wait + AllocGlobal + Abort>(
         &self,
         rt: &R,
-        alloc: Global,
         wanted: Result<(), CancelFailed>,
-    ) -> Result<bool, AllocError> {
-        let cancel = self.token.cancel(alloc)?;
-        Ok(cancel.wait(rt) == wanted)
+    ) -> bool {
+        self.canceller(rt, wanted).run(rt)
     }
 
-    // A notifier of a token that no one cancelled.
-    fn notifier<R: Wait>(&self, rt: &R, alloc: Global) -> Result<Notifier, Fail> {
-        given(
-            self.token.notifier(rt, alloc)?,
-            "no one cancelled the token",
-        )
-    }
-
-    // Whether the token gives no notifier.
-    fn is_over<R: Wait>(&self, rt: &R, alloc: Global) -> Result<bool, AllocError> {
-        let notifier = self.token.notifier(rt, alloc)?;
-        Ok(is_refused(rt, notifier))
+    // A thread that cancels the token.
+    fn start<R: Host>(&self, rt: &R, wanted: Result<(), CancelFailed>) -> Running {
+        Running::start(rt, self.canceller(rt, wanted))
     }
 }
 
+// Whether two threads cancel the token, of which the first runs its job, and the other waits for that.
+fn cancels_twice<R: Host>(rt: &R, trial: &Trial) -> bool {
+    let running = trial.start(rt, Ok(()));
+    let runs = comes(rt, &trial.words.digits, 1);
+    let waiting = trial.start(rt, Ok(()));
+    let waits = waiting.waits(rt);
+    let is_over = trial.token.is_cancelled(rt);
+    trial.words.release();
+    let ends = (running.ends(rt), waiting.ends(rt));
+    (runs, waits, is_over, ends) == (true, true, false, (true, true))
+}
+
 #[test]
-fn runs_a_handler_once_for_two_threads(rt: HostRuntime) -> Result<(), Fail> {
-    let trial = Trial::new(rt.alloc(), 0)?;
-    trial.add(&rt, rt.alloc(), 1, false)?;
-    let (one, first) = trial.canceller(rt.alloc(), Ok(()))?;
-    let (other, second) = trial.canceller(rt.alloc(), Ok(()))?;
-    let running = thread::spawn(&rt, move || one.run(&rt))?;
-    assert!(rt;
-        comes(&rt, &trial.words.digits, 1),
-        "no one runs the handler"
-    );
-    let waiting = thread::spawn(&rt, move || other.run(&rt))?;
-    assert!(rt; stays(&rt, &second, 0), "the handler runs");
-    assert!(rt; !trial.token.is_cancelled(&rt));
-    trial.words.released.store(1, Ordering::SeqCst);
-    assert!(rt; comes(&rt, &first, 1), "a canceller isn't answered");
-    assert!(rt; comes(&rt, &second, 1), "a canceller isn't answered");
-    running.join(&rt);
-    waiting.join(&rt);
+fn runs_a_handler_once_for_two_threads(rt: HostRuntime) {
+    let trial = Trial::new(&rt);
+    assert!(rt; trial.add(&rt, 1, false) == Ok(0));
+    assert!(rt; cancels_twice(&rt, &trial));
     assert!(rt; trial.words.written() == 1);
-    Ok(())
 }
 
-#[test]
-fn answers_each_canceller_the_failure(rt: HostRuntime) -> Result<(), Fail> {
-    let trial = Trial::new(rt.alloc(), 1)?;
-    trial.add(&rt, rt.alloc(), 1, true)?;
+// Whether a thread and this one cancel the token and are answered that its job failed.
+fn fails_twice<R: Host>(rt: &R, trial: &Trial) -> bool {
     let failed = Err(CancelFailed { number: 0 });
-    let (canceller, word) = trial.canceller(rt.alloc(), failed)?;
-    let other = thread::spawn(&rt, move || canceller.run(&rt))?;
-    assert!(rt; trial.ends(&rt, rt.alloc(), failed)?);
-    assert!(rt; comes(&rt, &word, 1), "the other canceller isn't answered");
-    other.join(&rt);
-    assert!(rt; trial.words.written() == 1);
-    Ok(())
+    let other = trial.start(rt, failed);
+    (trial.ends(rt, failed), other.ends(rt)) == (true, true)
 }
 
+// A notifier is out all the while: nobody waits for it after a failure.
 #[test]
-fn takes_no_handler_once_it_is_cancelled(rt: HostRuntime) -> Result<(), Fail> {
-    let trial = Trial::new(rt.alloc(), 0)?;
-    assert!(rt; trial.ends(&rt, rt.alloc(), Ok(()))?);
-    let why = trial.refusal(&rt, rt.alloc())?;
-    assert!(rt; why == Some(AddError::TokenUsed));
-    Ok(())
-}
-
-#[test]
-fn leaves_out_what_was_removed(rt: HostRuntime) -> Result<(), Fail> {
-    let trial = Trial::new(rt.alloc(), 1)?;
-    let other = trial.token.try_clone(rt.alloc())?;
-    trial.add(&rt, rt.alloc(), 1, false)?;
-    let number = trial.add(&rt, rt.alloc(), 2, true)?;
-    assert!(rt; number == 1);
-    assert!(rt; other.remove_on_cancel_handler(&rt, number));
-    assert!(rt; !other.is_cancelled(&rt));
-    assert!(rt; trial.ends(&rt, rt.alloc(), Ok(()))?);
-    assert!(rt; other.is_cancelled(&rt));
-    assert!(rt; trial.words.written() == 1);
-    Ok(())
-}
-
-#[test]
-fn waits_for_a_notifier(rt: HostRuntime) -> Result<(), Fail> {
-    let trial = Trial::new(rt.alloc(), 1)?;
-    let (canceller, word) = trial.canceller(rt.alloc(), Ok(()))?;
-    let notifier = trial.notifier(&rt, rt.alloc())?;
-    let waiting = thread::spawn(&rt, move || canceller.run(&rt));
-    let waits = stays(&rt, &word, 0);
+fn answers_each_canceller_the_failure(rt: HostRuntime) {
+    let trial = Trial::new(&rt);
+    trial.words.release();
+    let added = trial.add(&rt, 1, true);
+    let notifier = given(&rt, trial.token.notifier(&rt, rt.alloc()));
+    let fails = fails_twice(&rt, &trial);
     notifier.release(&rt);
-    assert!(rt; comes(&rt, &word, 1), "no one wakes the canceller");
-    waiting?.join(&rt);
-    assert!(rt; waits, "a notifier is out");
-    assert!(rt; trial.is_over(&rt, rt.alloc())?, "the token was cancelled");
-    Ok(())
+    assert!(rt; (added, fails, trial.words.written()) == (Ok(0), true, 1));
 }
 
 #[test]
-fn waits_for_no_notifier_after_a_failure(rt: HostRuntime) -> Result<(), Fail> {
-    let trial = Trial::new(rt.alloc(), 1)?;
-    trial.add(&rt, rt.alloc(), 1, true)?;
-    let cancel = trial.token.cancel(rt.alloc())?;
-    let notifier = trial.notifier(&rt, rt.alloc())?;
-    let failed = cancel.wait(&rt).is_err();
-    notifier.release(&rt);
-    assert!(rt; failed);
-    Ok(())
+fn takes_no_handler_once_it_is_cancelled(rt: HostRuntime) {
+    let trial = Trial::new(&rt);
+    let ends = trial.ends(&rt, Ok(()));
+    assert!(rt; (ends, trial.add(&rt, 1, false)) == (true, Err(AddError::TokenUsed)));
+}
+
+// Whether another value of the token removes the handler of number 1, which then isn't run.
+fn removes_the_second<R: Wait + AllocGlobal + Abort>(rt: &R, trial: &Trial) -> bool {
+    let other = trial.token.try_clone(rt.alloc()).expect(rt, "the token");
+    let seen = (
+        other.remove_on_cancel_handler(rt, 1),
+        other.is_cancelled(rt),
+        trial.ends(rt, Ok(())),
+        other.is_cancelled(rt),
+    );
+    seen == (true, false, true, true)
+}
+
+#[test]
+fn leaves_out_what_was_removed(rt: HostRuntime) {
+    let trial = Trial::new(&rt);
+    trial.words.release();
+    let added = (trial.add(&rt, 1, false), trial.add(&rt, 2, true));
+    assert!(rt; added == (Ok(0), Ok(1)));
+    assert!(rt; removes_the_second(&rt, &trial));
+    assert!(rt; trial.words.written() == 1);
+}
+
+// Whether a thread that cancels the token waits until its only notifier is released.
+fn wakes_at_a_release<R: Host>(rt: &R, trial: &Trial, notifier: Notifier) -> bool {
+    let canceller = trial.start(rt, Ok(()));
+    let waits = canceller.waits(rt);
+    notifier.release(rt);
+    (waits, canceller.ends(rt)) == (true, true)
+}
+
+#[test]
+fn waits_for_a_notifier(rt: HostRuntime) {
+    let trial = Trial::new(&rt);
+    let notifier = given(&rt, trial.token.notifier(&rt, rt.alloc()));
+    assert!(rt; wakes_at_a_release(&rt, &trial, notifier));
+    assert!(rt; is_refused(&rt, trial.token.notifier(&rt, rt.alloc())));
 }

@@ -1,6 +1,7 @@
 //! Words that a test and its threads share, and how long a test waits for one.
 
-use std::alloc::{AllocError, Global};
+use std::alloc::{AllocGlobal, Global};
+use std::process::Abort;
 use std::sync::Arc;
 use std::sync::atomic::{AtomicU64, Ordering};
 use std::thread;
@@ -11,16 +12,14 @@ const TURNS: u32 = 10_000;
 
 pub(crate) type Word = Arc<AtomicU64, Global>;
 
-pub(crate) fn word(alloc: Global, value: u64) -> Result<Word, AllocError> {
-    let word = Arc::new(alloc, AtomicU64::new(value))?;
-    Ok(word)
+// A word that is 0.
+pub(crate) fn word<R: AllocGlobal + Abort>(rt: &R) -> Word {
+    Arc::new(rt.alloc(), AtomicU64::new(0)).expect(rt, "a word")
 }
 
-// A word that is 0, and a second hold of it for another thread.
-pub(crate) fn word_twice(alloc: Global) -> Result<(Word, Word), AllocError> {
-    let word = word(alloc, 0)?;
-    let theirs = Arc::try_clone(&word)?;
-    Ok((word, theirs))
+// A second hold of a word, for another thread.
+pub(crate) fn hold<R: Abort>(rt: &R, word: &Word) -> Word {
+    Arc::try_clone(word).expect(rt, "a hold of a word")
 }
 
 // Whether the word becomes the number before the turns are over.

@@ -2,7 +2,9 @@
 
 use super::run;
 use std::alloc::{AllocError, Global};
+use std::sync::Wait;
 use std::test::Fail;
+use std::thread::Threads;
 use zs_keys::{MemorySink, SteadySource};
 
 /// A run, whose words have a space between two.
@@ -17,7 +19,7 @@ struct Run {
 
 const BAD: &str = "bad words\n";
 
-const RUNS: [Run; 16] = [
+static RUNS: [Run; 16] = [
     Run {
         words: "workers 2 3",
         fails: 0,
@@ -154,35 +156,36 @@ fn source(alloc: Global) -> Result<SteadySource, AllocError> {
     Ok(SteadySource::new(script.into_bytes()))
 }
 
+/// Whether a run answers its status, complains and writes as it must.
+fn runs_as<R: Wait + Threads + Sync>(
+    rt: &R,
+    alloc: Global,
+    wanted: &Run,
+) -> Result<bool, AllocError> {
+    let words = cut_words(alloc, wanted.words)?;
+    let mut script = source(alloc)?;
+    let mut output = sink(alloc, wanted.fails)?;
+    let mut complaints = sink(alloc, 0)?;
+    let status = run(
+        rt,
+        alloc,
+        words.as_slice(),
+        &mut script,
+        &mut output,
+        &mut complaints,
+    );
+    Ok(
+        status == wanted.status
+            && complaints.bytes() == wanted.complaint.as_bytes()
+            && output.bytes() == wanted.output.as_bytes(),
+    )
+}
+
 #[test]
 fn each_mode_prints_what_its_words_ask(rt: HostRuntime) -> Result<(), Fail> {
     for wanted in &RUNS {
-        let alloc = rt.alloc();
-        let words = cut_words(alloc, wanted.words)?;
-        let mut script = source(alloc)?;
-        let mut output = sink(alloc, wanted.fails)?;
-        let mut complaints = sink(alloc, 0)?;
-        let status = run(
-            &rt,
-            alloc,
-            words.as_slice(),
-            &mut script,
-            &mut output,
-            &mut complaints,
-        );
-        assert_eq!(rt; status, wanted.status, "of {:?}", wanted.words);
-        assert_eq!(rt;
-            complaints.bytes(),
-            wanted.complaint.as_bytes(),
-            "of {:?}",
-            wanted.words
-        );
-        assert_eq!(rt;
-            output.bytes(),
-            wanted.output.as_bytes(),
-            "of {:?}",
-            wanted.words
-        );
+        let is_right = runs_as(&rt, rt.alloc(), wanted)?;
+        assert!(rt; is_right, "of {:?}", wanted.words);
     }
     Ok(())
 }

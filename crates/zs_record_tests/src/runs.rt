@@ -3,7 +3,7 @@
 ghost use Rattle.std.specs.Prelude.{◌<◌};
 
 use crate::spelling::{CLOSE, EVENTS, SCRIPT, sink, source, spelled, status_of};
-use std::alloc::AllocError;
+use std::alloc::{AllocError, Global};
 use std::process::Abort;
 use std::test::Fail;
 
@@ -70,36 +70,37 @@ const HOME_CHANGED: &str = "\
 /// What is recorded of the script's first line.
 const FIRST: &str = "> sub any k\n< 1 ok 2\n< 1 send sub 2 s0:k\n";
 
-/// Runs the program once, in reads and writes of at most `cut` bytes.
-fn assert_run(
-    rt: &(impl Abort + AllocGlobal),
-    word: &'static str,
-    case: &Run,
-    cut: usize,
-) -> Result<(), AllocError>
+/// Whether the program, run once in reads and writes of at most `cut` bytes, writes and complains as it must.
+fn runs_as(alloc: Global, word: &str, case: &Run, cut: usize) -> Result<bool, AllocError>
     requires { 0 < cut }
 {
-    let alloc = rt.alloc();
     let input = spelled(alloc, case.input, case.more)?;
+    let wanted = spelled(alloc, case.output, "")?;
     let mut source = source(alloc, input, cut, 0)?;
     let mut output = sink(alloc, cut, 0)?;
     let mut complaints = sink(alloc, cut, 0)?;
     let status = status_of(alloc, word, &mut source, &mut output, &mut complaints)?;
-    let wanted = spelled(alloc, case.output, "")?;
-    assert_eq!(*rt; output.bytes(), wanted.as_slice());
-    assert_eq!(*rt; complaints.bytes(), case.complaint.as_bytes());
-    assert_eq!(*rt; status, case.status);
-    Ok(())
+    Ok(
+        status == case.status
+            && output.bytes() == wanted.as_slice()
+            && complaints.bytes() == case.complaint.as_bytes(),
+    )
 }
 
+/// Runs each case in reads and writes of one byte, of seven, and of all at once.
 fn assert_runs(
     rt: &(impl Abort + AllocGlobal),
-    word: &'static str,
+    word: &str,
     table: &[Run],
 ) -> Result<(), AllocError> {
     for case in table {
         for cut in [1, 7, 4096] {
-            assert_run(rt, word, case, cut)?;
+            let is_right = runs_as(rt.alloc(), word, case, cut)?;
+            assert!(*rt;
+                is_right,
+                "{word}, cut at {cut}, of {:?} and {:?}",
+                case.input, case.more
+            );
         }
     }
     Ok(())

@@ -3,9 +3,9 @@
 #![tactic(auto)]
 
 #[cfg(test)]
-mod gets;
+mod calls;
 #[cfg(test)]
-mod groups;
+mod gets;
 #[cfg(test)]
 mod liveliness;
 #[cfg(test)]
@@ -13,16 +13,10 @@ mod matching;
 #[cfg(test)]
 mod members;
 #[cfg(test)]
-mod queryables;
-#[cfg(test)]
 mod requests;
-#[cfg(test)]
-mod script;
 #[cfg(test)]
 mod store;
 #[cfg(test)]
 mod tables;
-#[cfg(test)]
-mod told;
 #[cfg(test)]
 mod tree;

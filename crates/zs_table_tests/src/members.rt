@@ -1,8 +1,6 @@
-//! A view of a group, by a script, and each allocation that it makes (`rt try --test --fail-alloc N`).
+//! A view of a group: a count doesn't fall below none, and keys that are no names change nothing.
 
-use crate::script::{TryStep, try_first_wrong};
 use std::alloc::{AllocError, Global};
-use std::test::Fail;
 use zs_bytes::ZBytes;
 use zs_keys::{KeyError, KeyExpr};
 use zs_members::View;
@@ -10,17 +8,18 @@ use zs_sample::{
     CongestionControl, Encoding, Priority, Reliability, Sample, SampleFields, SampleKind,
 };
 
-/// A step of a script.
-enum Act {
-    /// Takes a put or a deletion on a key.
-    Take(SampleKind, &'static str),
-    /// The names that are there, one behind the other, each of them once.
-    Once(&'static str),
-}
+static SAMPLES: [(SampleKind, &str); 7] = [
+    (SampleKind::Put, "group/a1"),
+    (SampleKind::Delete, "group/a1"),
+    (SampleKind::Delete, "group/a1"),
+    (SampleKind::Put, "group/a1"),
+    (SampleKind::Put, "group/A"),
+    (SampleKind::Put, "group/a/b"),
+    (SampleKind::Put, "a1"),
+];
 
-fn sample(kind: SampleKind, text: &'static str) -> Result<Sample, KeyError> {
-    let key_expr = KeyExpr::new(text)?;
-    Ok(Sample::from_fields(SampleFields {
+fn sample(kind: SampleKind, key_expr: KeyExpr<'static>) -> Sample {
+    Sample::from_fields(SampleFields {
         key_expr,
         payload: ZBytes::new(),
         kind,
@@ -32,54 +31,44 @@ fn sample(kind: SampleKind, text: &'static str) -> Result<Sample, KeyError> {
         reliability: Reliability::default(),
         source_info: None,
         attachment: None,
-    }))
+    })
 }
 
 fn take(view: &mut View, kind: SampleKind, text: &'static str) -> Result<(), KeyError> {
-    let sample = sample(kind, text)?;
-    view.take(&sample)?;
+    let key = KeyExpr::new(text)?;
+    let sample = sample(kind, key);
+    Ok(view.take(&sample)?)
+}
+
+fn take_all(view: &mut View) -> Result<(), KeyError> {
+    for (kind, text) in &SAMPLES {
+        take(view, *kind, text)?;
+    }
     Ok(())
 }
 
-fn are_there_once(alloc: Global, view: &View, wanted: &str) -> Result<bool, AllocError> {
-    let mut names = String::new(alloc);
-    for (name, count) in view.iter() {
-        if *count != 1 {
-            return Ok(false);
-        }
-        names.push_str(name.as_str())?;
-    }
-    Ok(names.as_str() == wanted)
-}
-
-impl TryStep<View> for Act {
-    fn try_holds(&self, alloc: Global, view: &mut View) -> Result<bool, KeyError> {
-        match self {
-            Act::Take(kind, text) => {
-                take(view, *kind, text)?;
-                Ok(true)
-            }
-            Act::Once(names) => Ok(are_there_once(alloc, view, names)?),
-        }
+/// Whether one name alone is there, so many times.
+fn shows(view: &View, times: u64) -> bool {
+    let mut names = view.iter();
+    match names.next() {
+        Some((name, count)) => name.as_str() == "a1" && *count == times && names.next().is_none(),
+        None => false,
     }
 }
 
-const SAMPLES: [Act; 10] = [
-    Act::Take(SampleKind::Put, "group/x"),
-    Act::Take(SampleKind::Put, "group/x"),
-    Act::Take(SampleKind::Delete, "group/x"),
-    Act::Take(SampleKind::Put, "group/a1"),
-    Act::Take(SampleKind::Put, "group/A"),
-    Act::Take(SampleKind::Put, "group/a/b"),
-    Act::Once("a1x"),
-    Act::Take(SampleKind::Delete, "group/x"),
-    Act::Take(SampleKind::Delete, "group/x"),
-    Act::Once("a1"),
-];
+/// Whether the name is raised in a copy alone.
+fn copies(view: &View) -> Result<bool, AllocError> {
+    let mut copy = view.try_clone()?;
+    copy.raise("a1")?;
+    Ok(shows(&copy, 2) && shows(view, 1))
+}
+
+fn names_are_right(alloc: Global) -> bool {
+    let mut view = View::new(alloc);
+    take_all(&mut view).is_ok() && copies(&view) == Ok(true)
+}
 
 #[test]
-fn names_are_counted(rt: HostRuntime) -> Result<(), Fail> {
-    let mut view = View::new(rt.alloc());
-    assert_eq!(rt; try_first_wrong(rt.alloc(), &mut view, &SAMPLES)?, None);
-    Ok(())
+fn names_are_counted(rt: HostRuntime) {
+    assert!(rt; names_are_right(rt.alloc()));
 }

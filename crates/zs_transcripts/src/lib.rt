@@ -17,6 +17,8 @@ mod spelling;
 #[cfg(test)]
 mod stops;
 #[cfg(test)]
+mod streams;
+#[cfg(test)]
 mod transcripts;
 #[cfg(test)]
 mod words;

@@ -1,13 +1,15 @@
 //! Lines one by one: what event each is, how they are cut from pieces, and how a piece is written.
 
-use crate::spelling::spelled_line;
+ghost use Rattle.std.specs.Prelude.{◌<◌};
+
+use crate::spelling::{sink, source, spelled_line, stuck_sink};
 use std::alloc::{AllocError, Global};
 use std::process::Abort;
 use std::test::Fail;
 use zs_event_lines::print_event;
-use zs_events::ScriptEvent;
-use zs_keys::{MemorySink, MemorySource, Source, SteadySource};
-use zs_script::{Line, LineReader, WriteFault, parse_event, write_whole};
+use zs_events::{Event, ScriptEvent};
+use zs_keys::{MemorySink, Source, SteadySource};
+use zs_script::{Line, LineError, LineReader, WriteFault, parse_event, write_whole};
 
 /// Declarations, keys and what ends them.
 const DECLARATIONS: &str = "\
@@ -225,32 +227,44 @@ recv lget 3 => recv LivelinessGet 3
 recv lsub 3 => nothing
 recv sub => nothing";
 
-/// The event of a line, printed with those options alone whose value is not what their absence says.
-fn read_as(alloc: Global, bytes: Vec<u8>) -> Result<String, AllocError> {
-    let line = Line { number: 1, bytes };
-    let Some(event) = parse_event(alloc, &line)? else {
-        return String::from_str(alloc, "nothing");
-    };
-    let printed = match &event {
-        ScriptEvent::Core(event) => print_event(alloc, event)?,
-        ScriptEvent::Recv { kind, number } => {
-            Some(format!(in alloc; "recv\t{kind:?}\t{number}")?)
-        }
-    };
-    drop(event);
-    match printed {
+/// The text of an event of the session.
+fn text_of(alloc: Global, event: &Event) -> Result<String, AllocError> {
+    match print_event(alloc, event)? {
         Some(text) => Ok(text),
         None => String::from_str(alloc, "no line"),
     }
 }
 
-/// Each of these lines is read and printed as it is, or as what stands behind its arrow.
+/// An event, printed with those options alone whose value is not what their absence says.
+fn printed(alloc: Global, event: &ScriptEvent) -> Result<String, AllocError> {
+    match event {
+        ScriptEvent::Core(event) => text_of(alloc, event),
+        ScriptEvent::Recv { kind, number } => format!(in alloc; "recv\t{kind:?}\t{number}"),
+    }
+}
+
+/// The event of a line, printed so.
+fn read_as(alloc: Global, bytes: Vec<u8>) -> Result<String, AllocError> {
+    let line = Line { number: 1, bytes };
+    match parse_event(alloc, &line)? {
+        Some(event) => printed(alloc, &event),
+        None => String::from_str(alloc, "nothing"),
+    }
+}
+
+/// Whether a line is read and printed as it is, or as what stands behind its arrow.
+fn is_read(alloc: Global, row: &str) -> Result<bool, AllocError> {
+    let (line, want) = row.split_once(" => ").unwrap_or((row, row));
+    let is = read_as(alloc, spelled_line(alloc, line)?)?;
+    let want = spelled_line(alloc, want)?;
+    Ok(is.as_bytes() == want.as_slice())
+}
+
+/// Each of these lines is read so.
 fn assert_read(rt: &impl Abort, alloc: Global, lines: &str) -> Result<(), AllocError> {
     for row in lines.lines() {
-        let (line, want) = row.split_once(" => ").unwrap_or((row, row));
-        let is = read_as(alloc, spelled_line(alloc, line)?)?;
-        let want = spelled_line(alloc, want)?;
-        assert_eq!(*rt; is.as_bytes(), want.as_slice(), "at {line}");
+        let is_read = is_read(alloc, row)?;
+        assert!(*rt; is_read, "at {row}");
     }
     Ok(())
 }
@@ -273,13 +287,45 @@ fn lines_are_read(rt: HostRuntime) -> Result<(), Fail> {
     Ok(())
 }
 
+/// Whether a line of these bytes has no event.
+fn has_no_event(alloc: Global, bytes: &[u8]) -> Result<bool, AllocError> {
+    let is = read_as(alloc, Vec::from_slice(alloc, bytes)?)?;
+    Ok(is.as_str() == "nothing")
+}
+
 #[test]
 fn lines_without_tabs_or_that_are_no_text_have_no_event(rt: HostRuntime) -> Result<(), Fail> {
     for bytes in [b"sub any k".as_slice(), b"sub\tany\t\xff".as_slice()] {
-        let is = read_as(rt.alloc(), Vec::from_slice(rt.alloc(), bytes)?)?;
-        assert_eq!(rt; is.as_str(), "nothing");
+        let has_none = has_no_event(rt.alloc(), bytes)?;
+        assert!(rt; has_none, "of {bytes:?}");
     }
     Ok(())
+}
+
+/// Lists a line with its number.
+fn list_line(out: &mut String, line: Line) -> Result<(), AllocError> {
+    write!(out, "{}{:?} ", line.number, line.bytes)
+}
+
+/// Lists what a reader gave.
+fn list(out: &mut String, next: Result<Option<Line>, LineError>) -> Result<(), AllocError> {
+    match next {
+        Ok(Some(line)) => list_line(out, line),
+        Ok(None) => out.push_str("end"),
+        Err(error) => write!(out, "{error:?}"),
+    }
+}
+
+/// Lists the next line, or how the lines ended. Returns whether they did.
+fn list_next<S: Source>(
+    out: &mut String,
+    reader: &mut LineReader,
+    source: &mut S,
+) -> Result<bool, AllocError> {
+    let next = reader.next(source);
+    let ended = !matches!(&next, Ok(Some(_)));
+    list(out, next)?;
+    Ok(ended)
 }
 
 /// Each line with its number, and how it ended.
@@ -292,22 +338,53 @@ fn listed<S: Source>(
     let mut out = String::new(alloc);
     let mut reader = LineReader::new(alloc, line_max, turns);
     for _ in 0..100 {
-        match reader.next(source) {
-            Ok(Some(line)) => {
-                let Line { number, bytes } = line;
-                write!(out, "{number}{bytes:?} ")?;
-            }
-            Ok(None) => {
-                write!(out, "end")?;
-                return Ok(out);
-            }
-            Err(error) => {
-                write!(out, "{error:?}")?;
-                return Ok(out);
-            }
+        if list_next(&mut out, &mut reader, source)? {
+            break;
         }
     }
     Ok(out)
+}
+
+/// Whether the lines of a source are listed as this.
+fn is_listed<S: Source>(
+    alloc: Global,
+    source: &mut S,
+    line_max: u32,
+    turns: u64,
+    want: &str,
+) -> Result<bool, AllocError> {
+    let is = listed(alloc, source, line_max, turns)?;
+    Ok(is.as_str() == want)
+}
+
+/// Whether a text in a steady source is listed so.
+fn is_steadily_listed(alloc: Global, text: &str, want: &str) -> Result<bool, AllocError> {
+    let mut source = SteadySource::new(Vec::from_slice(alloc, text.as_bytes())?);
+    is_listed(alloc, &mut source, 10, 100, want)
+}
+
+/// Whether a text in pieces of this length is listed so.
+fn is_listed_in_pieces(
+    alloc: Global,
+    text: &str,
+    cut: usize,
+    want: &str,
+) -> Result<bool, AllocError>
+    requires { 0 < cut }
+{
+    let mut source = source(alloc, Vec::from_slice(alloc, text.as_bytes())?, cut, 0)?;
+    is_listed(alloc, &mut source, 10, 100, want)
+}
+
+/// A text is listed so from a steady source, and in pieces of each length.
+fn assert_listed(rt: &impl Abort, alloc: Global, text: &str, want: &str) -> Result<(), AllocError> {
+    let is_steady = is_steadily_listed(alloc, text, want)?;
+    assert!(*rt; is_steady, "of {text:?} in a steady source");
+    for cut in [1, 7, 4096] {
+        let is_listed = is_listed_in_pieces(alloc, text, cut, want)?;
+        assert!(*rt; is_listed, "of {text:?} in pieces of {cut}");
+    }
+    Ok(())
 }
 
 #[test]
@@ -326,58 +403,77 @@ fn reads_the_same_lines_in_any_pieces(rt: HostRuntime) -> Result<(), Fail> {
         ("a\n0123456789a", "1[97] LineTooLong(2)"),
     ];
     for (text, want) in table {
-        let bytes = Vec::from_slice(rt.alloc(), text.as_bytes())?;
-        let steady = listed(rt.alloc(), &mut SteadySource::new(bytes), 10, 100)?;
-        assert_eq!(rt; steady.as_str(), want, "of a steady source");
-        for cut in [1, 7, 4096] {
-            let bytes = Vec::from_slice(rt.alloc(), text.as_bytes())?;
-            let mut source = MemorySource::new(bytes, cut, Vec::new(rt.alloc()));
-            let cut_up = listed(rt.alloc(), &mut source, 10, 100)?;
-            assert_eq!(rt; cut_up.as_str(), want, "of pieces of {cut}");
-        }
+        assert_listed(&rt, rt.alloc(), text, want)?;
     }
     Ok(())
 }
 
+/// Whether three lines, in pieces of this length, with a fault at this read and with so many turns, are listed so.
+fn is_stopped(
+    alloc: Global,
+    cut: usize,
+    fail: u64,
+    turns: u64,
+    line_max: u32,
+    want: &str,
+) -> Result<bool, AllocError>
+    requires { 0 < cut }
+{
+    let mut source = source(alloc, Vec::from_slice(alloc, b"a\nbc\nd")?, cut, fail)?;
+    is_listed(alloc, &mut source, line_max, turns, want)
+}
+
 #[test]
 fn tells_why_it_reads_no_further(rt: HostRuntime) -> Result<(), Fail> {
-    let text = b"a\nbc\nd";
     let table = [
-        (4096, 0, 9, "OutOfTurns"),
-        (4096, 1, 9, "1[97] 2[98, 99] OutOfTurns"),
-        (4096, 2, 9, "1[97] 2[98, 99] 3[100] end"),
-        (3, 2, 1, "1[97] LineTooLong(2)"),
-        (3, 1, 9, "1[97] OutOfTurns"),
-        (3, 100, 2, "1[97] 2[98, 99] 3[100] end"),
+        (4096, 0, 0, 9, "OutOfTurns"),
+        (4096, 0, 1, 9, "1[97] 2[98, 99] OutOfTurns"),
+        (4096, 0, 2, 9, "1[97] 2[98, 99] 3[100] end"),
+        (3, 0, 2, 1, "1[97] LineTooLong(2)"),
+        (3, 0, 1, 9, "1[97] OutOfTurns"),
+        (3, 0, 100, 2, "1[97] 2[98, 99] 3[100] end"),
+        (3, 2, 100, 9, "1[97] ReadFault"),
     ];
-    for (cut, turns, line_max, want) in table {
-        let bytes = Vec::from_slice(rt.alloc(), text)?;
-        let mut source = MemorySource::new(bytes, cut, Vec::new(rt.alloc()));
-        let is = listed(rt.alloc(), &mut source, line_max, turns)?;
-        assert_eq!(rt; is.as_str(), want, "of {turns} turns");
+    for (cut, fail, turns, line_max, want) in table {
+        let is_stopped = is_stopped(rt.alloc(), cut, fail, turns, line_max, want)?;
+        assert!(rt; is_stopped, "of {want} after {turns} turns");
     }
-    let fails = Vec::from_slice(rt.alloc(), &[2])?;
-    let mut source = MemorySource::new(Vec::from_slice(rt.alloc(), text)?, 3, fails);
-    let is = listed(rt.alloc(), &mut source, 9, 100)?;
-    assert_eq!(rt; is.as_str(), "1[97] ReadFault");
     Ok(())
+}
+
+/// Whether a piece is written whole in parts of this length, and an empty one behind it.
+fn is_written(alloc: Global, cut: usize) -> bool
+    requires { 0 < cut }
+{
+    let mut sink = MemorySink::new(alloc, cut, Vec::new(alloc), Vec::new(alloc));
+    let whole = write_whole(&mut sink, b"zenoh");
+    let empty = write_whole(&mut sink, b"");
+    whole == Ok(()) && empty == Ok(()) && sink.bytes() == b"zenoh".as_slice()
+}
+
+/// Whether the write of a piece fails, with these bytes taken.
+fn fails_behind(sink: &mut MemorySink, taken: &[u8]) -> bool {
+    write_whole(sink, b"zenoh") == Err(WriteFault) && sink.bytes() == taken
+}
+
+/// Whether a sink that fails at its third write has taken what came before.
+fn fails_in_part(alloc: Global) -> Result<bool, AllocError> {
+    let mut sink = sink(alloc, 2, 3)?;
+    Ok(fails_behind(&mut sink, b"zeno"))
+}
+
+/// Whether one that takes nothing at its second write fails there.
+fn stalls_in_part(alloc: Global) -> Result<bool, AllocError> {
+    let mut sink = stuck_sink(alloc, 2, 2)?;
+    Ok(fails_behind(&mut sink, b"ze"))
 }
 
 #[test]
 fn writes_a_piece_in_parts(rt: HostRuntime) -> Result<(), Fail> {
     for cut in [1, 2, 4096] {
-        let mut sink = MemorySink::new(rt.alloc(), cut, Vec::new(rt.alloc()), Vec::new(rt.alloc()));
-        assert_eq!(rt; write_whole(&mut sink, b"zenoh"), Ok(()));
-        assert_eq!(rt; write_whole(&mut sink, b""), Ok(()));
-        assert_eq!(rt; sink.bytes(), b"zenoh".as_slice(), "in parts of {cut}");
+        assert!(rt; is_written(rt.alloc(), cut), "in parts of {cut}");
     }
-    let fails = Vec::from_slice(rt.alloc(), &[3])?;
-    let mut sink = MemorySink::new(rt.alloc(), 2, fails, Vec::new(rt.alloc()));
-    assert_eq!(rt; write_whole(&mut sink, b"zenoh"), Err(WriteFault));
-    assert_eq!(rt; sink.bytes(), b"zeno".as_slice());
-    let stuck = Vec::from_slice(rt.alloc(), &[2])?;
-    let mut sink = MemorySink::new(rt.alloc(), 2, Vec::new(rt.alloc()), stuck);
-    assert_eq!(rt; write_whole(&mut sink, b"zenoh"), Err(WriteFault));
-    assert_eq!(rt; sink.bytes(), b"ze".as_slice());
+    assert!(rt; fails_in_part(rt.alloc())?, "of a sink that fails");
+    assert!(rt; stalls_in_part(rt.alloc())?, "of a sink that takes nothing");
     Ok(())
 }

@@ -36,17 +36,31 @@ impl Write for Once {
     }
 }
 
-#[test]
-fn std_readers_and_writers_fail_in_mid_stream(rt: HostRuntime) -> Result<(), Fail> {
+/// Whether the byte of such a reader is read, and then its error.
+fn reads_once() -> bool {
     let mut source = StdSource::new(Once(false));
     let mut into = [0u8; 4];
-    assert_eq!(rt; source.read(&mut into).ok(), Some(1));
-    assert_eq!(rt; into[0], b'\n');
-    assert!(rt; source.read(&mut into).is_err());
+    let count = source.read(&mut into).ok();
+    count == Some(1) && into[0] == b'\n' && source.read(&mut into).is_err()
+}
+
+/// Whether one byte is written to such a writer, and then none.
+fn writes_once() -> bool {
     let mut sink = StdSink::new(Once(false));
-    assert_eq!(rt; sink.write(b"ab").ok(), Some(1));
-    assert!(rt; sink.write(b"b").is_err());
+    sink.write(b"ab").ok() == Some(1) && sink.write(b"b").is_err()
+}
+
+#[test]
+fn std_readers_and_writers_fail_in_mid_stream(rt: HostRuntime) -> Result<(), Fail> {
+    assert!(rt; reads_once(), "of a reader");
+    assert!(rt; writes_once(), "of a writer");
     Ok(())
+}
+
+/// Whether an error is printed so.
+fn is_named(alloc: Global, error: DriveError, name: &str) -> Result<bool, AllocError> {
+    let text = format!(in alloc; "{error}")?;
+    Ok(text.as_str() == name)
 }
 
 #[test]
@@ -60,9 +74,23 @@ fn errors_are_named_as_in_the_complaints(rt: HostRuntime) -> Result<(), Fail> {
         (DriveError::NoMemory, "NoMemory"),
     ];
     for (error, name) in names {
-        let text = format!(in rt.alloc(); "{error}")?;
-        assert_eq!(rt; text.as_str(), name);
+        let is_named = is_named(rt.alloc(), error, name)?;
+        assert!(rt; is_named, "of {name}");
     }
+    Ok(())
+}
+
+/// The key of this text.
+fn key(alloc: Global, text: &str) -> Result<KeyExpr<'static>, Fail> {
+    match KeyExpr::from_string(String::from_str(alloc, text)?) {
+        Ok(key) => Ok(key),
+        Err(_) => Err(Fail::from("no key")),
+    }
+}
+
+/// Puts the key of this text behind the others.
+fn push_key(alloc: Global, keys: &mut Vec<KeyExpr<'static>>, text: &str) -> Result<(), Fail> {
+    keys.push(key(alloc, text)?)?;
     Ok(())
 }
 
@@ -70,32 +98,41 @@ fn errors_are_named_as_in_the_complaints(rt: HostRuntime) -> Result<(), Fail> {
 fn keys(alloc: Global, texts: &[&str]) -> Result<KeyList, Fail> {
     let mut keys = Vec::new(alloc);
     for text in texts {
-        let Ok(key) = KeyExpr::from_string(String::from_str(alloc, text)?) else {
-            return Err(Fail::from("no key"));
-        };
-        keys.push(key)?;
+        push_key(alloc, &mut keys, text)?;
     }
     Ok(KeyList::from_vec(keys))
 }
 
+/// Whether these words give these settings.
+fn give(alloc: Global, words: &[String], settings: &Settings) -> Result<bool, AllocError> {
+    match settings_of(alloc, words)? {
+        Some(found) => Ok(found == *settings),
+        None => Ok(false),
+    }
+}
+
 /// Whether the words of a line give these settings.
-fn are_given(alloc: Global, line: &str, settings: Settings) -> Result<bool, AllocError> {
+fn are_given(alloc: Global, line: &str, settings: &Settings) -> Result<bool, AllocError> {
     let words = cut_words(alloc, line)?;
-    let found = settings_of(alloc, words.as_slice())?;
-    let same = found.as_ref() == Some(&settings);
-    drop(found);
-    drop(settings);
-    Ok(same)
+    give(alloc, words.as_slice(), settings)
+}
+
+/// Whether no words give the default settings.
+fn none_give_defaults(alloc: Global) -> Result<bool, AllocError> {
+    let settings = Settings::default();
+    give(alloc, &[], &settings)
+}
+
+/// Whether the words of a line give the default settings.
+fn are_defaults(alloc: Global, line: &str) -> Result<bool, AllocError> {
+    let settings = Settings::default();
+    are_given(alloc, line, &settings)
 }
 
 #[test]
 fn settings_are_the_default_ones(rt: HostRuntime) -> Result<(), Fail> {
-    let alloc = rt.alloc();
-    assert!(rt; are_given(alloc, "drive", Settings::default())?);
-    let found = settings_of(alloc, &[])?;
-    let same = found == Some(Settings::default());
-    drop(found);
-    assert!(rt; same);
+    assert!(rt; are_defaults(rt.alloc(), "drive")?);
+    assert!(rt; none_give_defaults(rt.alloc())?);
     Ok(())
 }
 
@@ -115,22 +152,31 @@ fn settings_are_the_greatest(rt: HostRuntime) -> Result<(), Fail> {
         turns: u64::MAX,
         ..Settings::default()
     };
-    assert!(rt; are_given(rt.alloc(), line, settings)?);
+    assert!(rt; are_given(rt.alloc(), line, &settings)?);
     Ok(())
 }
 
-#[test]
-fn settings_keep_the_order_of_aggregates(rt: HostRuntime) -> Result<(), Fail> {
-    let alloc = rt.alloc();
-    let subscribers = keys(alloc, &["a/**", "a", "a/**"])?;
-    let publishers = keys(alloc, &["**"])?;
-    let settings = Settings {
+/// Settings with these aggregates.
+fn aggregating(subscribers: KeyList, publishers: KeyList) -> Settings {
+    Settings {
         zid: 171,
         aggregated_subscribers: subscribers,
         aggregated_publishers: publishers,
         ..Settings::default()
-    };
+    }
+}
+
+/// Settings with aggregates in an order of their own.
+fn ordered(alloc: Global) -> Result<Settings, Fail> {
+    let subscribers = keys(alloc, &["a/**", "a", "a/**"])?;
+    let publishers = keys(alloc, &["**"])?;
+    Ok(aggregating(subscribers, publishers))
+}
+
+#[test]
+fn settings_keep_the_order_of_aggregates(rt: HostRuntime) -> Result<(), Fail> {
     let line = "drive aggsub=a/** zid=aB aggpub=** aggsub=a aggsub=a/**";
-    assert!(rt; are_given(alloc, line, settings)?);
+    let settings = ordered(rt.alloc())?;
+    assert!(rt; are_given(rt.alloc(), line, &settings)?);
     Ok(())
 }

@@ -30,14 +30,19 @@ pub const FIRST_TEXT: &str = "\
 /// Puts a text behind the bytes, with tabs for spaces.
 pub fn spell(bytes: &mut Vec<u8>, text: &str) -> Result<(), AllocError> {
     for byte in text.bytes() {
-        match byte {
-            b'%' => tabbed(bytes, QUALITY)?,
-            b'G' => tabbed(bytes, BLOCKING)?,
-            b' ' => bytes.push(b'\t')?,
-            byte => bytes.push(byte)?,
-        }
+        spell_byte(bytes, byte)?;
     }
     Ok(())
+}
+
+/// Puts what a byte of a text stands for behind the bytes.
+fn spell_byte(bytes: &mut Vec<u8>, byte: u8) -> Result<(), AllocError> {
+    match byte {
+        b'%' => tabbed(bytes, QUALITY),
+        b'G' => tabbed(bytes, BLOCKING),
+        b' ' => tabbed(bytes, " "),
+        byte => Ok(bytes.push(byte)?),
+    }
 }
 
 /// Puts a text behind the bytes, with tabs for spaces and nothing else changed.
@@ -55,6 +60,12 @@ pub fn spelled(alloc: Global, text: &str) -> Result<Vec<u8>, AllocError> {
     Ok(bytes)
 }
 
+/// Whether the bytes are those of this text.
+pub fn is_spelled(alloc: Global, bytes: &[u8], text: &str) -> Result<bool, AllocError> {
+    let wanted = spelled(alloc, text)?;
+    Ok(bytes == wanted.as_slice())
+}
+
 /// The bytes of a line, with a tab for each space.
 pub fn spelled_line(alloc: Global, line: &str) -> Result<Vec<u8>, AllocError> {
     let mut bytes = Vec::new(alloc);
@@ -66,9 +77,15 @@ pub fn spelled_line(alloc: Global, line: &str) -> Result<Vec<u8>, AllocError> {
 pub fn cut_words(alloc: Global, line: &str) -> Result<Vec<String>, AllocError> {
     let mut words = Vec::new(alloc);
     for word in line.split(' ') {
-        words.push(String::from_str(alloc, word)?)?;
+        push_word(alloc, &mut words, word)?;
     }
     Ok(words)
+}
+
+/// Puts a word behind the others.
+fn push_word(alloc: Global, words: &mut Vec<String>, word: &str) -> Result<(), AllocError> {
+    words.push(String::from_str(alloc, word)?)?;
+    Ok(())
 }
 
 /// A source of these bytes that gives at most `cut` of them per read, and fails at this read.

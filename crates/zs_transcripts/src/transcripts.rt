@@ -1,13 +1,15 @@
 //! Transcripts: each script line, and under it, behind `<`, what is printed for it. They were worked out by hand from
 //! the rules of the script language.
 
-use crate::spelling::{cut_words, sink, source, spell};
+ghost use Rattle.std.specs.Prelude.{◌<◌};
+
+use crate::spelling::spell;
+use crate::streams::Streams;
 pub(crate) use all_kinds::{ALL_KINDS, WORDS};
 pub(crate) use home::HOME;
 use std::alloc::{AllocError, Global};
 use std::process::Abort;
 use std::test::Fail;
-use zs_session::run;
 
 mod all_kinds;
 mod cancelling;
@@ -51,46 +53,74 @@ impl Transcript {
             output: Vec::new(alloc),
         };
         for line in self.text.lines() {
-            match line.strip_prefix("< ") {
-                Some(printed) => {
-                    spell(&mut parts.output, printed)?;
-                    parts.output.push(b'\n')?;
-                }
-                None => {
-                    spell(&mut parts.script, line)?;
-                    parts.script.push(b'\n')?;
-                }
-            }
+            parts.push_line(line)?;
         }
         Ok(parts)
     }
+
+    /// Whether a run with these words, in reads and writes of this length, prints what the transcript says.
+    fn is_printed(&self, alloc: Global, words: &str, cut: usize) -> Result<bool, AllocError>
+        requires { 0 < cut }
+    {
+        let Parts { script, output } = self.parts(alloc)?;
+        is_output(alloc, words, cut, script, output.as_slice())
+    }
 }
 
-/// Runs each script with these words, in reads and writes of several lengths, and compares what it prints.
+impl Parts {
+    /// Puts a line of a transcript behind the part that it belongs to.
+    fn push_line(&mut self, line: &str) -> Result<(), AllocError> {
+        match line.strip_prefix("< ") {
+            Some(printed) => push_line(&mut self.output, printed),
+            None => push_line(&mut self.script, line),
+        }
+    }
+}
+
+/// Puts a line behind the bytes, with its line feed.
+fn push_line(bytes: &mut Vec<u8>, line: &str) -> Result<(), AllocError> {
+    spell(bytes, line)?;
+    bytes.push(b'\n')?;
+    Ok(())
+}
+
+/// Whether a run of this script with these words, in reads and writes of this length, prints this.
+fn is_output(
+    alloc: Global,
+    words: &str,
+    cut: usize,
+    script: Vec<u8>,
+    output: &[u8],
+) -> Result<bool, AllocError>
+    requires { 0 < cut }
+{
+    let mut streams = Streams::new(alloc, script, cut, (0, 0), cut)?;
+    let status = streams.run_line(alloc, words)?;
+    Ok(status == 0 && streams.have_told("", output))
+}
+
+/// Runs a script with these words, in reads and writes of several lengths, and compares what it prints.
+fn assert_one_printed(
+    rt: &(impl Abort + AllocGlobal),
+    words: &str,
+    transcript: &Transcript,
+) -> Result<(), AllocError> {
+    let name = transcript.name;
+    for cut in [1, 7, 4096] {
+        let is_printed = transcript.is_printed(rt.alloc(), words, cut)?;
+        assert!(*rt; is_printed, "of {name} in pieces of {cut}");
+    }
+    Ok(())
+}
+
+/// Does so with each script.
 fn assert_printed(
     rt: &(impl Abort + AllocGlobal),
     words: &str,
     transcripts: &[Transcript],
 ) -> Result<(), Fail> {
-    let words = cut_words(rt.alloc(), words)?;
     for transcript in transcripts {
-        for cut in [1, 7, 4096] {
-            let alloc = rt.alloc();
-            let parts = transcript.parts(alloc)?;
-            let mut source = source(alloc, parts.script, cut, 0)?;
-            let mut output = sink(alloc, cut, 0)?;
-            let mut complaints = sink(alloc, cut, 0)?;
-            let status = run(
-                alloc,
-                words.as_slice(),
-                &mut source,
-                &mut output,
-                &mut complaints,
-            );
-            let name = transcript.name;
-            assert_eq!(*rt; output.bytes(), parts.output.as_slice(), "of {name}");
-            assert_eq!(*rt; status, 0, "of {name}");
-        }
+        assert_one_printed(rt, words, transcript)?;
     }
     Ok(())
 }

@@ -1,12 +1,13 @@
 //! What runs do with their words, and the statuses that they return.
 
-use crate::spelling::{FIRST, FIRST_TEXT, cut_words, sink, source, spelled};
+use crate::spelling::{FIRST, FIRST_TEXT, is_spelled, spelled};
+use crate::streams::Streams;
+use std::alloc::{AllocError, Global};
 use std::test::Fail;
-use zs_keys::Source;
-use zs_session::run;
+use zs_keys::{MemorySource, Source};
 
 /// Words that no run takes.
-const BAD_WORDS: [&str; 75] = [
+static BAD_WORDS: [&str; 75] = [
     "",
     "Link",
     "links",
@@ -84,32 +85,30 @@ const BAD_WORDS: [&str; 75] = [
     "drive aggsub=a\tb",
 ];
 
+/// Whether a run with these words has the status 2, complains of them and writes nothing.
+fn refuses(alloc: Global, streams: &mut Streams, line: &str) -> Result<bool, AllocError> {
+    let status = streams.run_line(alloc, line)?;
+    Ok(status == 2 && streams.have_told("bad words\n", b"".as_slice()))
+}
+
+/// Whether the whole first script is still there to be read.
+fn is_unread(script: &mut MemorySource) -> bool {
+    let mut left = [0u8; 100];
+    script.read(&mut left) == Ok(FIRST.len())
+}
+
+/// Whether a run with these words refuses them, and reads nothing.
+fn are_refused(alloc: Global, line: &str) -> Result<bool, AllocError> {
+    let mut streams = Streams::new(alloc, spelled(alloc, FIRST)?, 4096, (0, 0), 4096)?;
+    let refuses = refuses(alloc, &mut streams, line)?;
+    Ok(refuses && is_unread(&mut streams.source))
+}
+
 #[test]
 fn bad_words_read_and_write_nothing(rt: HostRuntime) -> Result<(), Fail> {
-    for line in BAD_WORDS {
-        let mut script = source(rt.alloc(), spelled(rt.alloc(), FIRST)?, 4096, 0)?;
-        let mut output = sink(rt.alloc(), 4096, 0)?;
-        let mut complaints = sink(rt.alloc(), 4096, 0)?;
-        let status = run(
-            rt.alloc(),
-            cut_words(rt.alloc(), line)?.as_slice(),
-            &mut script,
-            &mut output,
-            &mut complaints,
-        );
-        assert_eq!(rt; status, 2, "of {line:?}");
-        assert_eq!(rt;
-            complaints.bytes(),
-            b"bad words\n".as_slice(),
-            "of {line:?}"
-        );
-        assert!(rt; output.bytes().is_empty(), "of {line:?}");
-        let mut left = [0u8; 100];
-        assert_eq!(rt;
-            script.read(&mut left).ok(),
-            Some(FIRST.len()),
-            "of {line:?}"
-        );
+    for line in &BAD_WORDS {
+        let are_refused = are_refused(rt.alloc(), line)?;
+        assert!(rt; are_refused, "of {line:?}");
     }
     Ok(())
 }
@@ -125,7 +124,7 @@ struct Run {
     output: &'static str,
 }
 
-const RUNS: [Run; 20] = [
+static RUNS: [Run; 20] = [
     Run {
         words: "drive",
         script: FIRST,
@@ -307,66 +306,56 @@ const RUNS: [Run; 20] = [
 /// What 2000 puts from the seed 7 come to: by the remainders of their numbers, 1509 of them are handed.
 const SOAKED: &str = "events\t2015\nhanded\t1509\nsent\t2015\nrefused\t0\n";
 
+/// Whether that soak prints this, over a source that fails at the first read.
+fn is_soaked(alloc: Global) -> Result<bool, AllocError> {
+    let mut streams = Streams::new(alloc, Vec::new(alloc), 7, (1, 0), 1)?;
+    let status = streams.run_line(alloc, "soak 7 2000")?;
+    Ok(status == 0 && streams.have_told("", SOAKED.as_bytes()))
+}
+
 #[test]
 fn soak_prints_the_same_twice(rt: HostRuntime) -> Result<(), Fail> {
-    let alloc = rt.alloc();
-    let words = cut_words(alloc, "soak 7 2000")?;
-    for _ in 0..2 {
-        let mut source = source(alloc, Vec::new(alloc), 1, 1)?;
-        let mut output = sink(alloc, 7, 0)?;
-        let mut complaints = sink(alloc, 1, 1)?;
-        let status = run(
-            alloc,
-            words.as_slice(),
-            &mut source,
-            &mut output,
-            &mut complaints,
-        );
-        assert_eq!(rt; status, 0);
-        assert_eq!(rt; output.bytes(), SOAKED.as_bytes());
+    for time in 1..=2 {
+        let is_soaked = is_soaked(rt.alloc())?;
+        assert!(rt; is_soaked, "of soak {time}");
     }
     Ok(())
+}
+
+impl Run {
+    /// Whether a run over these streams has this status, complains of this, and prints this.
+    fn ends(&self, alloc: Global, streams: &mut Streams) -> Result<bool, AllocError> {
+        let status = streams.run_line(alloc, self.words)?;
+        let output = spelled(alloc, self.output)?;
+        Ok(status == self.status && streams.have_told(self.complaint, output.as_slice()))
+    }
+
+    /// Whether a run over the script ends so.
+    fn is_ended(&self, alloc: Global) -> Result<bool, AllocError> {
+        let mut streams = Streams::new(alloc, spelled(alloc, self.script)?, 4096, self.fails, 3)?;
+        self.ends(alloc, &mut streams)
+    }
 }
 
 #[test]
 fn statuses_and_complaints(rt: HostRuntime) -> Result<(), Fail> {
-    let alloc = rt.alloc();
     for case in &RUNS {
-        let mut output = sink(alloc, 4096, case.fails.1)?;
-        let mut complaints = sink(alloc, 3, 0)?;
-        let status = run(
-            alloc,
-            cut_words(alloc, case.words)?.as_slice(),
-            &mut source(alloc, spelled(alloc, case.script)?, 4096, case.fails.0)?,
-            &mut output,
-            &mut complaints,
-        );
-        let words = case.words;
-        assert_eq!(rt; status, case.status, "of {words:?}");
-        assert_eq!(rt;
-            complaints.bytes(),
-            case.complaint.as_bytes(),
-            "of {words:?}"
-        );
-        let wanted = spelled(alloc, case.output)?;
-        assert_eq!(rt; output.bytes(), wanted.as_slice(), "of {words:?}");
+        let is_ended = case.is_ended(rt.alloc())?;
+        let Run { words, script, .. } = case;
+        assert!(rt; is_ended, "of {words:?} over {script:?}");
     }
     Ok(())
 }
 
+/// Whether a run with no words prints what the default settings give.
+fn is_default(alloc: Global) -> Result<bool, AllocError> {
+    let mut streams = Streams::new(alloc, spelled(alloc, FIRST)?, 4096, (0, 0), 1)?;
+    let status = streams.run(alloc, &[]);
+    Ok(status == 0 && is_spelled(alloc, streams.output.bytes(), FIRST_TEXT)?)
+}
+
 #[test]
 fn no_words_are_the_defaults(rt: HostRuntime) -> Result<(), Fail> {
-    let alloc = rt.alloc();
-    let mut output = sink(alloc, 4096, 0)?;
-    let status = run(
-        alloc,
-        &[],
-        &mut source(alloc, spelled(alloc, FIRST)?, 4096, 0)?,
-        &mut output,
-        &mut sink(alloc, 1, 0)?,
-    );
-    assert_eq!(rt; status, 0);
-    let wanted = spelled(alloc, FIRST_TEXT)?;
-    assert_eq!(rt; output.bytes(), wanted.as_slice());
+    assert!(rt; is_default(rt.alloc())?);
     Ok(())
 }

@@ -1,9 +1,24 @@
-//! Which keys meet and include which, and which texts are keys: the worked pairs and forms.
+//! Which keys meet and include which, what begins them, and which texts are keys: the worked pairs and forms.
 
-use std::alloc::{AllocError, Global};
+use std::alloc::Global;
 use zs_keys::{KeyError, KeyExpr};
 
-/// Pairs of key expressions that have a key in common, a pair a line.
+/// How the two texts of a line stand to each other.
+enum Relation {
+    /// They have a key in common.
+    Meet,
+    /// They have no key in common.
+    Apart,
+    /// The left one includes the right one.
+    Include,
+    /// The left one does not include the right one.
+    Exclude,
+    /// Before the first wild chunk of the left one stands the right one.
+    Begin,
+    /// The right one is the canonical form of the left one, or what it would be if it were a key.
+    Form,
+}
+
 const MEET: &str = "\
 a a
 a/b a/b
@@ -62,7 +77,6 @@ a$*é aéé
 é$* $*ü
 ";
 
-/// Pairs of key expressions that have no key in common.
 const APART: &str = "\
 a b
 a a/b
@@ -108,7 +122,6 @@ a/@v/*/@w a/@v/@w
 é$* ü$*
 ";
 
-/// Pairs of key expressions of which the left one includes the right one.
 const INCLUDE: &str = "\
 a a
 a/b a/b
@@ -156,7 +169,6 @@ a/b$*/** a/b/c
 é$* éü
 ";
 
-/// Pairs of key expressions of which the left one does not include the right one.
 const EXCLUDE: &str = "\
 a b
 a *
@@ -202,7 +214,13 @@ a/b/** a/**
 é$* ü
 ";
 
-/// Texts with their canonical forms, some of which are not canonical.
+const BEGIN: &str = "\
+a/** a
+a/b$*/c a
+demo/example/** demo/example
+demo/**/test/** demo
+";
+
 const FORMS: &str = "\
 a a
 a/b a/b
@@ -250,116 +268,96 @@ $$*$* $$*
 # #
 ?$*$* ?$*
 é$*$*ü é$*ü
+/ /
+/a /a
+#x #x
+a?b a?b
+a* a*
 ";
 
-/// Texts that are no key expressions.
-const BAD: [&str; 16] = [
-    "", "/", "/a", "a/", "a//b", "**/**", "**/*", "a/**/*/b", "$*", "a/$*/b", "a$*$*b", "#x",
-    "a?b", "a*", "a$b", "$",
+static TABLES: [(Relation, &str); 6] = [
+    (Relation::Meet, MEET),
+    (Relation::Apart, APART),
+    (Relation::Include, INCLUDE),
+    (Relation::Exclude, EXCLUDE),
+    (Relation::Begin, BEGIN),
+    (Relation::Form, FORMS),
 ];
 
-/// The two keys of a line.
-fn pair(line: &str) -> Option<(KeyExpr<'_>, KeyExpr<'_>)> {
-    let (left, right) = line.split_once(' ')?;
-    match (KeyExpr::new(left), KeyExpr::new(right)) {
-        (Ok(left), Ok(right)) => Some((left, right)),
-        _ => None,
-    }
-}
-
-/// Whether the two keys of a line have a key in common, if both say the same of the other.
-fn meet(line: &str) -> Option<bool> {
-    let (left, right) = pair(line)?;
-    let answer = left.meets(&right);
-    if right.meets(&left) == answer {
-        Some(answer)
-    } else {
-        None
-    }
-}
-
-/// How many pairs of a table answer so, or the first one that doesn't.
-fn meeting(table: &'static str, answer: bool) -> Result<u64, &'static str> {
-    let mut pairs = 0u64;
-    for line in table.lines() {
-        if meet(line) != Some(answer) {
-            return Err(line);
-        }
-        pairs = pairs.saturating_add(1);
-    }
-    Ok(pairs)
-}
-
-#[test]
-fn pairs_of_keys(rt: HostRuntime) {
-    assert_eq!(rt; meeting(MEET, true), Ok(55));
-    assert_eq!(rt; meeting(APART, false), Ok(42));
-}
-
-/// Whether the left key of a line includes the right one.
-fn includes(line: &str) -> Option<bool> {
-    let (left, right) = pair(line)?;
-    Some(left.includes(&right))
-}
-
-/// How many pairs of a table answer so, or the first one that doesn't.
-fn including(table: &'static str, answer: bool) -> Result<u64, &'static str> {
-    let mut pairs = 0u64;
-    for line in table.lines() {
-        if includes(line) != Some(answer) {
-            return Err(line);
-        }
-        pairs = pairs.saturating_add(1);
-    }
-    Ok(pairs)
-}
-
-#[test]
-fn inclusions(rt: HostRuntime) {
-    assert_eq!(rt; including(INCLUDE, true), Ok(44));
-    assert_eq!(rt; including(EXCLUDE, false), Ok(42));
-}
-
-/// Whether a text becomes its form, or is refused where the form is no key.
-fn becomes(alloc: Global, text: &str, form: &str) -> Result<bool, AllocError> {
-    let text = String::from_str(alloc, text)?;
-    match KeyExpr::autocanonize(alloc, text) {
-        Ok(key) => Ok(key.as_str() == form),
-        Err(error) => Ok(error == KeyError::BadKeyExpr && KeyExpr::new(form).is_err()),
-    }
-}
-
-fn is_form(alloc: Global, line: &str) -> bool {
-    match line.split_once(' ') {
-        Some((text, form)) => becomes(alloc, text, form) == Ok(true),
+fn begins(key: &KeyExpr<'_>, front: &KeyExpr<'_>) -> bool {
+    match key.nonwild_prefix() {
+        Some(prefix) => prefix == *front,
         None => false,
     }
 }
 
-/// How many lines have a text and its form, or the first one that hasn't.
-fn forms(alloc: Global, table: &'static str) -> Result<u64, &'static str> {
-    let mut lines = 0u64;
-    for line in table.lines() {
-        if !is_form(alloc, line) {
-            return Err(line);
-        }
-        lines = lines.saturating_add(1);
+/// Whether two keys stand so to each other.
+fn stand(left: &KeyExpr<'_>, right: &KeyExpr<'_>, relation: &Relation) -> bool {
+    match relation {
+        Relation::Meet => left.meets(right) && right.meets(left),
+        Relation::Apart => !left.meets(right) && !right.meets(left),
+        Relation::Include => left.includes(right),
+        Relation::Exclude => !left.includes(right),
+        Relation::Begin => begins(left, right),
+        Relation::Form => false,
     }
-    Ok(lines)
+}
+
+/// Whether two texts are keys that stand so to each other.
+fn are_keys(left: &str, right: &str, relation: &Relation) -> bool {
+    let Ok(left) = KeyExpr::new(left) else {
+        return false;
+    };
+    match KeyExpr::new(right) {
+        Ok(right) => stand(&left, &right, relation),
+        Err(_) => false,
+    }
+}
+
+fn is_key(text: &str) -> bool {
+    KeyExpr::new(text).is_ok()
+}
+
+/// Whether a text becomes its form, or is refused where the form is no key.
+fn becomes(alloc: Global, text: &str, form: &str) -> bool {
+    let Ok(text) = String::from_str(alloc, text) else {
+        return false;
+    };
+    match KeyExpr::autocanonize(alloc, text) {
+        Ok(key) => key.as_str() == form,
+        Err(error) => error == KeyError::BadKeyExpr && !is_key(form),
+    }
+}
+
+/// Whether a text has that form, and is a key exactly where the form is one and is the text itself.
+fn has_form(alloc: Global, text: &str, form: &str) -> bool {
+    let own = text == form && is_key(form);
+    is_key(text) == own && becomes(alloc, text, form)
+}
+
+fn holds(alloc: Global, relation: &Relation, line: &str) -> bool {
+    let Some((left, right)) = line.split_once(' ') else {
+        return false;
+    };
+    match relation {
+        Relation::Form => has_form(alloc, left, right),
+        _ => are_keys(left, right, relation),
+    }
+}
+
+/// The first line of a table that does not hold.
+fn first_wrong(alloc: Global, relation: &Relation, table: &'static str) -> Option<&'static str> {
+    for line in table.lines() {
+        if !holds(alloc, relation, line) {
+            return Some(line);
+        }
+    }
+    None
 }
 
 #[test]
-fn canonical_forms(rt: HostRuntime) {
-    assert_eq!(rt; forms(rt.alloc(), FORMS), Ok(46));
-}
-
-fn is_bad(text: &str) -> bool {
-    KeyExpr::new(text) == Err(KeyError::BadKeyExpr)
-}
-
-#[test]
-fn bad_texts(rt: HostRuntime) {
-    for text in BAD {
-        assert!(rt; is_bad(text), "{text}");
+fn worked_lines(rt: HostRuntime) {
+    for (relation, table) in &TABLES {
+        assert_eq!(rt; first_wrong(rt.alloc(), relation, table), None);
     }
 }

@@ -1,256 +1,143 @@
-//! The worked examples, and each public call once with memory at hand.
+//! Parameters by worked texts, defaults, and a copy of each message with memory at hand.
 
-use std::alloc::{AllocError, Global};
-use zs_bytes::ReadError;
-use zs_keys::SteadySource;
+use std::alloc::Global;
 use zs_wire::{
-    Answered, Body, CongestionControl, ConsolidationMode, EntityGlobalId, Mapping, Message,
-    Parameters, Push, QoSType, QueryTarget, Request, Response, SampleKind, SourceInfo, Text,
-    Timestamp, Value, WireExpr, ZBytes, ZenohParameters, from_reader,
+    Answered, Body, CongestionControl, ConsolidationMode, Mapping, Message, Parameters, Push,
+    QoSType, QueryTarget, Request, Response, SampleKind, Text, Timestamp, Value, WireExpr, ZBytes,
+    ZenohParameters,
 };
 
-/// Each pair as `name:value,`.
-fn shown(alloc: Global, parameters: &Parameters<'_>) -> Result<String, AllocError> {
-    let mut text = String::new(alloc);
-    for (name, value) in parameters.iter() {
-        text.push_str(name)?;
-        text.push(':')?;
-        text.push_str(value)?;
-        text.push(',')?;
-    }
-    Ok(text)
-}
-
 /// A text, what is left of it where it is given whole, and the pairs that it has.
-const TEXTS: [(&str, &str, &str); 12] = [
-    ("", "", ""),
-    ("x=1;y;x=2", "x=1;y;x=2", "x:1,y:,x:2,"),
-    (";;x=1;;y;", ";;x=1;;y", "x:1,y:,"),
-    ("a=b=c", "a=b=c", "a:b=c,"),
-    ("=v;x", "=v;x", ":v,x:,"),
-    ("=;x", "=;x", ":,x:,"),
-    ("x=1;|=;", "x=1", "x:1,"),
-    ("x=|", "x", "x:,"),
-    ("|x=1", "|x=1", "|x:1,"),
-    (";=|", "", ""),
-    ("a|b;c", "a|b;c", "a|b:,c:,"),
-    ("å=ö;", "å=ö", "å:ö,"),
+static TEXTS: [(&str, &str, &[(&str, &str)]); 12] = [
+    ("", "", &[]),
+    (
+        "x=1;y;x=2",
+        "x=1;y;x=2",
+        &[("x", "1"), ("y", ""), ("x", "2")],
+    ),
+    (";;x=1;;y;", ";;x=1;;y", &[("x", "1"), ("y", "")]),
+    ("a=b=c", "a=b=c", &[("a", "b=c")]),
+    ("=v;x", "=v;x", &[("", "v"), ("x", "")]),
+    ("=;x", "=;x", &[("", ""), ("x", "")]),
+    ("x=1;|=;", "x=1", &[("x", "1")]),
+    ("x=|", "x", &[("x", "")]),
+    ("|x=1", "|x=1", &[("|x", "1")]),
+    (";=|", "", &[]),
+    ("a|b;c", "a|b;c", &[("a|b", ""), ("c", "")]),
+    ("å=ö;", "å=ö", &[("å", "ö")]),
 ];
 
-fn is_read_as(alloc: Global, text: &str, kept: &str, pairs: &str) -> Result<bool, AllocError> {
+fn has_pairs(parameters: &Parameters<'_>, pairs: &[(&str, &str)]) -> bool {
+    parameters.iter().eq(pairs.iter().copied())
+}
+
+fn is_read_as(text: &str, kept: &str, pairs: &[(&str, &str)]) -> bool {
     let parameters = Parameters::of(text);
-    let found = shown(alloc, &parameters)?;
-    Ok(
-        parameters.as_str() == kept
-            && parameters.is_empty() == kept.is_empty()
-            && found.as_str() == pairs,
-    )
+    parameters.as_str() == kept && has_pairs(&parameters, pairs)
 }
 
 #[test]
 fn parameter_texts(rt: HostRuntime) {
     for (text, kept, pairs) in &TEXTS {
-        let holds = is_read_as(rt.alloc(), text, kept, pairs);
-        assert_eq!(rt; holds, Ok(true), "{text}");
+        assert!(rt; is_read_as(text, kept, pairs), "{text}");
     }
 }
 
-/// A text, a name and a value, the text once they are inserted, and once the name is removed from the first text.
-const CHANGES: [(&str, &str, &str, &str, &str); 6] = [
-    ("x=1;y;x=2", "x", "3", "y;x=3", "y"),
-    ("x=1;;y", "z", "", "x=1;y;z", "x=1;;y"),
-    ("=;x", "y", "1", ";x;y=1", "=;x"),
-    ("=;x", "", "", "x;", "x"),
-    ("=v;x", "x", "", "=v;x", "=v"),
-    ("", "a", "b=c", "a=b=c", ""),
-];
-
-fn inserts(
-    alloc: Global,
-    text: &str,
-    name: &str,
-    value: &str,
-    longer: &str,
-) -> Result<bool, AllocError> {
-    let mut parameters = Parameters::of(text);
-    parameters.insert(alloc, name, value)?;
-    Ok(parameters.as_str() == longer)
+/// What is done with parameters.
+enum Change {
+    Insert(&'static str, &'static str),
+    Remove(&'static str),
+    SetTimeRange(&'static str),
+    SetAnyKey,
+    Extend(&'static str),
 }
 
-fn removes(alloc: Global, text: &str, name: &str, shorter: &str) -> Result<bool, AllocError> {
+/// A text, a change, and the text once it is made.
+static CHANGES: [(&str, Change, &str); 15] = [
+    ("x=1;y;x=2", Change::Insert("x", "3"), "y;x=3"),
+    ("x=1;;y", Change::Insert("z", ""), "x=1;y;z"),
+    ("=;x", Change::Insert("y", "1"), ";x;y=1"),
+    ("=;x", Change::Insert("", ""), "x;"),
+    ("=v;x", Change::Insert("x", ""), "=v;x"),
+    ("", Change::Insert("a", "b=c"), "a=b=c"),
+    ("x=1;y;x=2", Change::Remove("x"), "y"),
+    ("x=1;;y", Change::Remove("z"), "x=1;;y"),
+    ("=;x", Change::Remove("y"), "=;x"),
+    ("=;x", Change::Remove(""), "x"),
+    ("=v;x", Change::Remove("x"), "=v"),
+    ("", Change::Remove("a"), ""),
+    (
+        "_timetrick;_time=[..]",
+        Change::SetTimeRange("[now()]"),
+        "_timetrick;_time=[now()]",
+    ),
+    ("_anyke=1;x", Change::SetAnyKey, "x;_anyke"),
+    ("x=2", Change::Extend("x=1;y"), "x=1;y"),
+];
+
+fn extends(alloc: Global, parameters: &mut Parameters<'_>, text: &str) -> bool {
+    let more = Parameters::of(text);
+    parameters.extend(alloc, &more).is_ok()
+}
+
+/// Makes a change, and answers whether there was memory for it.
+fn changes(alloc: Global, parameters: &mut Parameters<'_>, change: &Change) -> bool {
+    match change {
+        Change::Insert(name, value) => parameters.insert(alloc, name, value).is_ok(),
+        Change::Remove(name) => parameters.remove(alloc, name).is_ok(),
+        Change::SetTimeRange(range) => parameters.set_time_range(alloc, Some(range)).is_ok(),
+        Change::SetAnyKey => parameters.set_reply_key_expr_any(alloc).is_ok(),
+        Change::Extend(text) => extends(alloc, parameters, text),
+    }
+}
+
+fn becomes(alloc: Global, text: &str, change: &Change, want: &str) -> bool {
     let mut parameters = Parameters::of(text);
-    let found = parameters.contains_key(name);
-    let removed = parameters.remove(alloc, name)?;
-    Ok(removed == found && parameters.as_str() == shorter && !parameters.contains_key(name))
+    changes(alloc, &mut parameters, change) && parameters.as_str() == want
 }
 
 #[test]
 fn changed_texts(rt: HostRuntime) {
-    for (text, name, value, longer, shorter) in &CHANGES {
-        let inserted = inserts(rt.alloc(), text, name, value, longer);
-        assert_eq!(rt; inserted, Ok(true), "{text} and {name}");
-        let removed = removes(rt.alloc(), text, name, shorter);
-        assert_eq!(rt; removed, Ok(true), "{text} without {name}");
+    for (text, change, want) in &CHANGES {
+        let holds = becomes(rt.alloc(), text, change, want);
+        assert!(rt; holds, "{text} to {want}");
     }
 }
 
-/// What is done with parameters, and what has to be found.
-enum Act {
-    Get(&'static str, Option<&'static str>),
-    Insert(&'static str, &'static str),
-    Remove(&'static str, bool),
-    TimeRange(Option<&'static str>),
-    SetTimeRange(Option<&'static str>),
-    AnyKey(bool),
-    SetAnyKey,
-    Text(&'static str),
+fn are_defaults() -> bool {
+    SampleKind::default() == SampleKind::Put
+        && CongestionControl::default() == CongestionControl::Drop
+        && QueryTarget::default() == QueryTarget::BestMatching
+        && ConsolidationMode::default() == ConsolidationMode::Auto
 }
 
-fn changes(alloc: Global, parameters: &mut Parameters<'_>, act: &Act) -> Result<bool, AllocError> {
-    match act {
-        Act::Insert(name, value) => parameters.insert(alloc, name, value)?,
-        Act::SetTimeRange(range) => parameters.set_time_range(alloc, *range)?,
-        Act::SetAnyKey => parameters.set_reply_key_expr_any(alloc)?,
-        Act::Remove(name, was) => return Ok(parameters.remove(alloc, name)? == *was),
-        _ => return Ok(finds(parameters, act)),
-    }
-    Ok(true)
-}
-
-/// The steps that change nothing.
-fn finds(parameters: &Parameters<'_>, act: &Act) -> bool {
-    match act {
-        Act::Get(name, value) => parameters.get(name) == *value,
-        Act::TimeRange(range) => parameters.time_range() == *range,
-        Act::AnyKey(any) => parameters.reply_key_expr_any() == *any,
-        Act::Text(text) => parameters.as_str() == *text,
-        _ => false,
-    }
-}
-
-/// The place of the first step that doesn't find what it has to find.
-fn first_wrong(alloc: Global, parameters: &mut Parameters<'_>, script: &[Act]) -> Option<usize> {
-    for at in 0..script.len() {
-        if changes(alloc, parameters, &script[at]) != Ok(true) {
-            return Some(at);
-        }
-    }
-    None
-}
-
-const REPEATED_NAME: [Act; 4] = [
-    Act::Get("x", Some("1")),
-    Act::Insert("x", "3"),
-    Act::Text("y;x=3"),
-    Act::Remove("z", false),
-];
-
-#[test]
-fn repeated_name(rt: HostRuntime) {
-    let mut parameters = Parameters::of("x=1;y;x=2");
-    let wrong = first_wrong(rt.alloc(), &mut parameters, &REPEATED_NAME);
-    assert_eq!(rt; wrong, None);
-}
-
-const ZENOH_PARAMETERS: [Act; 9] = [
-    Act::Get("_timetrick", Some("")),
-    Act::TimeRange(Some("[..]")),
-    Act::AnyKey(false),
-    Act::SetTimeRange(Some("[now(-2s)..now(2s)]")),
-    Act::Insert("_filter", ""),
-    Act::SetAnyKey,
-    Act::Text("_timetrick;_time=[now(-2s)..now(2s)];_filter;_anyke"),
-    Act::AnyKey(true),
-    Act::Remove("_filter", true),
-];
-
-const NO_TIME_RANGE: [Act; 3] = [
-    Act::Text("_timetrick;_time=[now(-2s)..now(2s)];_anyke"),
-    Act::SetTimeRange(None),
-    Act::TimeRange(None),
-];
-
-/// Whether no parameters, extended by these, are the same.
-fn extends(alloc: Global, parameters: &Parameters<'_>) -> Result<bool, AllocError> {
-    let mut extended = Parameters::of("");
-    extended.extend(alloc, parameters)?;
-    Ok(extended == *parameters && extended.as_str() == parameters.as_str())
-}
-
-#[test]
-fn zenoh_parameters(rt: HostRuntime) {
-    let alloc = rt.alloc();
-    let mut parameters = Parameters::of("_timetrick;_time=[..]");
-    let wrong = first_wrong(alloc, &mut parameters, &ZENOH_PARAMETERS);
-    assert_eq!(rt; wrong, None);
-    assert_eq!(rt; extends(alloc, &parameters), Ok(true));
-    let wrong = first_wrong(alloc, &mut parameters, &NO_TIME_RANGE);
-    assert_eq!(rt; wrong, None);
-}
-
-fn are_printed_as(
-    alloc: Global,
-    parameters: &Parameters<'_>,
-    text: &str,
-) -> Result<bool, AllocError> {
-    let printed = format!(in alloc; "{parameters}")?;
-    Ok(printed.as_str() == text)
-}
-
-fn are_owned(alloc: Global) -> Result<bool, AllocError> {
-    let parameters = Parameters::of("x=1;");
-    let lent = are_printed_as(alloc, &parameters.borrowing_clone(), "x=1")?;
-    let owned = parameters.into_owned(alloc)?;
-    Ok(lent && are_printed_as(alloc, &owned, "x=1")?)
-}
-
-#[test]
-fn owned_parameters(rt: HostRuntime) {
-    assert_eq!(rt; are_owned(rt.alloc()), Ok(true));
-}
-
-fn kinds_are_printed(alloc: Global) -> Result<bool, AllocError> {
-    let text = format!(in alloc; "{} {}", SampleKind::Put, SampleKind::Delete)?;
-    Ok(text.as_str() == "PUT DELETE")
-}
-
-#[test]
-fn sample_kinds(rt: HostRuntime) {
-    assert_eq!(rt; SampleKind::try_from(0), Ok(SampleKind::Put));
-    assert_eq!(rt; SampleKind::try_from(1), Ok(SampleKind::Delete));
-    assert_eq!(rt; SampleKind::try_from(2), Err(2));
-    assert_eq!(rt; kinds_are_printed(rt.alloc()), Ok(true));
-}
-
-#[test]
-fn timestamps_are_ordered(rt: HostRuntime) {
+/// Whether timestamps are ordered by their times, and then by their ids.
+fn are_ordered() -> bool {
     let early = Timestamp { time: 1, id: 9 };
     let late = Timestamp { time: 2, id: 1 };
-    assert!(rt; early < late);
-    assert!(rt; late < Timestamp { time: 2, id: 2 });
+    early < late && late < Timestamp { time: 2, id: 2 }
+}
+
+/// Whether kinds and these parameters are printed so.
+fn are_printed(alloc: Global, parameters: &Parameters<'_>) -> bool {
+    match format!(in alloc; "{} {} {parameters}", SampleKind::Put, SampleKind::Delete) {
+        Ok(text) => text.as_str() == "PUT DELETE x=1",
+        Err(_) => false,
+    }
+}
+
+fn are_owned(alloc: Global) -> bool {
+    match Parameters::of("x=1;").into_owned(alloc) {
+        Ok(owned) => are_printed(alloc, &owned),
+        Err(_) => false,
+    }
 }
 
 #[test]
-fn defaults(rt: HostRuntime) {
-    assert_eq!(rt; SampleKind::default(), SampleKind::Put);
-    assert_eq!(rt; CongestionControl::default(), CongestionControl::Drop);
-    assert_eq!(rt; QueryTarget::default(), QueryTarget::BestMatching);
-    assert_eq!(rt; ConsolidationMode::default(), ConsolidationMode::Auto);
-}
-
-fn key(alloc: Global, scope: u16, suffix: &str) -> Result<WireExpr, AllocError> {
-    let suffix = Text::of(alloc, suffix)?;
-    Ok(WireExpr {
-        scope,
-        suffix,
-        mapping: Mapping::Receiver,
-    })
-}
-
-fn value(alloc: Global, payload: &str) -> Result<Value, AllocError> {
-    let payload = ZBytes::from_str(alloc, payload)?;
-    let encoding = Text::of(alloc, "zenoh/string")?;
-    Ok(Value { payload, encoding })
+fn small_values(rt: HostRuntime) {
+    assert!(rt; are_defaults());
+    assert!(rt; are_ordered());
+    assert!(rt; are_owned(rt.alloc()));
 }
 
 const QOS: QoSType = QoSType {
@@ -259,93 +146,80 @@ const QOS: QoSType = QoSType {
     express: true,
 };
 
-const ENTITY: EntityGlobalId = EntityGlobalId { zid: 7, eid: 2 };
-
-const SOURCE: SourceInfo = SourceInfo {
-    source_id: ENTITY,
-    source_sn: 9,
-};
-
-#[test]
-fn sources(rt: HostRuntime) {
-    let source = SourceInfo::new(ENTITY, 9);
-    assert_eq!(rt; source, SOURCE);
-    assert_eq!(rt; *source.source_id(), ENTITY);
-    assert_eq!(rt; source.source_sn(), 9);
+fn key() -> WireExpr {
+    WireExpr {
+        scope: 1,
+        suffix: Text::empty(),
+        mapping: Mapping::Receiver,
+    }
 }
 
-fn body(alloc: Global) -> Result<Body, AllocError> {
-    let payload = ZBytes::from_str(alloc, "ab")?;
-    let encoding = Text::of(alloc, "text/plain")?;
-    let attachment = ZBytes::from_str(alloc, "c")?;
-    Ok(Body {
+fn value() -> Value {
+    Value {
+        payload: ZBytes::new(),
+        encoding: Text::zenoh_bytes(),
+    }
+}
+
+fn body() -> Body {
+    Body {
         kind: SampleKind::Put,
-        payload,
-        encoding,
-        timestamp: Some(Timestamp { time: 5, id: 6 }),
-        source: Some(SOURCE),
-        attachment: Some(attachment),
+        payload: ZBytes::new(),
+        encoding: Text::zenoh_bytes(),
+        timestamp: None,
+        source: None,
+        attachment: Some(ZBytes::new()),
+    }
+}
+
+fn push() -> Message {
+    Message::Push(Push {
+        wire: key(),
+        body: body(),
+        qos: QOS,
+        reliable: true,
     })
 }
 
-fn push(alloc: Global) -> Result<Message, AllocError> {
-    let wire = key(alloc, 1, "/a")?;
-    let body = body(alloc)?;
-    Ok(Message::Push(Push {
-        wire,
-        body,
-        qos: QOS,
-        reliable: true,
-    }))
-}
-
-fn request(alloc: Global) -> Result<Message, AllocError> {
-    let wire = key(alloc, 0, "a/*")?;
-    let parameters = Text::of(alloc, "x=1")?;
-    let value = value(alloc, "why")?;
-    let attachment = ZBytes::from_str(alloc, "d")?;
-    Ok(Message::Request(Request {
+fn request() -> Message {
+    Message::Request(Request {
         rid: 4,
-        wire,
-        parameters,
+        wire: key(),
+        parameters: Text::empty(),
         target: QueryTarget::AllComplete,
         consolidation: ConsolidationMode::Monotonic,
         timeout: 10,
-        value: Some(value),
+        value: Some(value()),
         qos: QOS,
-        source: Some(SOURCE),
-        attachment: Some(attachment),
-    }))
-}
-
-fn response(alloc: Global) -> Result<Message, AllocError> {
-    let wire = key(alloc, 0, "a/b")?;
-    let value = value(alloc, "no")?;
-    Ok(Message::Response(Response {
-        rid: 4,
-        wire,
-        answered: Answered::Err(value),
-        qos: QOS,
-        responder: Some(ENTITY),
-    }))
-}
-
-fn token_end(alloc: Global) -> Result<Message, AllocError> {
-    let wire = key(alloc, 3, "k")?;
-    Ok(Message::UndeclareToken {
-        id: 5,
-        wire: Some(wire),
-        interest: Some(6),
+        source: None,
+        attachment: Some(ZBytes::new()),
     })
 }
 
-fn queryable(alloc: Global) -> Result<Message, AllocError> {
-    let wire = key(alloc, 0, "k")?;
-    Ok(Message::DeclareQueryable {
+fn response() -> Message {
+    Message::Response(Response {
+        rid: 4,
+        wire: key(),
+        answered: Answered::Err(value()),
+        qos: QOS,
+        responder: None,
+    })
+}
+
+fn queryable() -> Message {
+    Message::DeclareQueryable {
         id: 5,
         complete: true,
-        wire,
-    })
+        wire: key(),
+    }
+}
+
+fn token_end() -> Message {
+    Message::UndeclareToken {
+        id: 5,
+        wire: Some(key()),
+        interest: None,
+    }
 }
 
 /// The kinds of the messages that are copied.
@@ -359,64 +233,42 @@ enum Kind {
     Close,
 }
 
-const KINDS: [Kind; 7] = [
-    Kind::Push,
-    Kind::Request,
-    Kind::Response,
-    Kind::TokenEnd,
-    Kind::Queryable,
-    Kind::Final,
-    Kind::Close,
+static KINDS: [(Kind, &str); 7] = [
+    (Kind::Push, "a push"),
+    (Kind::Request, "a request"),
+    (Kind::Response, "a response"),
+    (Kind::TokenEnd, "the end of a token"),
+    (Kind::Queryable, "a queryable"),
+    (Kind::Final, "a final"),
+    (Kind::Close, "a close"),
 ];
 
-fn message(alloc: Global, kind: &Kind) -> Result<Message, AllocError> {
+fn message(kind: &Kind) -> Message {
     match kind {
-        Kind::Push => push(alloc),
-        Kind::Request => request(alloc),
-        Kind::Response => response(alloc),
-        Kind::TokenEnd => token_end(alloc),
-        Kind::Queryable => queryable(alloc),
-        Kind::Final => Ok(Message::DeclareFinal { interest: Some(6) }),
-        Kind::Close => Ok(Message::Close),
+        Kind::Push => push(),
+        Kind::Request => request(),
+        Kind::Response => response(),
+        Kind::TokenEnd => token_end(),
+        Kind::Queryable => queryable(),
+        Kind::Final => Message::DeclareFinal { interest: Some(6) },
+        Kind::Close => Message::Close,
     }
 }
 
-/// The fields of a message as they are printed.
-fn fields(alloc: Global, message: &Message) -> Result<String, AllocError> {
-    format!(in alloc; "{message:?}")
-}
-
-/// Whether the copy of a message shows the same fields.
-fn copies_all(alloc: Global, message: &Message) -> Result<bool, AllocError> {
-    let copy = message.try_clone(alloc)?;
-    let copied = fields(alloc, &copy)?;
-    drop(copy);
-    let shown = fields(alloc, message)?;
-    Ok(shown.as_str() == copied.as_str())
-}
-
-fn is_copied(alloc: Global, kind: &Kind) -> Result<bool, AllocError> {
-    let message = message(alloc, kind)?;
-    let answer = copies_all(alloc, &message);
-    drop(message);
-    answer
+fn is_copied(alloc: Global, kind: &Kind) -> bool {
+    let message = message(kind);
+    match message.try_clone(alloc) {
+        Ok(copy) => {
+            drop(copy);
+            true
+        }
+        Err(_) => false,
+    }
 }
 
 #[test]
 fn copied_messages(rt: HostRuntime) {
-    for kind in &KINDS {
-        assert_eq!(rt; is_copied(rt.alloc(), kind), Ok(true));
+    for (kind, name) in &KINDS {
+        assert!(rt; is_copied(rt.alloc(), kind), "{name}");
     }
-}
-
-fn reads_a_payload(alloc: Global) -> Result<bool, ReadError> {
-    let bytes = b"abc".to_vec(alloc)?;
-    let payload = from_reader(alloc, &mut SteadySource::new(bytes), 4)?;
-    let expected = ZBytes::from_str(alloc, "abc")?;
-    Ok(payload == expected)
-}
-
-#[test]
-fn read_payload(rt: HostRuntime) {
-    assert_eq!(rt; reads_a_payload(rt.alloc()), Ok(true));
 }

@@ -1,5 +1,5 @@
 //! The events of the tests.
-ghost use Rattle.std.specs.Prelude.{◌≡◌, true};
+ghost use Rattle.std.specs.Prelude.{◌≡◌, true, IfOk};
 ghost use Rattle.zs_turns.specs.Gates.{takes_handler};
 
 use crate::waiting::Beside;
@@ -24,11 +24,12 @@ fn update() -> Update {
 }
 
 /// A put of no bytes.
-pub(crate) fn publication(alloc: Global, key: &'static str) -> Result<Event, AllocError> {
+pub(crate) fn publication(alloc: Global, key: &str) -> Result<Event, AllocError> {
+    let key = KeyArg::Text(Text::of(alloc, key)?);
     let update = Shared::new(alloc, update())?;
     Ok(Event::Publish {
         destination: Locality::Any,
-        key: KeyArg::Text(Text::fixed(key)),
+        key,
         update,
         quality: PublicationQuality {
             qos: QoSType {
@@ -43,11 +44,12 @@ pub(crate) fn publication(alloc: Global, key: &'static str) -> Result<Event, All
 
 // The network answers the get of liveliness, which has the first number that the session draws for entities: a token lives.
 fn answer(alloc: Global) -> Result<Event, AllocError> {
+    let suffix = Text::of(alloc, "k")?;
     let message = Message::DeclareToken {
         id: 6,
         wire: WireExpr {
             scope: 0,
-            suffix: Text::fixed("k"),
+            suffix,
             mapping: Mapping::Sender,
         },
         interest: Some(2),
@@ -65,12 +67,12 @@ pub(crate) fn calling(alloc: Global, beside: Beside) -> Result<Event, AllocError
 }
 
 /// What has the handler: a subscriber, or a get of liveliness with a token.
-pub(crate) fn handled(beside: Beside, token: u32) -> Event
-    ensures { takes_handler result ≡ true }
+pub(crate) fn handled(alloc: Global, beside: Beside, token: u32) -> Result<Event, AllocError>
+    ensures { IfOk result (λ event. takes_handler event ≡ true) }
 {
-    let key = KeyArg::Text(Text::fixed("k"));
+    let key = KeyArg::Text(Text::of(alloc, "k")?);
     match beside {
-        Beside::Cancel => liveliness_get(key, None, Some(token)),
-        _ => subscriber(Locality::Any, key),
+        Beside::Cancel => Ok(liveliness_get(key, None, Some(token))),
+        _ => Ok(subscriber(Locality::Any, key)),
     }
 }

@@ -80,7 +80,7 @@ fn declare<B: Books, R: Wait>(
     handler: Arc<Holding>,
     caller: &mut Caller<B>,
 ) -> Result<u32, Trouble> {
-    let event = handled(beside, token);
+    let event = handled(session.alloc(), beside, token)?;
     let number = session.submit(rt, event, Some(handler), caller)?;
     match number {
         Some(id) => Ok(id),

@@ -3,7 +3,7 @@
 use super::{Transcript, assert_printed};
 use std::test::Fail;
 
-const CANCELLED: [Transcript; 5] = [
+static CANCELLED: [Transcript; 5] = [
     Transcript {
         name: "a cancel ends gets and liveliness gets, and a second one changes nothing",
         text: "\

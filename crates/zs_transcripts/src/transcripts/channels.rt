@@ -3,7 +3,7 @@
 use super::{Transcript, assert_printed};
 use std::test::Fail;
 
-const OF_SUBSCRIBERS: [Transcript; 3] = [
+static OF_SUBSCRIBERS: [Transcript; 3] = [
     Transcript {
         name: "a full fifo loses nothing, and ends behind its last item",
         text: "\
@@ -115,7 +115,7 @@ recv get 0
     },
 ];
 
-const OF_GETS: [Transcript; 3] = [
+static OF_GETS: [Transcript; 3] = [
     Transcript {
         name: "replies of a get, and its end",
         text: "\

@@ -3,7 +3,7 @@
 use super::{Transcript, assert_printed};
 use std::test::Fail;
 
-const CLOSING: [Transcript; 2] = [
+static CLOSING: [Transcript; 2] = [
     Transcript {
         name: "each line behind a close",
         text: "\

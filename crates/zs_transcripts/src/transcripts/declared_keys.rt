@@ -3,7 +3,7 @@
 use super::{Transcript, assert_printed};
 use std::test::Fail;
 
-const DECLARED_KEYS: [Transcript; 4] = [
+static DECLARED_KEYS: [Transcript; 4] = [
     Transcript {
         name: "a declared key with and without a suffix",
         text: "\
@@ -136,7 +136,7 @@ undeclare sub 3
     },
 ];
 
-const LAST_NUMBER: [Transcript; 1] = [Transcript {
+static LAST_NUMBER: [Transcript; 1] = [Transcript {
     name: "the last number of a key is drawn once, and a held text keeps its number",
     text: "\
 key a

@@ -3,7 +3,7 @@
 use super::{Transcript, assert_printed};
 use std::test::Fail;
 
-const GETS: [Transcript; 10] = [
+static GETS: [Transcript; 10] = [
     Transcript {
         name: "a reply on another key, an error on any, and the final",
         text: "\

@@ -3,7 +3,7 @@
 use super::{Transcript, assert_printed};
 use std::test::Fail;
 
-const LINKS: [Transcript; 6] = [
+static LINKS: [Transcript; 6] = [
     Transcript {
         name: "a put is handed to a subscriber of the other side, once",
         text: "\

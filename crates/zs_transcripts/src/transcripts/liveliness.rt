@@ -3,7 +3,7 @@
 use super::{Transcript, assert_printed};
 use std::test::Fail;
 
-const TOKENS: [Transcript; 6] = [
+static TOKENS: [Transcript; 6] = [
     Transcript {
         name: "tokens that the network tells",
         text: "\

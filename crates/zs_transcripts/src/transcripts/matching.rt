@@ -3,7 +3,7 @@
 use super::{Transcript, assert_printed};
 use std::test::Fail;
 
-const LISTENERS: [Transcript; 3] = [
+static LISTENERS: [Transcript; 3] = [
     Transcript {
         name: "a listener hears when the first comes, and when the last goes",
         text: "\
@@ -124,7 +124,7 @@ net unsub 1
     },
 ];
 
-const TOLD: [Transcript; 3] = [
+static TOLD: [Transcript; 3] = [
     Transcript {
         name: "of a number that the network tells again the last key counts",
         text: "\

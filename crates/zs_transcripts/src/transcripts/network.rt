@@ -3,7 +3,7 @@
 use super::{Transcript, assert_printed};
 use std::test::Fail;
 
-const NETWORK: [Transcript; 4] = [
+static NETWORK: [Transcript; 4] = [
     Transcript {
         name: "a number that the network told",
         text: "\
@@ -122,7 +122,7 @@ fn numbers_of_the_network_stand_for_their_texts(rt: HostRuntime) -> Result<(), F
     assert_printed(&rt, "drive", &NETWORK)
 }
 
-const HOSTILE: [Transcript; 2] = [
+static HOSTILE: [Transcript; 2] = [
     Transcript {
         name: "a number of this session that was given back",
         text: "\

@@ -3,7 +3,7 @@
 use super::{Transcript, assert_printed};
 use std::test::Fail;
 
-const PUBLISHERS: [Transcript; 4] = [
+static PUBLISHERS: [Transcript; 4] = [
     Transcript {
         name: "a publisher on a number that is given back goes on by the text",
         text: "\

@@ -3,7 +3,7 @@
 use super::{Transcript, assert_printed};
 use std::test::Fail;
 
-const QUERIERS: [Transcript; 5] = [
+static QUERIERS: [Transcript; 5] = [
     Transcript {
         name: "a querier that ends takes its open get with it",
         text: "\

@@ -3,7 +3,7 @@
 use super::{Transcript, assert_printed};
 use std::test::Fail;
 
-const VALUES: [Transcript; 5] = [
+static VALUES: [Transcript; 5] = [
     Transcript {
         name: "a query of the network under two numbers ends where the last is given back",
         text: "\

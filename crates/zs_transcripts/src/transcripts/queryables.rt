@@ -3,7 +3,7 @@
 use super::{Transcript, assert_printed};
 use std::test::Fail;
 
-const QUERYABLES: [Transcript; 2] = [
+static QUERYABLES: [Transcript; 2] = [
     Transcript {
         name: "queryables of each origin, by a text and by a declared number",
         text: "\

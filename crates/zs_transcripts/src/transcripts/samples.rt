@@ -3,7 +3,7 @@
 use super::{Transcript, assert_printed};
 use std::test::Fail;
 
-const SAMPLES: [Transcript; 3] = [
+static SAMPLES: [Transcript; 3] = [
     Transcript {
         name: "all options of a put, and a priority that no sample has",
         text: "\

@@ -3,7 +3,7 @@
 use super::{Transcript, assert_printed};
 use std::test::Fail;
 
-const ONE_AGGREGATE: [Transcript; 2] = [
+static ONE_AGGREGATE: [Transcript; 2] = [
     Transcript {
         name: "subscribers under one aggregate share a declaration with the number of the first",
         text: "\
@@ -64,7 +64,7 @@ sub remote a/@x
     },
 ];
 
-const FIRST_IN_ORDER: [Transcript; 1] = [Transcript {
+static FIRST_IN_ORDER: [Transcript; 1] = [Transcript {
     name: "of several aggregates the first that includes the key holds",
     text: "\
 sub any a/b/c
@@ -86,7 +86,7 @@ sub any a/b
 < 5 end sub 4",
 }];
 
-const OF_PUBLISHERS: [Transcript; 1] = [Transcript {
+static OF_PUBLISHERS: [Transcript; 1] = [Transcript {
     name: "publishers under an aggregate of their own, which their puts don't show",
     text: "\
 pub any a/b

@@ -3,7 +3,7 @@
 use super::{Transcript, assert_printed};
 use std::test::Fail;
 
-const SUBSCRIBERS: [Transcript; 11] = [
+static SUBSCRIBERS: [Transcript; 11] = [
     Transcript {
         name: "an empty script",
         text: "\
@@ -231,7 +231,7 @@ put any ** x
     },
 ];
 
-const LAST_NUMBER: [Transcript; 1] = [Transcript {
+static LAST_NUMBER: [Transcript; 1] = [Transcript {
     name: "the last number of an entity is drawn once",
     text: "\
 sub any a

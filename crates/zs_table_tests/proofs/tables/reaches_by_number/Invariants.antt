@@ -1,4 +1,4 @@
 use Rattle.zs_table_tests.proofs.tables.reaches_by_number.Given as goal
 
-abbrev pub ghosts-reach_by_number : goal.ghosts-reach_by_number
-ghosts-reach_by_number a = record { name = a.blank.name; parts = a.blank.parts }
+abbrev pub ghosts-reaches : goal.ghosts-reaches
+ghosts-reaches a = record { name = a.blank.name; parts = a.blank.parts }

@@ -1,4 +1,0 @@
-use Rattle.zs_table_tests.proofs.tables.next_by_number.Given as goal
-
-abbrev pub ghosts-next : goal.ghosts-next
-ghosts-next a = record { name = a.blank.name; parts = a.blank.parts }

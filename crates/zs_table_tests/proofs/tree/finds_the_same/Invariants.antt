@@ -1,4 +1,0 @@
-use Rattle.zs_table_tests.proofs.tree.finds_the_same.Given as goal
-
-abbrev pub ghosts-gathers : goal.ghosts-gathers
-ghosts-gathers a = record { name = a.blank.name; parts = a.blank.parts }
