@@ -1,4 +1,4 @@
-ghost use Rattle.std.specs.Prelude.{◌≡◌, ◌↔◌, [], IsTrue, IfOk, encode_utf8_all};
+ghost use Rattle.std.specs.Prelude.{◌≡◌, ◌↔◌, [], IsTrue, IfOk, codes, encode_utf8_all};
 ghost use Rattle.std.specs.Str.{chars};
 ghost use Rattle.zs_bytes.specs.Text.{held_bytes};
 
@@ -10,7 +10,8 @@ use std::sync::ArcStr;
 /// Where a text lies.
 #[derive(Drop)]
 enum Held {
-    Fixed(&'static str),
+    Empty,
+    ZenohBytes,
     Shared(ArcStr),
 }
 
@@ -19,7 +20,8 @@ impl Held {
         ensures { result.now ≡ held_bytes self.now }
     {
         match self {
-            Held::Fixed(text) => text,
+            Held::Empty => "",
+            Held::ZenohBytes => "zenoh/bytes",
             Held::Shared(text) => text.as_str(),
         }
     }
@@ -28,7 +30,8 @@ impl Held {
         ensures { IfOk result (λ copy. held_bytes copy ≡ held_bytes self.now) }
     {
         Ok(match self {
-            Held::Fixed(text) => Held::Fixed(text),
+            Held::Empty => Held::Empty,
+            Held::ZenohBytes => Held::ZenohBytes,
             Held::Shared(text) => Held::Shared(text.clone()?),
         })
     }
@@ -66,12 +69,19 @@ impl Text {
         })
     }
 
-    /// A text of the program's own, which takes no memory, nor do its copies.
-    pub fn fixed(text: &'static str) -> Text
-        ensures { result ≡ chars text.now }
+    /// The text without a character. It takes no memory, nor do its copies.
+    pub fn empty() -> Text
+        ensures { result ≡ [] }
+    {
+        Text { held: Held::Empty }
+    }
+
+    /// The name of Zenoh's default encoding. It takes no memory, nor do its copies.
+    pub fn zenoh_bytes() -> Text
+        ensures { result ≡ codes "zenoh/bytes" }
     {
         Text {
-            held: Held::Fixed(text),
+            held: Held::ZenohBytes,
         }
     }
 

@@ -206,8 +206,7 @@ impl<H: Drop, B: Books> Session<H, B> {
     pub fn try_clone(&self) -> Result<Session<H, B>, AllocError>
         ensures { IfOk result (λ other. other ≡ self.now) }
     {
-        Ok(Session {
-            shared: Arc::try_clone(&self.shared)?,
-        })
+        let shared = Arc::try_clone(&self.shared)?;
+        Ok(Session { shared })
     }
 }

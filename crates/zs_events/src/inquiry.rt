@@ -16,7 +16,7 @@ pub struct QuerySettings {
 }
 
 /// What a get asks.
-#[derive(Debug, Drop)]
+#[derive(Debug)]
 pub struct Inquiry {
     /// What stands behind the `?` of the selector.
     pub parameters: Text,
@@ -27,4 +27,19 @@ pub struct Inquiry {
     pub attachment: Option<ZBytes>,
     /// The cancellation token by which it can be cancelled.
     pub cancellation_token: Option<u32>,
+}
+
+impl Drop for Inquiry {
+    fn drop(self) {
+        let Inquiry {
+            parameters,
+            value,
+            source: _,
+            attachment,
+            cancellation_token: _,
+        } = self;
+        drop(parameters);
+        drop(value);
+        drop(attachment);
+    }
 }

@@ -4,7 +4,7 @@ use std::alloc::{AllocError, Global};
 use zs_sample::Text;
 
 /// The key of an event, as the application gave it.
-#[derive(Debug, Drop)]
+#[derive(Debug)]
 pub enum KeyArg {
     /// A text, not tested yet.
     Text(Text),
@@ -21,6 +21,20 @@ pub enum KeyArg {
         number: u16,
         prefix_len: u32,
     },
+}
+
+impl Drop for KeyArg {
+    fn drop(self) {
+        match self {
+            KeyArg::Text(text) => drop(text),
+            KeyArg::Number { number: _, suffix } => drop(suffix),
+            KeyArg::Declared {
+                text,
+                number: _,
+                prefix_len: _,
+            } => drop(text),
+        }
+    }
 }
 
 impl KeyArg {

@@ -10,13 +10,24 @@ pub struct PublicationQuality {
 }
 
 /// What a publisher says of all that it publishes.
-#[derive(Debug, Drop)]
+#[derive(Debug)]
 pub struct PublisherSettings {
     /// Whose subscribers are handed it.
     pub destination: Locality,
     /// Of its puts that name none. The empty text is the default encoding.
     pub encoding: Text,
     pub quality: PublicationQuality,
+}
+
+impl Drop for PublisherSettings {
+    fn drop(self) {
+        let PublisherSettings {
+            destination: _,
+            encoding,
+            quality: _,
+        } = self;
+        drop(encoding);
+    }
 }
 
 /// The quality of service of a reply: what it doesn't say is as its query has it.

@@ -115,21 +115,30 @@ impl HandOver {
         ensures { IfOk result (λ copy. copy ≡ self.now) }
     {
         match self {
-            HandOver::Sample { kind, id, sample } => Ok(HandOver::Sample {
-                kind: *kind,
-                id: *id,
-                sample: sample.try_clone()?,
-            }),
-            HandOver::Reply { kind, id, reply } => Ok(HandOver::Reply {
-                kind: *kind,
-                id: *id,
-                reply: reply.try_clone()?,
-            }),
-            HandOver::Query { id, value, query } => Ok(HandOver::Query {
-                id: *id,
-                value: *value,
-                query: query.try_clone()?,
-            }),
+            HandOver::Sample { kind, id, sample } => {
+                let sample = sample.try_clone()?;
+                Ok(HandOver::Sample {
+                    kind: *kind,
+                    id: *id,
+                    sample,
+                })
+            }
+            HandOver::Reply { kind, id, reply } => {
+                let reply = reply.try_clone()?;
+                Ok(HandOver::Reply {
+                    kind: *kind,
+                    id: *id,
+                    reply,
+                })
+            }
+            HandOver::Query { id, value, query } => {
+                let query = query.try_clone()?;
+                Ok(HandOver::Query {
+                    id: *id,
+                    value: *value,
+                    query,
+                })
+            }
         }
     }
 }
@@ -178,9 +187,15 @@ impl Effect {
 }
 
 /// The effects of one event, in their order.
-#[derive(Drop)]
 pub struct Effects {
     items: Vec<Effect>,
+}
+
+impl Drop for Effects {
+    fn drop(self) {
+        let Effects { items } = self;
+        drop(items);
+    }
 }
 
 impl Model for Effects {
@@ -254,7 +269,8 @@ impl Effects {
     pub fn into_vec(self) -> Vec<Effect>
         ensures { result.items ≡ self }
     {
-        self.items
+        let Effects { items } = self;
+        items
     }
 }
 
@@ -288,9 +304,10 @@ impl Turn {
     pub fn try_clone(&self, alloc: Global) -> Result<Turn, AllocError>
         ensures { IfOk result (λ copy. copy ≡ self.now) }
     {
+        let effects = self.effects.try_clone(alloc)?;
         Ok(Turn {
             answer: self.answer,
-            effects: self.effects.try_clone(alloc)?,
+            effects,
         })
     }
 

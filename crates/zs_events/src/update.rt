@@ -87,7 +87,7 @@ fn or_default(encoding: Text) -> Text
 pub fn default_encoding() -> Text
     ensures { result ≡ default_encoding }
 {
-    Text::fixed("zenoh/bytes")
+    Text::zenoh_bytes()
 }
 
 /// The same bytes in the same memory, where there are any.

@@ -54,13 +54,14 @@ fn opposite(side: LinkSide) -> LinkSide
 }
 
 /// The liveliness subscriber that each side declares.
-fn hearing() -> Event
-    ensures { result ≡ hearing }
+fn hearing(alloc: Global) -> Result<Event, AllocError>
+    ensures { IfOk result (λ event. event ≡ hearing) }
 {
-    Event::Lsub {
+    let key = Text::of(alloc, "group/*")?;
+    Ok(Event::Lsub {
         history: true,
-        key: KeyArg::Text(Text::fixed("group/*")),
-    }
+        key: KeyArg::Text(key),
+    })
 }
 
 /// What a side that joins takes.
@@ -117,7 +118,7 @@ impl Sides {
     fn declare(&mut self, side: LinkSide) -> Result<(), AllocError>
         ensures { OnOk result (Becomes (λ s t. with_link (Take side hearing) t) self.old self.new) }
     {
-        let hearing = hearing();
+        let hearing = hearing(self.alloc)?;
         let taken = self.take(side, &hearing);
         drop(hearing);
         let turn = taken?;

@@ -1,7 +1,7 @@
 use zs_keys::KeyExpr;
 
 /// A liveliness get that is open.
-#[derive(Debug, Drop)]
+#[derive(Debug)]
 pub struct LivelinessGet {
     pub number: u32,
     pub key: KeyExpr<'static>,
@@ -9,4 +9,16 @@ pub struct LivelinessGet {
     pub cancellation_token: Option<u32>,
     /// The moment, in milliseconds, at which it ends whatever is missing.
     pub deadline: u64,
+}
+
+impl Drop for LivelinessGet {
+    fn drop(self) {
+        let LivelinessGet {
+            number: _,
+            key,
+            cancellation_token: _,
+            deadline: _,
+        } = self;
+        drop(key);
+    }
 }

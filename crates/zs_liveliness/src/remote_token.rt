@@ -2,11 +2,17 @@ use zs_keyed::Keyed;
 use zs_keys::KeyExpr;
 
 /// A liveliness token that the other side told.
-#[derive(Drop)]
 pub struct RemoteToken {
     /// The other side's number for it.
     pub number: u32,
     pub key: KeyExpr<'static>,
+}
+
+impl Drop for RemoteToken {
+    fn drop(self) {
+        let RemoteToken { number: _, key } = self;
+        drop(key);
+    }
 }
 
 impl Keyed for RemoteToken {

@@ -74,7 +74,7 @@ pub(crate) fn reply_content(qos: QoSType, body: Body) -> Content
 pub fn plain_body(alloc: Global, update: &Update) -> Result<Body, AllocError>
     ensures { IfOk result (λ made. made ≡ body_of [] update.now) }
 {
-    let unnamed = Text::fixed("");
+    let unnamed = Text::empty();
     update.body_with(alloc, &unnamed)
 }
 
@@ -102,20 +102,25 @@ pub fn sample_of(alloc: Global, key: KeyExpr<'_>, content: Content) -> Result<Sa
     requires { key ≡ undeclared key.text }
     ensures { IfOk result (λ sample. sample ≡ sample_on key.entry.text (content)) }
 {
+    let key_expr = into_owned(alloc, key)?;
     let qos = content.qos;
     let body = content.body;
+    let kind = body.kind;
+    let timestamp = body.timestamp;
+    let source_info = body.source;
+    let (payload, encoding, attachment) = body.into_parts();
     Ok(Sample::from_fields(SampleFields {
-        key_expr: into_owned(alloc, key)?,
-        payload: handed_payload(body.kind, body.payload),
-        kind: body.kind,
-        encoding: handed_encoding(body.kind, body.encoding),
-        timestamp: body.timestamp,
+        key_expr,
+        payload: handed_payload(kind, payload),
+        kind,
+        encoding: handed_encoding(kind, encoding),
+        timestamp,
         express: qos.express,
         priority: Priority::handed_out(qos.priority),
         congestion_control: qos.congestion,
         reliability: Reliability::of(content.reliable),
-        source_info: body.source,
-        attachment: body.attachment,
+        source_info,
+        attachment,
     }))
 }
 

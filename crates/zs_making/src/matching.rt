@@ -14,12 +14,13 @@ use zs_tables::{ListenerRow, Sought};
 pub fn on_pub(alloc: Global, number: u32, row: &PubRow) -> Result<Option<ListenerRow>, AllocError>
     ensures { IfOk result (λ made. listed made ≡ on_pub number (Some row.now)) }
 {
+    let key = copy_of(alloc, &row.key)?;
     Ok(Some(ListenerRow {
         id: number,
         parent: row.id,
         destination: row.settings.get().destination,
         sought: Sought::Subscribers,
-        key: copy_of(alloc, &row.key)?,
+        key,
     }))
 }
 
@@ -31,12 +32,13 @@ pub fn on_querier(
 ) -> Result<Option<ListenerRow>, AllocError>
     ensures { IfOk result (λ made. listed made ≡ on_querier number (Some row.now)) }
 {
+    let key = copy_of(alloc, &row.key)?;
     Ok(Some(ListenerRow {
         id: number,
         parent: row.id,
         destination: row.settings.destination,
         sought: sought_by(row.settings.target),
-        key: copy_of(alloc, &row.key)?,
+        key,
     }))
 }
 

@@ -30,15 +30,19 @@ pub fn network_request(
     requires { key ≡ undeclared key.text }
     ensures { IfOk result (λ row. row ≡ network_request key.entry.text request.now) }
 {
+    let key = into_owned(alloc, key)?;
+    let parameters = request.parameters.try_clone(alloc)?;
+    let value = clone_value(alloc, &request.value)?;
+    let attachment = clone_bytes(&request.attachment, alloc)?;
     Ok(RequestRow {
         local: false,
         rid: request.rid,
-        key: into_owned(alloc, key)?,
-        parameters: request.parameters.try_clone(alloc)?,
+        key,
+        parameters,
         qos: request.qos,
         source: request.source,
-        value: clone_value(alloc, &request.value)?,
-        attachment: clone_bytes(&request.attachment, alloc)?,
+        value,
+        attachment,
     })
 }
 

@@ -22,9 +22,10 @@ pub fn rest_of<'a>(text: &'a str, front: &str) -> Option<&'a str>
 pub fn full_wire(alloc: Global, text: &str) -> Result<WireExpr, AllocError>
     ensures { IfOk result (λ wire. wire ≡ full_wire text.now) }
 {
+    let suffix = Text::of(alloc, text)?;
     Ok(WireExpr {
         scope: 0,
-        suffix: Text::of(alloc, text)?,
+        suffix,
         mapping: Mapping::Sender,
     })
 }
@@ -33,11 +34,22 @@ pub fn full_wire(alloc: Global, text: &str) -> Result<WireExpr, AllocError>
 pub fn number_wire(alloc: Global, number: u16, rest: &str) -> Result<WireExpr, AllocError>
     ensures { IfOk result (λ wire. wire ≡ record { scope = number; suffix = chars rest.now; mapping = Mapping.Sender }) }
 {
+    let suffix = text_of(alloc, rest)?;
     Ok(WireExpr {
         scope: number,
-        suffix: Text::of(alloc, rest)?,
+        suffix,
         mapping: Mapping::Sender,
     })
+}
+
+/// A text. The empty one, behind a declared key, takes no memory.
+fn text_of(alloc: Global, text: &str) -> Result<Text, AllocError>
+    ensures { IfOk result (λ made. made ≡ chars text.now) }
+{
+    if text.is_empty() {
+        return Ok(Text::empty());
+    }
+    Text::of(alloc, text)
 }
 
 /// The message of a publication. It shares the memory of the payload and the attachment.

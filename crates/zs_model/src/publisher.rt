@@ -12,11 +12,24 @@ pub struct Prefix {
 }
 
 /// A live publisher.
-#[derive(Debug, Drop)]
+#[derive(Debug)]
 pub struct PubRow {
     pub id: u32,
     pub key: KeyExpr<'static>,
     /// The declared part of its key, if it was named by one.
     pub prefix: Option<Prefix>,
     pub settings: Shared<PublisherSettings>,
+}
+
+impl Drop for PubRow {
+    fn drop(self) {
+        let PubRow {
+            id: _,
+            key,
+            prefix: _,
+            settings,
+        } = self;
+        drop(key);
+        drop(settings);
+    }
 }

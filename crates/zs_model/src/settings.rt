@@ -52,14 +52,16 @@ impl Settings {
     pub fn try_clone(&self, alloc: Global) -> Result<Settings, AllocError>
         ensures { IfOk result (λ copy. copy ≡ self.now) }
     {
+        let aggregated_subscribers = self.aggregated_subscribers.try_clone(alloc)?;
+        let aggregated_publishers = self.aggregated_publishers.try_clone(alloc)?;
         Ok(Settings {
             zid: self.zid,
             tag: self.tag,
             entity_start: self.entity_start,
             key_start: self.key_start,
             query_start: self.query_start,
-            aggregated_subscribers: self.aggregated_subscribers.try_clone(alloc)?,
-            aggregated_publishers: self.aggregated_publishers.try_clone(alloc)?,
+            aggregated_subscribers,
+            aggregated_publishers,
             default_timeout: self.default_timeout,
             line_max: self.line_max,
             turns: self.turns,

@@ -1,13 +1,7 @@
 -- The encoding that a text names.
-use Rattle.std.proofs.Common.{ℕ, ◌≡◌, List, [], ◌∷◌, refl, codes}
-use Rattle.std.specs.Str.{chars}
-use Rattle.std.proofs.lemmas.Str.{chars-nil}
+use Rattle.std.proofs.Common.{ℕ, ◌≡◌, List, [], ◌∷◌, refl}
 use Rattle.zs_sample.specs.Encoding.{encoding_of}
 use Rattle.zs_events.specs.Updates.{default_encoding}
-
--- no characters
-pub no_chars : chars (codes "") ≡ []
-no_chars = chars-nil
 
 pub encoding-empty : (text : List ℕ) → text ≡ [] → encoding_of text ≡ default_encoding
 encoding-empty [] h = refl

@@ -57,7 +57,7 @@ pub(crate) fn parse_source(text: &str) -> Option<SourceInfo>
 pub(crate) fn empty_text() -> Text
     ensures { result ≡ [] }
 {
-    Text::fixed("")
+    Text::empty()
 }
 
 /// An encoding: the empty text is the default.

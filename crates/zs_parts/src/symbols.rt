@@ -155,10 +155,8 @@ fn parse_numbered(alloc: Global, field: &str) -> Result<Option<KeyArg>, AllocErr
     let Some(number) = parse_key_number(digits) else {
         return Ok(None);
     };
-    Ok(Some(KeyArg::Number {
-        number,
-        suffix: Text::of(alloc, suffix)?,
-    }))
+    let suffix = Text::of(alloc, suffix)?;
+    Ok(Some(KeyArg::Number { number, suffix }))
 }
 
 /// What stands before the first colon, and what behind it; all and nothing where there is none.
@@ -212,9 +210,10 @@ fn parse_scoped(alloc: Global, mapping: Mapping, rest: &str) -> Result<Option<Wi
     let Some(scope) = parse_key_number(digits) else {
         return Ok(None);
     };
+    let suffix = Text::of(alloc, suffix)?;
     Ok(Some(WireExpr {
         scope,
-        suffix: Text::of(alloc, suffix)?,
+        suffix,
         mapping,
     }))
 }

@@ -8,7 +8,7 @@ use zs_keys::KeyExpr;
 use zs_wire::ConsolidationMode;
 
 /// What a get asked, and for whose finals it waits.
-#[derive(Debug, Drop)]
+#[derive(Debug)]
 pub struct GetRow {
     pub number: u32,
     pub key: KeyExpr<'static>,
@@ -26,6 +26,23 @@ pub struct GetRow {
     pub querier: Option<u32>,
     /// The cancellation token that ends it, if it has one.
     pub cancellation_token: Option<u32>,
+}
+
+impl Drop for GetRow {
+    fn drop(self) {
+        let GetRow {
+            number: _,
+            key,
+            any_key: _,
+            mode: _,
+            local_wanted: _,
+            network_wanted: _,
+            deadline: _,
+            querier: _,
+            cancellation_token: _,
+        } = self;
+        drop(key);
+    }
 }
 
 impl GetRow {

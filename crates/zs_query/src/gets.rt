@@ -301,5 +301,8 @@ fn end_get(gets: &mut GetRows, number: u32) -> bool
     ensures answer { result ≡ is_some (get_at number gets.old) }
     ensures gets { gets.new ≡ without_get number gets.old }
 {
-    gets.take(number).is_some()
+    let ended = gets.take(number);
+    let was_open = ended.is_some();
+    drop(ended);
+    was_open
 }

@@ -117,7 +117,10 @@ impl OpenGet {
     pub(crate) fn into_kept(self) -> KeptReplies
         ensures { result ≡ self.kept }
     {
-        self.kept
+        let OpenGet { row, kept, passed } = self;
+        drop(row);
+        drop(passed);
+        kept
     }
 }
 

@@ -62,25 +62,27 @@ fn opposite(side: LinkSide) -> LinkSide
 }
 
 /// The subscriber that each side declares.
-fn keeping() -> Event
-    ensures { result ≡ keeping }
+fn keeping(alloc: Global) -> Result<Event, AllocError>
+    ensures { IfOk result (λ event. event ≡ keeping) }
 {
-    Event::Sub {
+    let key = Text::of(alloc, "r/**")?;
+    Ok(Event::Sub {
         origin: Locality::Any,
-        key: KeyArg::Text(Text::fixed("r/**")),
+        key: KeyArg::Text(key),
         to: Chan::Print,
-    }
+    })
 }
 
 /// The queryable that each side declares.
-fn answering() -> Event
-    ensures { result ≡ answering }
+fn answering(alloc: Global) -> Result<Event, AllocError>
+    ensures { IfOk result (λ event. event ≡ answering) }
 {
-    Event::Queryable {
+    let key = Text::of(alloc, "r/**")?;
+    Ok(Event::Queryable {
         origin: Locality::Any,
         complete: true,
-        key: KeyArg::Text(Text::fixed("r/**")),
-    }
+        key: KeyArg::Text(key),
+    })
 }
 
 impl Sides {
@@ -117,12 +119,12 @@ impl Sides {
     fn declare(&mut self, side: LinkSide) -> Result<(), AllocError>
         ensures { OnOk result (Becomes (λ s t. with_link (Take side answering) (with_link (Take side keeping) t)) self.old self.new) }
     {
-        let keeping = keeping();
+        let keeping = keeping(self.alloc)?;
         let kept = self.take(side, &keeping);
         drop(keeping);
         let kept = kept?;
         drop(kept);
-        let answering = answering();
+        let answering = answering(self.alloc)?;
         let answered = self.take(side, &answering);
         drop(answering);
         let answered = answered?;

@@ -327,5 +327,5 @@ fn plain_inquiry() -> Inquiry
 fn empty_text() -> Text
     ensures { result ≡ [] }
 {
-    Text::fixed("")
+    Text::empty()
 }

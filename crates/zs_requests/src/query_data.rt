@@ -71,14 +71,19 @@ impl QueryData {
     pub fn of(alloc: Global, row: &RequestRow) -> Result<QueryData, AllocError>
         ensures { IfOk result (λ query. query ≡ query_of row.now) }
     {
+        let key_expr = clone_key(&row.key, alloc)?;
+        let parameters = parameters_of(alloc, &row.parameters)?;
+        let payload = payload_of(alloc, &row.value)?;
+        let encoding = encoding_of(alloc, &row.value)?;
+        let attachment = clone_attachment(&row.attachment, alloc)?;
         Ok(QueryData {
-            key_expr: clone_key(&row.key, alloc)?,
-            parameters: parameters_of(alloc, &row.parameters)?,
+            key_expr,
+            parameters,
             qos: row.qos,
             source: row.source,
-            payload: payload_of(alloc, &row.value)?,
-            encoding: encoding_of(alloc, &row.value)?,
-            attachment: clone_attachment(&row.attachment, alloc)?,
+            payload,
+            encoding,
+            attachment,
         })
     }
 
@@ -86,14 +91,19 @@ impl QueryData {
     pub fn try_clone(&self, alloc: Global) -> Result<QueryData, AllocError>
         ensures { IfOk result (λ copy. copy ≡ self.now) }
     {
+        let key_expr = clone_key(&self.key_expr, alloc)?;
+        let parameters = self.parameters.borrowing_clone().into_owned(alloc)?;
+        let payload = clone_attachment(&self.payload, alloc)?;
+        let encoding = clone_encoding(&self.encoding, alloc)?;
+        let attachment = clone_attachment(&self.attachment, alloc)?;
         Ok(QueryData {
-            key_expr: clone_key(&self.key_expr, alloc)?,
-            parameters: self.parameters.borrowing_clone().into_owned(alloc)?,
+            key_expr,
+            parameters,
             qos: self.qos,
             source: self.source,
-            payload: clone_attachment(&self.payload, alloc)?,
-            encoding: clone_encoding(&self.encoding, alloc)?,
-            attachment: clone_attachment(&self.attachment, alloc)?,
+            payload,
+            encoding,
+            attachment,
         })
     }
 

@@ -6,7 +6,7 @@ use zs_keys::KeyExpr;
 use zs_wire::{QoSType, SourceInfo, Text, Value};
 
 /// What a request asks.
-#[derive(Debug, Drop)]
+#[derive(Debug)]
 pub struct RequestRow {
     /// Whether a get of this session asks, and not the network.
     pub local: bool,
@@ -22,20 +22,43 @@ pub struct RequestRow {
     pub attachment: Option<ZBytes>,
 }
 
+impl Drop for RequestRow {
+    fn drop(self) {
+        let RequestRow {
+            local: _,
+            rid: _,
+            key,
+            parameters,
+            qos: _,
+            source: _,
+            value,
+            attachment,
+        } = self;
+        drop(key);
+        drop(parameters);
+        drop(value);
+        drop(attachment);
+    }
+}
+
 impl RequestRow {
     /// The same request. It shares the memory of the value's payload and the attachment.
     pub fn try_clone(&self, alloc: Global) -> Result<RequestRow, AllocError>
         ensures { IfOk result (λ copy. copy ≡ self.now) }
     {
+        let key = clone_key(&self.key, alloc)?;
+        let parameters = self.parameters.try_clone(alloc)?;
+        let value = clone_value(&self.value, alloc)?;
+        let attachment = clone_attachment(&self.attachment, alloc)?;
         Ok(RequestRow {
             local: self.local,
             rid: self.rid,
-            key: clone_key(&self.key, alloc)?,
-            parameters: self.parameters.try_clone(alloc)?,
+            key,
+            parameters,
             qos: self.qos,
             source: self.source,
-            value: clone_value(&self.value, alloc)?,
-            attachment: clone_attachment(&self.attachment, alloc)?,
+            value,
+            attachment,
         })
     }
 }

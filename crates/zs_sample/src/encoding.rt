@@ -113,25 +113,34 @@ impl Encoding {
         }
     }
 
-    /// The encoding's name as a text, such as a message carries.
+    /// The encoding's name as a text, such as a message carries. That of the default takes no memory, and that of a name of
+    /// the application's own shares its memory.
     pub fn to_text(&self, alloc: Global) -> Result<Text, AllocError>
         ensures { IfOk result (λ text. text ≡ self.now) }
     {
-        Text::of(alloc, self.as_str())
+        match &self.name {
+            Name::ZenohBytes => Ok(Text::zenoh_bytes()),
+            Name::Other(text) => text.try_clone(alloc),
+            _ => Text::of(alloc, self.as_str()),
+        }
     }
 
     /// The same encoding.
     pub fn try_clone(&self, alloc: Global) -> Result<Encoding, AllocError>
         ensures { IfOk result (λ copy. copy ≡ self.now) }
     {
-        let name = match &self.name {
-            Name::ZenohBytes => Name::ZenohBytes,
-            Name::ZenohString => Name::ZenohString,
-            Name::TextPlain => Name::TextPlain,
-            Name::ApplicationJson => Name::ApplicationJson,
-            Name::Other(text) => Name::Other(text.try_clone(alloc)?),
-        };
-        Ok(Encoding { name })
+        match &self.name {
+            Name::ZenohBytes => Ok(Encoding::ZENOH_BYTES),
+            Name::ZenohString => Ok(Encoding::ZENOH_STRING),
+            Name::TextPlain => Ok(Encoding::TEXT_PLAIN),
+            Name::ApplicationJson => Ok(Encoding::APPLICATION_JSON),
+            Name::Other(text) => {
+                let text = text.try_clone(alloc)?;
+                Ok(Encoding {
+                    name: Name::Other(text),
+                })
+            },
+        }
     }
 }
 

@@ -78,10 +78,9 @@ impl ReplyError {
     pub fn try_clone(&self, alloc: Global) -> Result<ReplyError, AllocError>
         ensures { IfOk result (λ copy. copy ≡ self.now) }
     {
-        Ok(ReplyError {
-            payload: self.payload.try_clone(alloc)?,
-            encoding: self.encoding.try_clone(alloc)?,
-        })
+        let payload = self.payload.try_clone(alloc)?;
+        let encoding = self.encoding.try_clone(alloc)?;
+        Ok(ReplyError { payload, encoding })
     }
 }
 

@@ -35,11 +35,13 @@ impl SampleFields {
             Some(bytes) => Some(bytes.try_clone(alloc)?),
             None => None,
         };
+        let payload = self.payload.try_clone(alloc)?;
+        let encoding = self.encoding.try_clone(alloc)?;
         Ok(SampleFields {
             key_expr,
-            payload: self.payload.try_clone(alloc)?,
+            payload,
             kind: self.kind,
-            encoding: self.encoding.try_clone(alloc)?,
+            encoding,
             timestamp: self.timestamp,
             express: self.express,
             priority: self.priority,

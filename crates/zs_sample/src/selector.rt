@@ -42,8 +42,9 @@ impl<'a> Selector<'a> {
             Some(parts) => parts,
             None => (text, ""),
         };
+        let key = KeyExpr::new(key)?;
         Ok(Selector {
-            key: KeyExpr::new(key)?,
+            key,
             parameters: Parameters::of(parameters),
         })
     }
@@ -94,9 +95,7 @@ impl<'a> Selector<'a> {
         let Ok(key) = self.key.into_owned(alloc) else {
             return Err(AllocError);
         };
-        Ok(Selector {
-            key,
-            parameters: self.parameters.into_owned(alloc)?,
-        })
+        let parameters = self.parameters.into_owned(alloc)?;
+        Ok(Selector { key, parameters })
     }
 }

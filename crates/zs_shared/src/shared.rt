@@ -1,4 +1,4 @@
-ghost use Rattle.std.specs.Prelude.{◌≡◌, IfOk, MatchResult};
+ghost use Rattle.std.specs.Prelude.{◌≡◌, IfOk};
 
 use std::alloc::{AllocError, Global};
 use std::fmt;
@@ -7,9 +7,15 @@ use std::sync::Arc;
 
 /// A value that is never changed and that several hold, in one place in memory: a copy takes none, and costs a count.
 /// Contracts see it as the value itself.
-#[derive(Drop)]
 pub struct Shared<T> {
     held: Arc<T>,
+}
+
+impl<T: Drop> Drop for Shared<T> {
+    fn drop(self) {
+        let Shared { held } = self;
+        drop(held);
+    }
 }
 
 impl<T> Model for Shared<T> {
@@ -52,16 +58,6 @@ impl<T: Drop> Shared<T> {
         ensures { result.now ≡ self.now }
     {
         &self.held
-    }
-
-    /// The value itself where no one else holds it, else what was given.
-    pub fn into_inner(self) -> Result<T, Shared<T>>
-        ensures { MatchResult result (λ value. value ≡ self) (λ back. back ≡ self) }
-    {
-        match Arc::try_unwrap(self.held) {
-            Ok(value) => Ok(value),
-            Err(held) => Err(Shared { held }),
-        }
     }
 }
 

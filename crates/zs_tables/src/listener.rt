@@ -14,7 +14,6 @@ pub enum Sought {
 }
 
 /// A live listener: it hears whether anyone matches a publisher or a querier.
-#[derive(Drop)]
 pub struct ListenerRow {
     /// Its entity number.
     pub id: u32,
@@ -25,6 +24,19 @@ pub struct ListenerRow {
     pub sought: Sought,
     /// The key of the publisher or querier.
     pub key: KeyExpr<'static>,
+}
+
+impl Drop for ListenerRow {
+    fn drop(self) {
+        let ListenerRow {
+            id: _,
+            parent: _,
+            destination: _,
+            sought: _,
+            key,
+        } = self;
+        drop(key);
+    }
 }
 
 /// A live listener, and how many match it.

@@ -3,7 +3,6 @@ use zs_keys::KeyExpr;
 use zs_sample::Locality;
 
 /// A live queryable.
-#[derive(Drop)]
 pub struct QueryableRow {
     /// Its entity number.
     pub id: u32,
@@ -12,6 +11,18 @@ pub struct QueryableRow {
     /// Whether it can answer alone for all keys that its own includes.
     pub complete: bool,
     pub key: KeyExpr<'static>,
+}
+
+impl Drop for QueryableRow {
+    fn drop(self) {
+        let QueryableRow {
+            id: _,
+            origin: _,
+            complete: _,
+            key,
+        } = self;
+        drop(key);
+    }
 }
 
 impl Keyed for QueryableRow {

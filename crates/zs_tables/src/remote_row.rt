@@ -2,21 +2,37 @@ use zs_keyed::Keyed;
 use zs_keys::KeyExpr;
 
 /// A subscriber that the other side declared.
-#[derive(Drop)]
 pub struct RemoteSubscriber {
     /// The number by which the other side knows it.
     pub number: u32,
     pub key: KeyExpr<'static>,
 }
 
+impl Drop for RemoteSubscriber {
+    fn drop(self) {
+        let RemoteSubscriber { number: _, key } = self;
+        drop(key);
+    }
+}
+
 /// A queryable that the other side declared.
-#[derive(Drop)]
 pub struct RemoteQueryable {
     /// The number by which the other side knows it.
     pub number: u32,
     /// Whether it can answer alone for all keys that its own includes.
     pub complete: bool,
     pub key: KeyExpr<'static>,
+}
+
+impl Drop for RemoteQueryable {
+    fn drop(self) {
+        let RemoteQueryable {
+            number: _,
+            complete: _,
+            key,
+        } = self;
+        drop(key);
+    }
 }
 
 impl Keyed for RemoteSubscriber {

@@ -49,11 +49,8 @@ impl Query {
     pub fn of(alloc: Global, tag: u64, value: u32, fields: &QueryData) -> Result<Query, AllocError>
         ensures { IfOk result (λ query. query ≡ record { data_of = fields.now; value = value; tag = tag }) }
     {
-        Ok(Query {
-            fields: fields.try_clone(alloc)?,
-            value,
-            tag,
-        })
+        let fields = fields.try_clone(alloc)?;
+        Ok(Query { fields, value, tag })
     }
 
     /// The same query. It shares the memory of the payload and the attachment.
@@ -64,8 +61,9 @@ impl Query {
     pub fn try_clone(&self, alloc: Global) -> Result<Query, AllocError>
         ensures { IfOk result (λ copy. copy ≡ self.now) }
     {
+        let fields = self.fields.try_clone(alloc)?;
         Ok(Query {
-            fields: self.fields.try_clone(alloc)?,
+            fields,
             value: self.value,
             tag: self.tag,
         })

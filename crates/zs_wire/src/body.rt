@@ -6,10 +6,18 @@ use std::alloc::{AllocError, Global};
 use zs_bytes::{Text, ZBytes};
 
 /// A payload, and what it is.
-#[derive(Debug, Drop)]
+#[derive(Debug)]
 pub struct Value {
     pub payload: ZBytes,
     pub encoding: Text,
+}
+
+impl Drop for Value {
+    fn drop(self) {
+        let Value { payload, encoding } = self;
+        drop(payload);
+        drop(encoding);
+    }
 }
 
 impl Value {
@@ -17,15 +25,14 @@ impl Value {
     pub fn try_clone(&self, alloc: Global) -> Result<Value, AllocError>
         ensures { IfOk result (λ copy. copy ≡ self.now) }
     {
-        Ok(Value {
-            payload: self.payload.try_clone(alloc)?,
-            encoding: self.encoding.try_clone(alloc)?,
-        })
+        let payload = self.payload.try_clone(alloc)?;
+        let encoding = self.encoding.try_clone(alloc)?;
+        Ok(Value { payload, encoding })
     }
 }
 
 /// What a publication or a reply says of its key.
-#[derive(Debug, Drop)]
+#[derive(Debug)]
 pub struct Body {
     pub kind: SampleKind,
     /// The value, none in a deletion.
@@ -38,19 +45,53 @@ pub struct Body {
     pub attachment: Option<ZBytes>,
 }
 
+impl Drop for Body {
+    fn drop(self) {
+        let Body {
+            kind: _,
+            payload,
+            encoding,
+            timestamp: _,
+            source: _,
+            attachment,
+        } = self;
+        drop(payload);
+        drop(encoding);
+        drop(attachment);
+    }
+}
+
 impl Body {
     /// The same body. It shares the memory of the payload and the attachment.
     pub fn try_clone(&self, alloc: Global) -> Result<Body, AllocError>
         ensures { IfOk result (λ copy. copy ≡ self.now) }
     {
+        let payload = self.payload.try_clone(alloc)?;
+        let encoding = self.encoding.try_clone(alloc)?;
+        let attachment = clone_attachment(&self.attachment, alloc)?;
         Ok(Body {
             kind: self.kind,
-            payload: self.payload.try_clone(alloc)?,
-            encoding: self.encoding.try_clone(alloc)?,
+            payload,
+            encoding,
             timestamp: self.timestamp,
             source: self.source,
-            attachment: clone_attachment(&self.attachment, alloc)?,
+            attachment,
         })
+    }
+
+    /// Its payload, encoding and attachment.
+    pub fn into_parts(self) -> (ZBytes, Text, Option<ZBytes>)
+        ensures { result ≡ (self.payload, self.encoding, self.attachment) }
+    {
+        let Body {
+            kind: _,
+            payload,
+            encoding,
+            timestamp: _,
+            source: _,
+            attachment,
+        } = self;
+        (payload, encoding, attachment)
     }
 }
 

@@ -8,7 +8,7 @@ use crate::wire_expr::WireExpr;
 use std::alloc::{AllocError, Global};
 
 /// What one session tells another.
-#[derive(Debug, Drop)]
+#[derive(Debug)]
 pub enum Message {
     /// The number stands for the key from now on.
     DeclareKeyExpr {
@@ -65,58 +65,114 @@ pub enum Message {
     Close,
 }
 
+impl Drop for Message {
+    fn drop(self) {
+        match self {
+            Message::DeclareKeyExpr { number: _, wire } => drop(wire),
+            Message::UndeclareKeyExpr { number: _ } => {}
+            Message::DeclareSubscriber { id: _, wire } => drop(wire),
+            Message::UndeclareSubscriber { id: _ } => {}
+            Message::DeclareQueryable {
+                id: _,
+                complete: _,
+                wire,
+            } => drop(wire),
+            Message::UndeclareQueryable { id: _ } => {}
+            Message::DeclareToken {
+                id: _,
+                wire,
+                interest: _,
+            } => drop(wire),
+            Message::UndeclareToken {
+                id: _,
+                wire,
+                interest: _,
+            } => drop(wire),
+            Message::DeclareFinal { interest: _ } => {}
+            Message::Interest {
+                id: _,
+                mode: _,
+                what: _,
+                wire,
+            } => drop(wire),
+            Message::Push(push) => drop(push),
+            Message::Request(request) => drop(request),
+            Message::Response(response) => drop(response),
+            Message::ResponseFinal { rid: _ } => {}
+            Message::Close => {}
+        }
+    }
+}
+
 impl Message {
     /// The same message. It shares the memory of payloads and attachments.
     pub fn try_clone(&self, alloc: Global) -> Result<Message, AllocError>
         ensures { IfOk result (λ copy. copy ≡ self.now) }
     {
-        Ok(match self {
-            Message::DeclareKeyExpr { number, wire } => Message::DeclareKeyExpr {
-                number: *number,
-                wire: wire.try_clone(alloc)?,
-            },
-            Message::UndeclareKeyExpr { number } => Message::UndeclareKeyExpr { number: *number },
-            Message::DeclareSubscriber { id, wire } => Message::DeclareSubscriber {
-                id: *id,
-                wire: wire.try_clone(alloc)?,
-            },
-            Message::UndeclareSubscriber { id } => Message::UndeclareSubscriber { id: *id },
-            Message::DeclareQueryable { id, complete, wire } => Message::DeclareQueryable {
-                id: *id,
-                complete: *complete,
-                wire: wire.try_clone(alloc)?,
-            },
-            Message::UndeclareQueryable { id } => Message::UndeclareQueryable { id: *id },
-            Message::DeclareToken { id, wire, interest } => Message::DeclareToken {
-                id: *id,
-                wire: wire.try_clone(alloc)?,
+        match self {
+            Message::DeclareKeyExpr { number, wire } => {
+                let wire = wire.try_clone(alloc)?;
+                Ok(Message::DeclareKeyExpr {
+                    number: *number,
+                    wire,
+                })
+            }
+            Message::UndeclareKeyExpr { number } => {
+                Ok(Message::UndeclareKeyExpr { number: *number })
+            }
+            Message::DeclareSubscriber { id, wire } => {
+                let wire = wire.try_clone(alloc)?;
+                Ok(Message::DeclareSubscriber { id: *id, wire })
+            }
+            Message::UndeclareSubscriber { id } => Ok(Message::UndeclareSubscriber { id: *id }),
+            Message::DeclareQueryable { id, complete, wire } => {
+                let wire = wire.try_clone(alloc)?;
+                Ok(Message::DeclareQueryable {
+                    id: *id,
+                    complete: *complete,
+                    wire,
+                })
+            }
+            Message::UndeclareQueryable { id } => Ok(Message::UndeclareQueryable { id: *id }),
+            Message::DeclareToken { id, wire, interest } => {
+                let wire = wire.try_clone(alloc)?;
+                Ok(Message::DeclareToken {
+                    id: *id,
+                    wire,
+                    interest: *interest,
+                })
+            }
+            Message::UndeclareToken { id, wire, interest } => {
+                let wire = clone_key(wire, alloc)?;
+                Ok(Message::UndeclareToken {
+                    id: *id,
+                    wire,
+                    interest: *interest,
+                })
+            }
+            Message::DeclareFinal { interest } => Ok(Message::DeclareFinal {
                 interest: *interest,
-            },
-            Message::UndeclareToken { id, wire, interest } => Message::UndeclareToken {
-                id: *id,
-                wire: clone_key(wire, alloc)?,
-                interest: *interest,
-            },
-            Message::DeclareFinal { interest } => Message::DeclareFinal {
-                interest: *interest,
-            },
+            }),
             Message::Interest {
                 id,
                 mode,
                 what,
                 wire,
-            } => Message::Interest {
-                id: *id,
-                mode: *mode,
-                what: *what,
-                wire: clone_key(wire, alloc)?,
-            },
-            Message::Push(push) => Message::Push(push.try_clone(alloc)?),
-            Message::Request(request) => Message::Request(request.try_clone(alloc)?),
-            Message::Response(response) => Message::Response(response.try_clone(alloc)?),
-            Message::ResponseFinal { rid } => Message::ResponseFinal { rid: *rid },
-            Message::Close => Message::Close,
-        })
+            } => {
+                let wire = clone_key(wire, alloc)?;
+                Ok(Message::Interest {
+                    id: *id,
+                    mode: *mode,
+                    what: *what,
+                    wire,
+                })
+            }
+            Message::Push(push) => Ok(Message::Push(push.try_clone(alloc)?)),
+            Message::Request(request) => Ok(Message::Request(request.try_clone(alloc)?)),
+            Message::Response(response) => Ok(Message::Response(response.try_clone(alloc)?)),
+            Message::ResponseFinal { rid } => Ok(Message::ResponseFinal { rid: *rid }),
+            Message::Close => Ok(Message::Close),
+        }
     }
 }
 

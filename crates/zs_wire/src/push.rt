@@ -6,7 +6,7 @@ use crate::wire_expr::WireExpr;
 use std::alloc::{AllocError, Global};
 
 /// A publication on a key.
-#[derive(Debug, Drop)]
+#[derive(Debug)]
 pub struct Push {
     pub wire: WireExpr,
     pub body: Body,
@@ -15,14 +15,29 @@ pub struct Push {
     pub reliable: bool,
 }
 
+impl Drop for Push {
+    fn drop(self) {
+        let Push {
+            wire,
+            body,
+            qos: _,
+            reliable: _,
+        } = self;
+        drop(wire);
+        drop(body);
+    }
+}
+
 impl Push {
     /// The same publication. It shares the memory of the payload and the attachment.
     pub fn try_clone(&self, alloc: Global) -> Result<Push, AllocError>
         ensures { IfOk result (λ copy. copy ≡ self.now) }
     {
+        let wire = self.wire.try_clone(alloc)?;
+        let body = self.body.try_clone(alloc)?;
         Ok(Push {
-            wire: self.wire.try_clone(alloc)?,
-            body: self.body.try_clone(alloc)?,
+            wire,
+            body,
             qos: self.qos,
             reliable: self.reliable,
         })

@@ -34,7 +34,7 @@ pub enum ConsolidationMode {
 }
 
 /// A query on a key.
-#[derive(Debug, Drop)]
+#[derive(Debug)]
 pub struct Request {
     /// The query's number, which its responses repeat.
     pub rid: u32,
@@ -52,22 +52,47 @@ pub struct Request {
     pub attachment: Option<ZBytes>,
 }
 
+impl Drop for Request {
+    fn drop(self) {
+        let Request {
+            rid: _,
+            wire,
+            parameters,
+            target: _,
+            consolidation: _,
+            timeout: _,
+            value,
+            qos: _,
+            source: _,
+            attachment,
+        } = self;
+        drop(wire);
+        drop(parameters);
+        drop(value);
+        drop(attachment);
+    }
+}
+
 impl Request {
     /// The same query. It shares the memory of the value's payload and the attachment.
     pub fn try_clone(&self, alloc: Global) -> Result<Request, AllocError>
         ensures { IfOk result (λ copy. copy ≡ self.now) }
     {
+        let wire = self.wire.try_clone(alloc)?;
+        let parameters = self.parameters.try_clone(alloc)?;
+        let value = clone_value(&self.value, alloc)?;
+        let attachment = clone_attachment(&self.attachment, alloc)?;
         Ok(Request {
             rid: self.rid,
-            wire: self.wire.try_clone(alloc)?,
-            parameters: self.parameters.try_clone(alloc)?,
+            wire,
+            parameters,
             target: self.target,
             consolidation: self.consolidation,
             timeout: self.timeout,
-            value: clone_value(&self.value, alloc)?,
+            value,
             qos: self.qos,
             source: self.source,
-            attachment: clone_attachment(&self.attachment, alloc)?,
+            attachment,
         })
     }
 }

@@ -7,10 +7,19 @@ use crate::wire_expr::WireExpr;
 use std::alloc::{AllocError, Global};
 
 /// What a response says: a value of its key, or why there is none.
-#[derive(Debug, Drop)]
+#[derive(Debug)]
 pub enum Answered {
     Reply(Body),
     Err(Value),
+}
+
+impl Drop for Answered {
+    fn drop(self) {
+        match self {
+            Answered::Reply(body) => drop(body),
+            Answered::Err(value) => drop(value),
+        }
+    }
 }
 
 impl Answered {
@@ -26,7 +35,7 @@ impl Answered {
 }
 
 /// One reply to a query.
-#[derive(Debug, Drop)]
+#[derive(Debug)]
 pub struct Response {
     /// The query's number.
     pub rid: u32,
@@ -37,15 +46,31 @@ pub struct Response {
     pub responder: Option<EntityGlobalId>,
 }
 
+impl Drop for Response {
+    fn drop(self) {
+        let Response {
+            rid: _,
+            wire,
+            answered,
+            qos: _,
+            responder: _,
+        } = self;
+        drop(wire);
+        drop(answered);
+    }
+}
+
 impl Response {
     /// The same response. It shares the memory of the payload and the attachment.
     pub fn try_clone(&self, alloc: Global) -> Result<Response, AllocError>
         ensures { IfOk result (λ copy. copy ≡ self.now) }
     {
+        let wire = self.wire.try_clone(alloc)?;
+        let answered = self.answered.try_clone(alloc)?;
         Ok(Response {
             rid: self.rid,
-            wire: self.wire.try_clone(alloc)?,
-            answered: self.answered.try_clone(alloc)?,
+            wire,
+            answered,
             qos: self.qos,
             responder: self.responder,
         })

@@ -14,7 +14,7 @@ pub enum Mapping {
 
 /// A key as a message carries it: a declared number, and the text behind what that number stands for. It is the
 /// Zenoh protocol's `WireExpr`.
-#[derive(Debug, Drop)]
+#[derive(Debug)]
 pub struct WireExpr {
     /// The declared number. 0 is none: then the suffix is the whole text.
     pub scope: u16,
@@ -24,14 +24,26 @@ pub struct WireExpr {
     pub mapping: Mapping,
 }
 
+impl Drop for WireExpr {
+    fn drop(self) {
+        let WireExpr {
+            scope: _,
+            suffix,
+            mapping: _,
+        } = self;
+        drop(suffix);
+    }
+}
+
 impl WireExpr {
     /// The same wire expression. It shares the memory of the suffix.
     pub fn try_clone(&self, alloc: Global) -> Result<WireExpr, AllocError>
         ensures { IfOk result (λ copy. copy ≡ self.now) }
     {
+        let suffix = self.suffix.try_clone(alloc)?;
         Ok(WireExpr {
             scope: self.scope,
-            suffix: self.suffix.try_clone(alloc)?,
+            suffix,
             mapping: self.mapping,
         })
     }

@@ -9,15 +9,16 @@ use zs_sample::{CongestionControl, Locality, QoSType, Text, ZBytes};
 
 /// A subscriber is declared, to whatever the callers put.
 #[tactic(auto, unfolding(zs_turns::specs::Gates::takes_handler))]
-pub(crate) fn subscription() -> Event
-    ensures takes { takes_handler result ≡ true }
-    ensures asks { asks_queryables result ≡ false }
+pub(crate) fn subscription(alloc: Global) -> Result<Event, AllocError>
+    ensures takes { IfOk result (λ event. takes_handler event ≡ true) }
+    ensures asks { IfOk result (λ event. asks_queryables event ≡ false) }
 {
-    Event::Sub {
+    let key = Text::of(alloc, "w/*")?;
+    Ok(Event::Sub {
         origin: Locality::Any,
-        key: KeyArg::Text(Text::fixed("w/*")),
+        key: KeyArg::Text(key),
         to: Chan::Print,
-    }
+    })
 }
 
 // The key on which the caller of that number puts.

@@ -29,7 +29,13 @@ fn subscribe<B: Books, R: Wait>(
     let Ok(handler) = Arc::new(session.alloc(), NoHandler) else {
         return Err(AllocError);
     };
-    step(rt, session, subscription(), Some(handler), caller)
+    match subscription(session.alloc()) {
+        Ok(event) => step(rt, session, event, Some(handler), caller),
+        Err(why) => {
+            drop(handler);
+            Err(why)
+        }
+    }
 }
 
 // What a copy of the journal comes to, beside what a caller counts.

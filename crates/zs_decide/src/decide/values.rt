@@ -72,11 +72,17 @@ fn finish_by(
 ) -> Result<Decision, AllocError>
     ensures { IfOk result (λ made. made ≡ finished_decision world.now value (finished_as finishing.entry)) }
 {
-    let change = Change::OfValues(ValueChange::GiveBack { value });
     match finishing {
         Finishing::Unknown => Ok(Decision::refused(world.alloc, Refusal::NotFound)),
-        Finishing::MoreLeft => Ok(Decision::quiet(world.alloc, None, change)),
-        Finishing::Last(row) => Ok(Decision::of(last_effects(world, row)?, change)),
+        Finishing::MoreLeft => {
+            let change = Change::OfValues(ValueChange::GiveBack { value });
+            Ok(Decision::quiet(world.alloc, None, change))
+        }
+        Finishing::Last(row) => {
+            let effects = last_effects(world, row)?;
+            let change = Change::OfValues(ValueChange::GiveBack { value });
+            Ok(Decision::of(effects, change))
+        }
     }
 }
 

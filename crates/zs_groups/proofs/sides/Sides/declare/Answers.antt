@@ -10,4 +10,4 @@ returns c =
     let side = c.args.side in
     let new = c.take-taken.new.self in
     takes_alone side hearing c.args.self.now new c.in_ok-turn.turn
-    (subst (λ (e : Event). TakesEvent side e c.args.self.now c.in_ok-turn.turn new) c.hearing-hearing.ensures c.in_ok-turn.ensures)
+    (subst (λ (e : Event). TakesEvent side e c.args.self.now c.in_ok-turn.turn new) c.in_ok-hearing.ensures c.in_ok-turn.ensures)
