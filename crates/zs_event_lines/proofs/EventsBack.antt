@@ -17,6 +17,7 @@ use Rattle.zs_events.specs.declared.update.PushBody.TheVariants.{Put, Delete}
 use Rattle.zs_events.specs.declared.update.Update.{Update}
 use Rattle.zs_wire.specs.declared.sample_kind.SampleKind.TheVariants.{Put as put_kind, Delete as delete_kind}
 use Rattle.zs_parts.specs.Symbols.{u32_max, u64_max}
+use Rattle.zs_parts.specs.Parts.{unnamed}
 use Rattle.zs_script.specs.Plain.{is_plain}
 use Rattle.zs_grammar.specs.Grammar.{update_of, key_parts, number_parts, sub_parts, pub_parts, pub_made, queryable_parts, querier_parts, querier_made, lsub_parts, parent_parts, undeclare_of, background_parts, publish_parts, publish_made, publish_by_parts, publish_by_made, get_parts, get_made, querier_get_parts, querier_get_made, liveliness_get_parts, reply_parts, reply_made, reply_error_parts, reply_error_made, event_of_fields, event_of}
 use Rattle.zs_event_lines.specs.Sayable.{kept, gathered, gathered_push}
@@ -38,7 +39,7 @@ IsBack (Some line) event =
 publish-back : (body : PushBody) (u : Update) (destination : Locality) (k : KeyArg) (q : PublicationQuality)
     → IsBack (Some (form_line (publish_word (body_kind body)) (publish_parts (body_kind body))
     (destination, (k, (body, (u.timestamp, (q, (u.source, (u.attachment, tt)))))))))
-    (Publish destination k (update_of (gathered_push body) u.timestamp u.source (option_map gathered u.attachment)) q)
+    (Publish destination k (update_of (unnamed (gathered_push body)) u.timestamp u.source (option_map gathered u.attachment)) q)
 unfolding kept
 publish-back (Put bytes text) u destination k q = (
   refl,
@@ -82,7 +83,7 @@ publish-by-back Delete u id = (
 reply-back : (body : PushBody) (u : Update) (id : ℕ) (k : KeyArg) (q : ReplyQuality)
     → IsBack (Some (form_line (reply_word (body_kind body)) (reply_parts (body_kind body))
     (id, (k, (body, (u.timestamp, (q, (u.source, (u.attachment, tt)))))))))
-    (reply_event id k (update_of (gathered_push body) u.timestamp u.source (option_map gathered u.attachment)) q)
+    (reply_event id k (update_of (unnamed (gathered_push body)) u.timestamp u.source (option_map gathered u.attachment)) q)
 unfolding kept
 reply-back (Put bytes text) u id k q = (
   refl,

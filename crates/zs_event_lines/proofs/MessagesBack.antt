@@ -18,7 +18,8 @@ use Rattle.zs_events.specs.Kinds.{is_nothing}
 use Rattle.zs_parts.specs.Symbols.{u16_max, u32_max}
 use Rattle.zs_parts.specs.Parts.{wire, number}
 use Rattle.zs_grammar.specs.Grammar.{update_of, number_parts, numbered_wire_parts, net_queryable_parts, net_token_parts, net_untoken_parts, declare_final_parts, push_parts, push_made, push_of, request_timeout, request_parts, request_made, response_parts, response_made, response_error_parts, response_error_made, response_by, response_on, response_of, message_of}
-use Rattle.zs_event_lines.specs.Shown.{shown, is_default, named_encoding}
+use Rattle.zs_parts.specs.Options.{is_default, named_encoding}
+use Rattle.zs_event_lines.specs.Shown.{shown}
 use Rattle.zs_event_lines.specs.Sayable.{kept, says, is_typed, gathered, gathered_push}
 use Rattle.zs_event_lines.specs.Slots.{Slot, slots_fields, slots_say, slots_are_typed, slots_of}
 use Rattle.zs_event_lines.specs.Lines.{told_as, is_said_body, push_slots, push_line, named_timeout, request_slots, response_front, reply_slots, answered_line, message_line, gathered_body, gathered_answer, gathered_request, gathered_message}

@@ -28,12 +28,12 @@ use Rattle.zs_events.specs.declared.update.PushBody.TheVariants.{Put, Delete}
 use Rattle.zs_events.specs.Updates.{default_encoding}
 use Rattle.zs_events.specs.Kinds.{is_nothing}
 use Rattle.zs_parts.specs.Symbols.{number_of, u32_max, u64_max, locality_of, background_kind_of, parent_of, complete_of, history_of, key_of, payload_of, wire_of, names_nothing}
-use Rattle.zs_parts.specs.Options.{timestamp_of, entity_of, source_of, encoding_text_of, priority_of, congestion_of, flag_of, target_of, consolidation_of, any_key_of, value_of}
+use Rattle.zs_parts.specs.Options.{timestamp_of, entity_of, source_of, encoding_text_of, is_default, named_encoding, priority_of, congestion_of, flag_of, target_of, consolidation_of, any_key_of, value_of}
 use Rattle.zs_parts.specs.Channels.{channel_of}
 use Rattle.zs_printing.specs.Words.{congestion_word, flag_digit, complete_word, target_word, consolidation_word, bytes_text, wire_text, timestamp_text, entity_text, source_text}
 use Rattle.zs_printing.specs.Pieces.{field_if, encoding_field, parameter_fields, written}
-use Rattle.zs_parts.specs.Parts.{Part, number, locality, background_kind, parent, complete, history, key, selector, wire, wire_if, payload, push_body, parameters, target, consolidation, timeout, value, encoding, timestamp, qos, reliable, quality, reply_quality, source, attachment, responder, any_key, cancellation_token, interest, channel, handed_to, channel_kind, Value, first_of, first_in, named_in, taken, option_in, maybe_in, named_wire_in, qos_in, quality_in, reply_quality_in, named_encoding_in, encoded, body_in, value_in, selector_of, read}
-use Rattle.zs_event_lines.specs.Shown.{unless, locality_word, background_word, parent_word, history_word, key_text, selector_text, is_best, is_auto, is_congestion, is_default, named_encoding, encoding_fields, priority_field, congestion_field, express_field, reliable_fields, qos_fields, quality_fields, reply_quality_fields, channel_text, is_print, shown}
+use Rattle.zs_parts.specs.Parts.{Part, number, locality, background_kind, parent, complete, history, key, selector, wire, wire_if, payload, push_body, own_body, parameters, target, consolidation, timeout, value, encoding, timestamp, qos, reliable, quality, reply_quality, source, attachment, responder, any_key, cancellation_token, interest, channel, handed_to, channel_kind, Value, first_of, first_in, named_in, taken, option_in, maybe_in, named_wire_in, qos_in, quality_in, reply_quality_in, named_encoding_in, encoded, body_in, unnamed, unnamed_in, own_body_in, value_in, selector_of, read}
+use Rattle.zs_event_lines.specs.Shown.{unless, locality_word, background_word, parent_word, history_word, key_text, selector_text, is_best, is_auto, is_congestion, encoding_fields, priority_field, congestion_field, express_field, reliable_fields, qos_fields, quality_fields, reply_quality_fields, channel_text, is_print, shown}
 use Rattle.zs_event_lines.specs.Sayable.{if_there, says_encoding, says_wire, says_priority, says_channel, says, is_wire, is_timestamp, is_entity, is_source, are_bytes, is_typed, gathered, gathered_push, gathered_value, kept}
 use Rattle.zs_event_lines.proofs.Digits.{number-says, payload-says}
 use Rattle.zs_event_lines.proofs.Symbols.{locality-says, background-says, parent-says, complete-says, history-says, congestion-says, flag-says, target-says, consolidation-says, priority-says, channel-says, timestamp-says, entity-says, source-says, wire-says, key-says, selector-says}
@@ -43,6 +43,7 @@ use Rattle.zs_event_lines.proofs.Options.{AllDeclined, Over, over-field, over-un
 abbrev pub asks : Part → List (List ℕ)
 asks wire_if = codes "s" ∷ codes "r" ∷ []
 asks (push_body kind) = codes "enc=" ∷ []
+asks (own_body kind) = codes "enc=" ∷ []
 asks parameters = codes "params=" ∷ []
 asks target = codes "target=" ∷ []
 asks consolidation = codes "cons=" ∷ []
@@ -158,11 +159,30 @@ maybe-same : {A : Type 0} (name : List ℕ) (symbol : List ℕ → Option A) (te
 maybe-same name symbol text o rest named says none =
     maybe-back name symbol text (λ a. a) o rest named says none ∙ ap (λ found. (found, rest)) (map-same o)
 
-named-encoding-back : (text : Option (List ℕ)) (rest : List (List ℕ)) → if_there all_scalars text ≡ true → named_in (codes "enc=") rest ≡ None
-    → named_encoding_in (field_if encoding_field text ++ rest) ≡ (text, rest)
-named-encoding-back text rest h none =
-    maybe-same (codes "enc=") (λ t. Some (chars t)) encode_utf8_all text rest refl
-    (λ t same. ap Some (chars-encodes t (there all_scalars text h t same))) none
+named-encoding-back : (text : Option (List ℕ)) (rest : List (List ℕ)) → if_there says_encoding text ≡ true → if_there all_scalars text ≡ true
+    → named_in (codes "enc=") rest ≡ None → named_encoding_in (field_if encoding_field text ++ rest) ≡ (text, rest)
+named-encoding-back text rest h k none =
+    maybe-same (codes "enc=") encoding_text_of encode_utf8_all text rest refl
+    (λ t same. encoding-says t (there says_encoding text h t same) (there all_scalars text k t same)) none
+
+-- an encoding other than the default one
+pub other-twice : (text : Option (List ℕ))
+    → option_and_then named_encoding (option_and_then named_encoding text) ≡ option_and_then named_encoding text
+other-twice None = refl
+other-twice (Some text) = go (is_default text) refl
+  where
+    go : (b : Bool) → is_default text ≡ b → option_and_then named_encoding (cond b None (Some text)) ≡ cond b None (Some text)
+    go true same = refl
+    go false same = rw same refl
+
+pub other-there : (test : List ℕ → Bool) (text : Option (List ℕ)) → if_there test text ≡ true
+    → if_there test (option_and_then named_encoding text) ≡ true
+other-there test None h = refl
+other-there test (Some text) h = go (is_default text)
+  where
+    go : (b : Bool) → if_there test (cond b None (Some text)) ≡ true
+    go true = refl
+    go false = h
 
 -- fields that have to be there
 first-back : {A : Type 0} (symbol : List ℕ → Option A) (field : List ℕ) (found : A) (rest : List (List ℕ)) → symbol field ≡ Some found
@@ -175,10 +195,24 @@ body-back : (kind : SampleKind) (body : PushBody) → says (push_body kind) body
 unfolding says is_typed shown
 body-back put_kind (Put bytes text) s t rest none =
     let both = and_parts (are_bytes bytes) _ t in
-    rw (payload-says bytes both.0) (ap (λ found. Some (encoded (gathered bytes) found)) (named-encoding-back text rest both.1 none))
+    rw (payload-says bytes both.0) (ap (λ found. Some (encoded (gathered bytes) found)) (named-encoding-back text rest s both.1 none))
 body-back put_kind Delete s t rest none = cc
 body-back delete_kind (Put bytes text) s t rest none = cc
 body-back delete_kind Delete s t rest none = refl
+
+own-body-back : (kind : SampleKind) (body : PushBody) → says (own_body kind) body ≡ true → is_typed (own_body kind) body ≡ true
+    → (rest : List (List ℕ)) → named_in (codes "enc=") rest ≡ None
+    → own_body_in kind (shown (own_body kind) body ++ rest) ≡ Some (unnamed (gathered_push body), rest)
+unfolding says is_typed shown
+own-body-back put_kind (Put bytes text) s t rest none =
+    let both = and_parts (are_bytes bytes) _ t in
+    rw (payload-says bytes both.0)
+    (ap (λ found. Some (unnamed_in (encoded (gathered bytes) found)))
+    (named-encoding-back (option_and_then named_encoding text) rest (other-there says_encoding text s) (other-there all_scalars text both.1) none)
+    ∙ ap (λ (o : Option (List ℕ)). Some (Put (gathered bytes) o, rest)) (other-twice text))
+own-body-back put_kind Delete s t rest none = cc
+own-body-back delete_kind (Put bytes text) s t rest none = cc
+own-body-back delete_kind Delete s t rest none = refl
 
 -- wire expressions that may be left out
 wire-declined : (rest : List (List ℕ)) → AllDeclined (codes "s" ∷ codes "r" ∷ []) rest → option_and_then wire_of (first_of rest) ≡ None
@@ -332,6 +366,7 @@ back wire w sound s t rest d = first-back wire_of (wire_text w) w rest (wire-say
 back wire_if w sound s t rest d = ap Some (wire-if-back w s t rest d)
 back payload bytes sound s t rest d = first-back payload_of (bytes_text bytes) (gathered bytes) rest (payload-says bytes t)
 back (push_body kind) body sound s t rest d = body-back kind body s t rest d.0
+back (own_body kind) body sound s t rest d = own-body-back kind body s t rest d.0
 back parameters text sound s t rest d = ap Some (parameters-back (encode_utf8_all text) text rest (chars-encodes text t) d.0)
 back target v sound s t rest d =
     ap Some (option-back (codes "target=") target_of BestMatching v (is_best v) (target_word v) rest refl (best-same v) (target-says v) d.0)
@@ -410,6 +445,7 @@ over wire v = over-any (shown wire v)
 over wire_if v = over-any (shown wire_if v)
 over payload v = over-any (shown payload v)
 over (push_body kind) v = over-any (shown (push_body kind) v)
+over (own_body kind) v = over-any (shown (own_body kind) v)
 over parameters text = over-parameters (encode_utf8_all text)
 over target v = over-unless (codes "target=") (target_word v) (is_best v)
 over consolidation v = over-unless (codes "cons=") (consolidation_word v) (is_auto v)

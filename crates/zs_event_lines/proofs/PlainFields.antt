@@ -1,5 +1,5 @@
 -- The fields of what can be said have no tab and no line feed.
-use Rattle.std.proofs.Common.{ℕ, ◌≡◌, ◌==◌, Bool, true, false, not, List, [], ◌∷◌, ◌++◌, Option, Some, None, refl, ◌∙◌, cond, codes, decimal, encode_utf8_all}
+use Rattle.std.proofs.Common.{ℕ, ◌≡◌, ◌==◌, Bool, true, false, not, List, [], ◌∷◌, ◌++◌, Option, Some, None, option_and_then, refl, ◌∙◌, cond, codes, decimal, encode_utf8_all}
 use Rattle.std.specs.List.{list_all}
 use Rattle.std.proofs.lemmas.Bool.{and_parts, and_from}
 use Rattle.std.proofs.lemmas.List.Folds.{list_all-append}
@@ -25,14 +25,16 @@ use Rattle.zs_events.specs.declared.update.PushBody.{PushBody}
 use Rattle.zs_events.specs.declared.update.PushBody.TheVariants.{Put, Delete}
 use Rattle.zs_events.specs.Kinds.{is_nothing}
 use Rattle.zs_parts.specs.Symbols.{names_nothing}
+use Rattle.zs_parts.specs.Options.{is_default, named_encoding}
 use Rattle.zs_printing.specs.Words.{flag_digit, complete_word, target_word, consolidation_word, bytes_text, wire_text, timestamp_text, entity_text, source_text}
 use Rattle.zs_printing.specs.Pieces.{field_if, encoding_field, written}
 use Rattle.zs_script.specs.Plain.{is_plain, is_plain_text}
-use Rattle.zs_parts.specs.Parts.{Part, number, locality, background_kind, parent, complete, history, key, selector, wire, wire_if, payload, push_body, parameters, target, consolidation, timeout, value, encoding, timestamp, qos, reliable, quality, reply_quality, source, attachment, responder, any_key, cancellation_token, interest, channel, handed_to, channel_kind, Value}
+use Rattle.zs_parts.specs.Parts.{Part, number, locality, background_kind, parent, complete, history, key, selector, wire, wire_if, payload, push_body, own_body, parameters, target, consolidation, timeout, value, encoding, timestamp, qos, reliable, quality, reply_quality, source, attachment, responder, any_key, cancellation_token, interest, channel, handed_to, channel_kind, Value, unnamed}
 use Rattle.zs_script.proofs.PlainTexts.{plain-append, decimal-plain, bytes-plain}
 use Rattle.zs_script.proofs.PlainPieces.{congestion-plain, flag-plain, target-plain, consolidation-plain, complete-plain, wire-plain, timestamp-plain, entity-plain, source-plain, one, one-if, parameters-plain}
-use Rattle.zs_event_lines.specs.Shown.{unless, locality_word, background_word, parent_word, history_word, suffix_text, key_text, question_text, selector_text, is_best, is_auto, is_congestion, is_default, encoding_fields, priority_field, congestion_field, express_field, reliable_fields, qos_fields, reply_quality_fields, body_fields, query_value_fields, channel_text, is_print, shown}
+use Rattle.zs_event_lines.specs.Shown.{unless, locality_word, background_word, parent_word, history_word, suffix_text, key_text, question_text, selector_text, is_best, is_auto, is_congestion, encoding_fields, priority_field, congestion_field, express_field, reliable_fields, qos_fields, reply_quality_fields, body_fields, query_value_fields, channel_text, is_print, shown}
 use Rattle.zs_event_lines.specs.Sayable.{if_there, says_key, says_encoding, says_wire, says_body, says, has_no_question}
+use Rattle.zs_event_lines.proofs.PartsBack.{other-there}
 
 locality-plain : (l : Locality) → is_plain (locality_word l) ≡ true
 locality-plain Any = refl
@@ -86,9 +88,9 @@ wire-if-plain : (w : Option WireExpr) → if_there says_wire w ≡ true → list
 wire-if-plain None h = refl
 wire-if-plain (Some w) h = one (wire_text w) (wire-plain w (and_parts (not (names_nothing w)) _ h).1)
 
-named-plain : (text : Option (List ℕ)) → if_there is_plain_text text ≡ true → list_all is_plain (field_if encoding_field text) ≡ true
+named-plain : (text : Option (List ℕ)) → if_there says_encoding text ≡ true → list_all is_plain (field_if encoding_field text) ≡ true
 named-plain None h = refl
-named-plain (Some text) h = one (encode_utf8_all text) h
+named-plain (Some text) h = one (encode_utf8_all text) (and_parts (not (is_nothing text)) _ h).1
 
 encoding-plain : (text : List ℕ) → says_encoding text ≡ true → list_all is_plain (encoding_fields text) ≡ true
 encoding-plain text h = go (is_default text)
@@ -102,6 +104,13 @@ body-plain put_kind (Put bytes text) h = and_from _ _ (bytes-plain bytes) (named
 body-plain put_kind Delete h = refl
 body-plain delete_kind (Put bytes text) h = cc
 body-plain delete_kind Delete h = refl
+
+own-plain : (kind : SampleKind) (body : PushBody) → says_body kind body ≡ true → list_all is_plain (body_fields (unnamed body)) ≡ true
+own-plain put_kind (Put bytes text) h =
+    and_from _ _ (bytes-plain bytes) (named-plain (option_and_then named_encoding text) (other-there says_encoding text h))
+own-plain put_kind Delete h = refl
+own-plain delete_kind (Put bytes text) h = cc
+own-plain delete_kind Delete h = refl
 
 value-plain : (v : Option QueryValue) → if_there (λ w. says_encoding w.encoding) v ≡ true → list_all is_plain (query_value_fields v) ≡ true
 value-plain None h = refl
@@ -143,6 +152,7 @@ plain wire w h = one (wire_text w) (wire-plain w h)
 plain wire_if w h = wire-if-plain w h
 plain payload bytes h = one (bytes_text bytes) (bytes-plain bytes)
 plain (push_body kind) body h = body-plain kind body h
+plain (own_body kind) body h = own-plain kind body h
 plain parameters text h = parameters-plain (encode_utf8_all text) h
 plain target v h = unless-plain (is_best v) (codes "target=" ++ target_word v) (target-plain v)
 plain consolidation v h = unless-plain (is_auto v) (codes "cons=" ++ consolidation_word v) (consolidation-plain v)

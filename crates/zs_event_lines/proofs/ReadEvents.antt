@@ -17,7 +17,7 @@ use Rattle.zs_events.specs.declared.update.PushBody.TheVariants.{Put, Delete}
 use Rattle.zs_lines.specs.Lines.{fields}
 use Rattle.zs_parts.specs.Symbols.{u32_max, u64_max, entity_kind_of}
 use Rattle.zs_script.specs.Plain.{has_no_line_feed}
-use Rattle.zs_parts.specs.Parts.{Part, Maker, locality, key, number, push_body, channel_kind, read, form}
+use Rattle.zs_parts.specs.Parts.{Part, Maker, locality, key, number, push_body, own_body, channel_kind, read, form}
 use Rattle.zs_grammar.specs.Grammar.{declare_of, key_parts, number_parts, sub_parts, sub_of, pub_parts, pub_made, pub_of, queryable_parts, queryable_of, querier_parts, querier_made, querier_of, token_of, lsub_parts, lsub_of, parent_parts, listen_of, status_of, undeclare_entity_of, undeclared_by, undeclare_of, background_parts, background_of, publish_parts, publish_made, publish_of, publish_by_parts, publish_by_made, publish_by_of, cancel_token_of, cancel_of, get_parts, get_made, get_of, querier_get_parts, querier_get_made, querier_get_of, liveliness_get_parts, liveliness_get_of, recv_of, reply_parts, reply_made, reply_of, reply_error_parts, reply_error_made, reply_error_of, share_of, finish_of, tick_of, close_of, message_of, net_of, core_by, event_by, event_of_fields, event_of}
 use Rattle.zs_script.proofs.PlainTexts.{fields-plain}
 use Rattle.zs_script.proofs.PlainSymbols.{on-map, on-then, on-any, on-choice, fields-utf8, both-texts}
@@ -118,7 +118,7 @@ unfolding says
 publish-line kind (where_to, (k, (what, rest))) s t =
     let first = and_parts (says locality where_to) _ s in
     let second = and_parts (says key k) _ first.1 in
-    let third = and_parts (says (push_body kind) what) _ second.1 in
+    let third = and_parts (says (own_body kind) what) _ second.1 in
     subst (λ c. (slots_say (slots_of (publish_parts c) (where_to, (k, (what, rest)))) ≡ true)
     × (slots_are_typed (slots_of (publish_parts c) (where_to, (k, (what, rest)))) ≡ true)) (sym (kind-is kind what third.0)) (s, t)
 
@@ -145,7 +145,7 @@ unfolding says
 reply-line kind (n, (k, (what, rest))) s t =
     let first = and_parts (says (number u32_max) n) _ s in
     let second = and_parts (says key k) _ first.1 in
-    let third = and_parts (says (push_body kind) what) _ second.1 in
+    let third = and_parts (says (own_body kind) what) _ second.1 in
     subst (λ c. (slots_say (slots_of (reply_parts c) (n, (k, (what, rest)))) ≡ true)
     × (slots_are_typed (slots_of (reply_parts c) (n, (k, (what, rest)))) ≡ true)) (sym (kind-is kind what third.0)) (s, t)
 

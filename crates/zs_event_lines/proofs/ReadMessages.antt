@@ -19,13 +19,12 @@ use Rattle.zs_events.specs.declared.update.Update.{Update}
 use Rattle.zs_events.specs.Updates.{body_by}
 use Rattle.zs_events.specs.Kinds.{is_nothing}
 use Rattle.zs_parts.specs.Symbols.{u16_max, u32_max, u64_max}
-use Rattle.zs_script.specs.Plain.{is_plain_text}
 use Rattle.zs_parts.specs.Parts.{Part, Maker, wire, number, push_body, read, form}
 use Rattle.zs_grammar.specs.Grammar.{by_word, update_of, number_parts, numbered_wire_parts, net_queryable_parts, net_token_parts, net_untoken_parts, declare_final_parts, push_parts, push_made, push_value_of, push_by, push_of, request_timeout, request_parts, request_made, response_parts, response_made, response_value_of, response_error_parts, response_error_made, response_error_of, response_by, response_on, response_of, key_expr_of, unkey_expr_of, net_sub_of, net_unsub_of, net_queryable_of, net_unqueryable_of, net_token_of, net_untoken_of, declare_final_of, request_of, response_final_of, net_close_of, message_by, message_of}
 use Rattle.zs_script.proofs.PlainSymbols.{on-then, on-choice}
 use Rattle.zs_script.proofs.PlainParts.{AreTexts}
-use Rattle.zs_event_lines.specs.Shown.{is_default, named_encoding}
-use Rattle.zs_event_lines.specs.Sayable.{if_there, says, says_body, is_typed, is_body, is_wire, are_bytes, kept, gathered, gathered_push}
+use Rattle.zs_parts.specs.Options.{is_default, named_encoding}
+use Rattle.zs_event_lines.specs.Sayable.{if_there, says, says_body, says_encoding, is_typed, is_body, is_wire, are_bytes, kept, gathered, gathered_push}
 use Rattle.zs_event_lines.specs.Slots.{Slot, slots_say, slots_are_typed, Values, slots_of, remade}
 use Rattle.zs_event_lines.specs.Lines.{told_as, is_said_body, push_slots, push_line, named_timeout, reply_slots, answered_line, message_line, gathered_body, gathered_message}
 use Rattle.zs_event_lines.proofs.ReadSymbols.{weaken, IsEncoding, encoding-said}
@@ -67,9 +66,9 @@ record IsTold (kind : SampleKind) (body : Body) : Type 0 where
   pub is : is_said_body kind body ≡ true
   pub told : IsUpdate kind (told_as kind body)
 
-encoded-as : (text : Option (List ℕ)) → if_there is_plain_text text ≡ true → if_there all_scalars text ≡ true → IsEncoding (encoding_of (unwrap_or text []))
+encoded-as : (text : Option (List ℕ)) → if_there says_encoding text ≡ true → if_there all_scalars text ≡ true → IsEncoding (encoding_of (unwrap_or text []))
 encoded-as None h k = encoding-said [] refl refl
-encoded-as (Some text) h k = encoding-said text h k
+encoded-as (Some text) h k = encoding-said text (and_parts (not (is_nothing text)) _ h).1 k
 
 named-if : (test : List ℕ → Bool) (text : List ℕ) → test text ≡ true → if_there test (named_encoding text) ≡ true
 named-if test text h = go (is_default text)
@@ -87,7 +86,7 @@ body-told put_kind (Put bytes text) update h =
     let parts = and_parts (not (is_nothing name)) _ enc.0 in record {
       same = refl;
       is = parts.0;
-      told = (named-if is_plain_text name parts.1, and_from _ _ typed.0 (named-if all_scalars name enc.1));
+      told = (named-if says_encoding name enc.0, and_from _ _ typed.0 (named-if all_scalars name enc.1));
     }
 body-told put_kind Delete update h = cc h.0
 body-told delete_kind (Put bytes text) update h = cc h.0

@@ -1,9 +1,9 @@
 -- What each part of a line is read as can be said, is as its type says, and comes back the same.
-use Rattle.std.proofs.Common.{ℕ, ◌≡◌, Bool, true, false, nat_lt, List, [], ◌∷◌, Option, Some, None, IfSome, refl, ap, codes, cond, option_map, option_and_then}
+use Rattle.std.proofs.Common.{ℕ, ◌≡◌, Bool, true, false, nat_lt, List, [], ◌∷◌, Option, Some, None, IfSome, refl, ap, ◌∙◌, codes, cond, option_map, option_and_then}
 use Rattle.std.specs.Prelude.{nat_le}
 use Rattle.std.specs.List.{list_all}
 use Rattle.std.specs.Str.{all_scalars, chars}
-use Rattle.std.proofs.lemmas.Bool.{and_from}
+use Rattle.std.proofs.lemmas.Bool.{and_from, and_parts}
 use Rattle.zs_wire.specs.declared.body.Value.{Value as QueryValue}
 use Rattle.zs_wire.specs.declared.quality.CongestionControl.{CongestionControl}
 use Rattle.zs_wire.specs.declared.quality.CongestionControl.TheVariants.{Drop}
@@ -15,17 +15,17 @@ use Rattle.zs_wire.specs.declared.sample_kind.SampleKind.TheVariants.{Put as put
 use Rattle.zs_wire.specs.declared.wire_expr.WireExpr.{WireExpr}
 use Rattle.zs_events.specs.declared.chan.Chan.TheVariants.{Print}
 use Rattle.zs_events.specs.declared.update.PushBody.{PushBody}
-use Rattle.zs_events.specs.declared.update.PushBody.TheVariants.{Put}
+use Rattle.zs_events.specs.declared.update.PushBody.TheVariants.{Put, Delete}
 use Rattle.zs_events.specs.Updates.{default_encoding}
 use Rattle.zs_parts.specs.Symbols.{number_of, u32_max, u64_max, locality_of, background_kind_of, parent_of, complete_of, history_of, key_of, payload_of, wire_of, names_nothing, naming}
 use Rattle.zs_parts.specs.Options.{timestamp_of, entity_of, source_of, encoding_text_of, priority_of, congestion_of, flag_of, target_of, consolidation_of, any_key_of, value_of}
 use Rattle.zs_parts.specs.Channels.{channel_of}
-use Rattle.zs_script.specs.Plain.{is_plain_text}
-use Rattle.zs_parts.specs.Parts.{Part, number, locality, background_kind, parent, complete, history, key, selector, wire, wire_if, payload, push_body, parameters, target, consolidation, timeout, value, encoding, timestamp, qos, reliable, quality, reply_quality, source, attachment, responder, any_key, cancellation_token, interest, channel, handed_to, channel_kind, Value, first_of, behind, first_in, named_in, taken, option_in, maybe_in, named_wire_in, qos_in, quality_in, reply_quality_in, named_encoding_in, encoded, body_in, value_in, selector_of, read}
+use Rattle.zs_parts.specs.Parts.{Part, number, locality, background_kind, parent, complete, history, key, selector, wire, wire_if, payload, push_body, own_body, parameters, target, consolidation, timeout, value, encoding, timestamp, qos, reliable, quality, reply_quality, source, attachment, responder, any_key, cancellation_token, interest, channel, handed_to, channel_kind, Value, first_of, behind, first_in, named_in, taken, option_in, maybe_in, named_wire_in, qos_in, quality_in, reply_quality_in, named_encoding_in, encoded, body_in, unnamed, unnamed_in, own_body_in, value_in, selector_of, read}
 use Rattle.zs_script.proofs.PlainSymbols.{IsText, on-map, on-then, prefix-text}
 use Rattle.zs_script.proofs.PlainParts.{AreTexts}
-use Rattle.zs_event_lines.specs.Sayable.{if_there, says_wire, says_priority, says, is_wire, is_timestamp, is_entity, is_source, is_typed, kept}
+use Rattle.zs_event_lines.specs.Sayable.{if_there, says_encoding, says_wire, says_priority, says, is_wire, is_timestamp, is_entity, is_source, are_bytes, is_typed, gathered, kept}
 use Rattle.zs_event_lines.proofs.ReadSymbols.{weaken, on-all, number-small, IsPayload, payload-reads, chars-said, IsEncoding, default-said, encoding-reads, key-reads, selector-reads, IsWire, wire-reads, timestamp-reads, entity-reads, source-reads, priority-reads, IsChannel, channel-reads}
+use Rattle.zs_event_lines.proofs.PartsBack.{other-twice, other-there}
 
 -- a value that a line says
 abbrev pub IsSaid : (part : Part) → Value part → Type 0
@@ -95,12 +95,12 @@ maybe-typed name symbol test P small none some each fields h =
 
 -- what is put, with the encoding that it names
 abbrev IsNamed : Option (List ℕ) → Type 0
-IsNamed text = (if_there is_plain_text text ≡ true) × (if_there all_scalars text ≡ true)
+IsNamed text = (if_there says_encoding text ≡ true) × (if_there all_scalars text ≡ true)
 
 named-encoding-reads : (fields : List (List ℕ)) → AreTexts fields → Reads IsNamed (named_encoding_in fields)
 named-encoding-reads fields h =
-    maybe-reads (codes "enc=") (λ text. Some (chars text)) (λ text. (is_plain_text text ≡ true) × (all_scalars text ≡ true)) IsNamed refl
-    (refl, refl) (λ text k. k) chars-said fields h
+    maybe-reads (codes "enc=") encoding_text_of (λ text. (says_encoding text ≡ true) × (all_scalars text ≡ true)) IsNamed refl
+    (refl, refl) (λ text k. k) encoding-reads fields h
 
 put-reads : (found : List (List ℕ) × List (List ℕ)) → Reads IsPayload found
     → Reads (IsSaid (push_body put_kind)) (encoded found.0 (named_encoding_in found.1))
@@ -118,6 +118,26 @@ body-reads put_kind fields h =
     (Reads IsPayload) (Reads (IsSaid (push_body put_kind))) put-reads (first_in payload_of fields)
     (first-reads payload_of IsPayload (λ field _. payload-reads field) fields h)
 body-reads delete_kind fields h = ((refl, (refl, refl)), h)
+
+unnamed-said : (kind : SampleKind) (body : PushBody) → IsSaid (push_body kind) body → IsSaid (own_body kind) (unnamed body)
+unfolding says is_typed kept
+unnamed-said put_kind (Put bytes text) k =
+    let typed = and_parts (are_bytes bytes) _ k.1.0 in (
+      other-there says_encoding text k.0,
+      (
+        and_from _ _ typed.0 (other-there all_scalars text typed.1),
+        ap (λ (o : Option (List ℕ)). Put (gathered bytes) o) (other-twice text) ∙ ap unnamed k.1.1,
+      ),
+    )
+unnamed-said put_kind Delete k = cc k.0
+unnamed-said delete_kind (Put bytes text) k = cc k.0
+unnamed-said delete_kind Delete k = (refl, (refl, refl))
+
+own-body-reads : (kind : SampleKind) (fields : List (List ℕ)) → AreTexts fields
+    → IfSome {T = PushBody × List (List ℕ)} (own_body_in kind fields) (Reads (IsSaid (own_body kind)))
+own-body-reads kind fields h =
+    on-map {A = PushBody × List (List ℕ)} {B = PushBody × List (List ℕ)} unnamed_in (Reads (IsSaid (push_body kind)))
+    (Reads (IsSaid (own_body kind))) (λ found k. (unnamed-said kind found.0 k.0, k.1)) (body_in kind fields) (body-reads kind fields h)
 
 -- wire expressions that may be left out
 abbrev IsWireIf : Option WireExpr → Type 0
@@ -221,6 +241,7 @@ reads payload own fields h =
     first-reads payload_of (IsSaid payload)
     (λ field _. weaken IsPayload (IsSaid payload) (λ bytes said. (refl, said)) (payload_of field) (payload-reads field)) fields h
 reads (push_body kind) own fields h = body-reads kind fields h
+reads (own_body kind) own fields h = own-body-reads kind fields h
 reads parameters own fields h =
     option-reads (codes "params=") (λ text. Some (chars text)) [] (IsSaid parameters) refl (refl, (refl, refl))
     (λ text k. let said = chars-said text k in (said.0, (said.1, refl))) fields h

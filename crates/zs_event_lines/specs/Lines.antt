@@ -25,7 +25,9 @@ use Rattle.zs_parts.specs.Symbols.{u16_max, u32_max, u64_max}
 use Rattle.zs_printing.specs.Words.{sample_word}
 use Rattle.zs_parts.specs.Parts.{Part, wire, number}
 use Rattle.zs_grammar.specs.Grammar.{key_parts, number_parts, sub_parts, pub_parts, queryable_parts, querier_parts, lsub_parts, parent_parts, background_parts, publish_parts, publish_by_parts, get_parts, querier_get_parts, liveliness_get_parts, reply_parts, reply_error_parts, numbered_wire_parts, net_queryable_parts, net_token_parts, net_untoken_parts, declare_final_parts, push_parts, request_timeout, request_parts, response_parts, response_error_parts}
-use Rattle.zs_event_lines.specs.Shown.{is_default, named_encoding, entity_word}
+use Rattle.zs_parts.specs.Options.{is_default, named_encoding}
+use Rattle.zs_parts.specs.Parts.{unnamed}
+use Rattle.zs_event_lines.specs.Shown.{entity_word}
 use Rattle.zs_event_lines.specs.Sayable.{gathered, gathered_push, gathered_value}
 use Rattle.zs_event_lines.specs.Slots.{Slot, at, said, Values, slots_of, Line}
 
@@ -164,6 +166,11 @@ abbrev pub gathered_update : Update → Update
 gathered_update u =
     record { body = gathered_push u.body; timestamp = u.timestamp; source = u.source; attachment = option_map gathered u.attachment }
 
+-- and to name the default encoding is to name none
+abbrev pub gathered_own : Update → Update
+gathered_own u =
+    record { body = unnamed (gathered_push u.body); timestamp = u.timestamp; source = u.source; attachment = option_map gathered u.attachment }
+
 abbrev pub gathered_inquiry : Inquiry → Inquiry
 gathered_inquiry i = record {
   parameters = i.parameters;
@@ -209,13 +216,13 @@ gathered_message (response_message r) =
     response_message (record { rid = r.rid; wire = r.wire; answered = gathered_answer r.answered; qos = r.qos; responder = r.responder })
 gathered_message message = message
 
--- the event that comes back of one that was printed: the same, with its payloads in one slice each
+-- the event that comes back of one that was printed: the same, with its payloads in one slice each, and no name for the default encoding
 abbrev pub gathered_event : Event → Event
-gathered_event (Publish destination k u q) = Publish destination k (gathered_update u) q
+gathered_event (Publish destination k u q) = Publish destination k (gathered_own u) q
 gathered_event (PublishBy id u) = PublishBy id (gathered_update u)
 gathered_event (Get k s i to) = Get k s (gathered_inquiry i) to
 gathered_event (QuerierGet id i to) = QuerierGet id (gathered_inquiry i) to
-gathered_event (reply_event id k u q) = reply_event id k (gathered_update u) q
+gathered_event (reply_event id k u q) = reply_event id k (gathered_own u) q
 gathered_event (ReplyErr id v) = ReplyErr id (gathered_value v)
 gathered_event (Net message) = Net (gathered_message message)
 gathered_event event = event

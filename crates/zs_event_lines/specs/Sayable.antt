@@ -19,7 +19,7 @@ use Rattle.zs_events.specs.declared.update.PushBody.TheVariants.{Put, Delete}
 use Rattle.zs_events.specs.Kinds.{is_nothing}
 use Rattle.zs_parts.specs.Symbols.{u16_max, u32_max, u64_max, numbered_of, names_nothing}
 use Rattle.zs_script.specs.Plain.{is_plain_text}
-use Rattle.zs_parts.specs.Parts.{Part, number, key, selector, wire, wire_if, payload, push_body, parameters, timeout, value, encoding, timestamp, qos, quality, reply_quality, source, attachment, responder, cancellation_token, interest, channel, handed_to, channel_kind, Value}
+use Rattle.zs_parts.specs.Parts.{Part, number, key, selector, wire, wire_if, payload, push_body, own_body, parameters, timeout, value, encoding, timestamp, qos, quality, reply_quality, source, attachment, responder, cancellation_token, interest, channel, handed_to, channel_kind, Value, unnamed}
 
 -- whether there is none
 abbrev pub is_missing : {A : Type 0} → Option A → Bool
@@ -53,7 +53,7 @@ says_wire w = not (names_nothing w) && is_plain_text w.suffix
 
 -- what is put or deleted, as that kind of line says it
 abbrev pub says_body : SampleKind → PushBody → Bool
-says_body put_kind (Put bytes text) = if_there is_plain_text text
+says_body put_kind (Put bytes text) = if_there says_encoding text
 says_body put_kind Delete = false
 says_body delete_kind (Put bytes text) = false
 says_body delete_kind Delete = true
@@ -75,6 +75,7 @@ says selector s = says_key s.0 && (has_no_question s.0 && is_plain_text s.1)
 says wire w = is_plain_text w.suffix
 says wire_if w = if_there says_wire w
 says (push_body kind) body = says_body kind body
+says (own_body kind) body = says_body kind body
 says parameters text = is_plain_text text
 says value v = if_there (λ w. says_encoding w.encoding) v
 says encoding text = says_encoding text
@@ -124,6 +125,7 @@ is_typed wire w = is_wire w
 is_typed wire_if w = if_there is_wire w
 is_typed payload bytes = are_bytes bytes
 is_typed (push_body kind) body = is_body body
+is_typed (own_body kind) body = is_body body
 is_typed parameters text = all_scalars text
 is_typed timeout time = if_there (λ n. nat_le n u64_max) time
 is_typed value v = if_there (λ w. are_bytes w.payload && all_scalars w.encoding) v
@@ -151,6 +153,7 @@ gathered_value v = record { payload = gathered v.payload; encoding = v.encoding 
 unfoldable pub kept : (part : Part) → Value part → Value part
 kept payload bytes = gathered bytes
 kept (push_body kind) body = gathered_push body
+kept (own_body kind) body = unnamed (gathered_push body)
 kept value v = option_map gathered_value v
 kept attachment bytes = option_map gathered bytes
 kept part v = v

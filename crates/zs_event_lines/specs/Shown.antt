@@ -1,6 +1,5 @@
 -- How the parts of script lines are printed: an option only where its value is not what its absence gives.
-use Rattle.std.specs.Prelude.{ℕ, ◌==◌, Bool, true, false, not, List, [], ◌∷◌, ◌++◌, Option, Some, None, codes, decimal, encode_utf8_all, if◌then◌else◌}
-use Rattle.std.specs.Str.{bytes_eq}
+use Rattle.std.specs.Prelude.{ℕ, ◌==◌, Bool, true, false, not, List, [], ◌∷◌, ◌++◌, Option, Some, None, codes, decimal, encode_utf8_all}
 use Rattle.zs_sample.specs.declared.locality.Locality.{Locality}
 use Rattle.zs_sample.specs.declared.locality.Locality.TheVariants.{SessionLocal, Remote, Any}
 use Rattle.zs_wire.specs.declared.body.Value.{Value as QueryValue}
@@ -25,10 +24,10 @@ use Rattle.zs_events.specs.declared.publication.PublicationQuality.{PublicationQ
 use Rattle.zs_events.specs.declared.publication.ReplyQuality.{ReplyQuality}
 use Rattle.zs_events.specs.declared.update.PushBody.{PushBody}
 use Rattle.zs_events.specs.declared.update.PushBody.TheVariants.{Put, Delete}
-use Rattle.zs_events.specs.Updates.{default_encoding}
+use Rattle.zs_parts.specs.Options.{named_encoding}
 use Rattle.zs_printing.specs.Words.{congestion_word, flag_digit, complete_word, target_word, consolidation_word, bytes_text, wire_text}
 use Rattle.zs_printing.specs.Pieces.{named, field_if, parameter_fields, encoding_field, payload_field, written, timestamp as timestamp_piece, source as source_piece, attachment as attachment_piece, responder as responder_piece, interest as interest_piece}
-use Rattle.zs_parts.specs.Parts.{Part, number, locality, background_kind, parent, complete, history, key, selector, wire, wire_if, payload, push_body, parameters, target, consolidation, timeout, value, encoding, timestamp, qos, reliable, quality, reply_quality, source, attachment, responder, any_key, cancellation_token, interest, channel, handed_to, channel_kind, Value}
+use Rattle.zs_parts.specs.Parts.{Part, number, locality, background_kind, parent, complete, history, key, selector, wire, wire_if, payload, push_body, own_body, parameters, target, consolidation, timeout, value, encoding, timestamp, qos, reliable, quality, reply_quality, source, attachment, responder, any_key, cancellation_token, interest, channel, handed_to, channel_kind, Value, unnamed}
 
 -- no field where that holds, else this one
 abbrev pub unless : Bool → List ℕ → List (List ℕ)
@@ -105,13 +104,7 @@ is_congestion Drop Block = false
 is_congestion Block Drop = false
 is_congestion Block Block = true
 
-abbrev pub is_default : List ℕ → Bool
-is_default text = bytes_eq (encode_utf8_all text) default_encoding
-
 -- an encoding, unless it is the default one
-abbrev pub named_encoding : List ℕ → Option (List ℕ)
-named_encoding text = if is_default text then None else Some text
-
 abbrev pub encoding_fields : List ℕ → List (List ℕ)
 encoding_fields text = field_if encoding_field (named_encoding text)
 
@@ -176,6 +169,7 @@ shown wire w = wire_text w ∷ []
 shown wire_if w = field_if wire_text w
 shown payload bytes = bytes_text bytes ∷ []
 shown (push_body kind) body = body_fields body
+shown (own_body kind) body = body_fields (unnamed body)
 shown parameters text = parameter_fields (encode_utf8_all text)
 shown target t = unless (is_best t) (named (codes "target=") (target_word t))
 shown consolidation mode = unless (is_auto mode) (named (codes "cons=") (consolidation_word mode))

@@ -1,11 +1,11 @@
 -- What the code's parts are to the definitions.
 use Rattle.std.specs.Prelude.{Bool, true, false}
 use Rattle.zs_parts.specs.Symbols.{u16_max, u32_max, u64_max}
-use Rattle.zs_parts.specs.Parts.{number, locality, background_kind, parent, complete, history, key, selector, wire, wire_if, payload, push_body, parameters, target, consolidation, timeout, value, encoding, timestamp, qos, reliable, quality, reply_quality, source, attachment, responder, any_key, cancellation_token, interest, channel, handed_to}
+use Rattle.zs_parts.specs.Parts.{number, locality, background_kind, parent, complete, history, key, selector, wire, wire_if, payload, push_body, own_body, parameters, target, consolidation, timeout, value, encoding, timestamp, qos, reliable, quality, reply_quality, source, attachment, responder, any_key, cancellation_token, interest, channel, handed_to}
 use Rattle.zs_event_lines.specs.Slots.{Slot, at, said}
 use Rattle.zs_event_lines.specs.Lines.{body_kind, told_as}
 use Rattle.zs_event_lines.specs.declared.shown.Shown.{Shown}
-use Rattle.zs_event_lines.specs.declared.shown.Shown.TheVariants.{Said, Number, KeyNumber, Moment, Locality, Background, Parent, Complete, History, Key, Selector, Wire, WireIf, Payload, Update, Body as message_body, Parameters, Target, Consolidation, Timeout, Value, Encoding, Timestamp, QoS, Reliable, Quality, ReplyQuality, Source, Attachment, Responder, AnyKey, CancellationToken, Interest, Channel, HandedTo}
+use Rattle.zs_event_lines.specs.declared.shown.Shown.TheVariants.{Said, Number, KeyNumber, Moment, Locality, Background, Parent, Complete, History, Key, Selector, Wire, WireIf, Payload, Update, OwnUpdate, Body as message_body, Parameters, Target, Consolidation, Timeout, Value, Encoding, Timestamp, QoS, Reliable, Quality, ReplyQuality, Source, Attachment, Responder, AnyKey, CancellationToken, Interest, Channel, HandedTo}
 
 -- the part with its value
 abbrev pub slot_of : Shown → Slot
@@ -24,6 +24,7 @@ slot_of (Wire w) = at wire w.now
 slot_of (WireIf w) = at wire_if w.now
 slot_of (Payload bytes) = at payload bytes.now
 slot_of (Update body) = at (push_body (body_kind body.now)) body.now
+slot_of (OwnUpdate body) = at (own_body (body_kind body.now)) body.now
 slot_of (message_body body) = at (push_body body.now.kind) (told_as body.now.kind body.now)
 slot_of (Parameters text) = at parameters text.now
 slot_of (Target t) = at target t

@@ -26,10 +26,11 @@ use zs_events::Event;
 /// The line of an event, without its line feed. An option stands in it only where its value is not what its absence says.
 /// There is none where no line says the event: where a text has a tab or a line feed, or a key's text the form of a
 /// declared number; where a key is given with its declaration; where a get's key has a question mark; where the
-/// encoding of something that was sent is empty, or a priority is outside its range, or a channel's size; where a
+/// encoding is empty, or a priority is outside its range, or a channel's size; where a
 /// message deletes with a payload, or ends a token with a key that names nothing; and of interests.
 ///
-/// The line is read as the event, with the bytes of each payload in one slice.
+/// The line is read as the event, with the bytes of each payload in one slice. A put or a reply that names the default
+/// encoding is read as one that names none, which says the same.
 pub fn print_event(alloc: Global, event: &Event) -> Result<Option<String>, AllocError>
     ensures line { IfOk result (λ found. option_map string_bytes found ≡ printed (line_of event.now)) }
     ensures one { IfOk result (λ found. IfSome found (λ text. has_no_line_feed (string_bytes text) ≡ true)) }

@@ -1,10 +1,12 @@
 //! The fields of parts, each put behind a text and behind a tab.
 
-ghost use Rattle.std.specs.Prelude.{◌≡◌, ◌==◌, ◌∷◌, ◌++◌, OnOk, decimal, encode_utf8_all};
+ghost use Rattle.std.specs.Prelude.{◌≡◌, ◌==◌, ◌∷◌, ◌++◌, OnOk, decimal, encode_utf8_all, option_and_then};
 ghost use Rattle.std.specs.String.{string_bytes};
 ghost use Rattle.zs_printing.specs.Words.{bytes_text, wire_text};
 ghost use Rattle.zs_printing.specs.Pieces.{tabs, field_if, encoding_field};
-ghost use Rattle.zs_event_lines.specs.Shown.{unless, key_text, suffix_text, selector_text, question_text, is_congestion, named_encoding, body_fields, priority_field, congestion_field, express_field, qos_fields, quality_fields, reply_quality_fields};
+ghost use Rattle.zs_event_lines.specs.Shown.{unless, key_text, suffix_text, selector_text, question_text, is_congestion, body_fields, priority_field, congestion_field, express_field, qos_fields, quality_fields, reply_quality_fields};
+ghost use Rattle.zs_parts.specs.Options.{named_encoding};
+ghost use Rattle.zs_parts.specs.Parts.{unnamed};
 ghost use Rattle.zs_event_lines.specs.Lines.{told_as};
 ghost use Rattle.zs_event_lines.specs.Slots.{slot_text};
 ghost use Rattle.zs_event_lines.specs.Views.{slot_of};
@@ -39,6 +41,7 @@ pub(crate) fn append_shown(out: &mut String, shown: Shown<'_>) -> Result<(), All
         Shown::Wire(wire) => append_wire(out, wire),
         Shown::Payload(bytes) => append_payload(out, bytes),
         Shown::Update(body) => append_update(out, body),
+        Shown::OwnUpdate(body) => append_own_update(out, body),
         Shown::Body(body) => append_body(out, body),
         Shown::QoS(_, absent, qos) => append_qos(out, absent, qos),
         Shown::Reliable(flag) => append_unless(out, flag, "rel=", flag_digit(flag)),
@@ -158,6 +161,28 @@ fn append_update(out: &mut String, body: &PushBody) -> Result<(), AllocError>
     };
     append_payload(out, payload)?;
     append_encoding_if(out, encoding)
+}
+
+#[tactic(auto, using(crate::proofs::Joining::joining))]
+fn append_own_update(out: &mut String, body: &PushBody) -> Result<(), AllocError>
+    ensures { OnOk result (string_bytes out.new ≡ string_bytes out.old ++ tabs (body_fields (unnamed body.now))) }
+{
+    let PushBody::Put { payload, encoding } = body else {
+        return Ok(());
+    };
+    append_payload(out, payload)?;
+    append_other_encoding(out, encoding)
+}
+
+/// An encoding that is named, unless it is the default one.
+fn append_other_encoding(out: &mut String, text: &Option<Text>) -> Result<(), AllocError>
+    ensures { OnOk result (string_bytes out.new
+        ≡ string_bytes out.old ++ tabs (field_if encoding_field (option_and_then named_encoding text.now))) }
+{
+    match text {
+        Some(text) => append_encoding(out, text),
+        None => Ok(()),
+    }
 }
 
 /// An encoding that is named.

@@ -11,8 +11,8 @@ ghost use Rattle.zs_event_lines.specs.Lines.{named_timeout, is_said_body, messag
 
 use crate::lines::append_line;
 use crate::shown::Shown;
-use crate::words::is_default;
 use std::alloc::AllocError;
+use zs_parts::is_default;
 use zs_sample::SampleKind;
 use zs_script::words::sample_word;
 use zs_wire::{

@@ -5,15 +5,17 @@ ghost use Rattle.std.specs.Prelude.{◌≡◌, ◌++◌, OnOk, true, codes, deci
 ghost use Rattle.std.specs.String.{string_bytes};
 ghost use Rattle.zs_printing.specs.Words.{wire_text, target_word, consolidation_word};
 ghost use Rattle.zs_printing.specs.Pieces.{tabs, field_if, parameter_fields, encoding_field};
-ghost use Rattle.zs_event_lines.specs.Shown.{unless, is_best, is_auto, named_encoding, query_value_fields, channel_text, is_print};
+ghost use Rattle.zs_parts.specs.Options.{named_encoding};
+ghost use Rattle.zs_event_lines.specs.Shown.{unless, is_best, is_auto, query_value_fields, channel_text, is_print};
 ghost use Rattle.zs_event_lines.specs.Slots.{slot_text};
 ghost use Rattle.zs_event_lines.specs.Views.{slot_of, is_option};
 
 use crate::fields::{append_named, append_unless, append_wire};
 use crate::shown::Shown;
-use crate::words::{is_auto, is_best, is_default};
+use crate::words::{is_auto, is_best};
 use std::alloc::AllocError;
 use zs_events::Chan;
+use zs_parts::is_default;
 use zs_sample::{ConsolidationMode, QueryTarget, Text};
 use zs_script::append_bytes;
 use zs_script::piece_printing::{

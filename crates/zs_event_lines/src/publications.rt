@@ -64,7 +64,7 @@ pub(crate) fn append_publish<'a>(
         &[
             Shown::Locality(destination),
             Shown::Key(key),
-            Shown::Update(&update.body),
+            Shown::OwnUpdate(&update.body),
             Shown::Timestamp(update.timestamp),
             Shown::Quality(quality),
             Shown::Source(update.source),
@@ -133,7 +133,7 @@ pub(crate) fn append_reply<'a>(
         &[
             Shown::Number(value),
             Shown::Key(key),
-            Shown::Update(&update.body),
+            Shown::OwnUpdate(&update.body),
             Shown::Timestamp(update.timestamp),
             Shown::ReplyQuality(quality),
             Shown::Source(update.source),

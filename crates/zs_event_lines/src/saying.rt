@@ -9,8 +9,8 @@ ghost use Rattle.zs_event_lines.specs.Views.{slot_of};
 
 use crate::shown::Shown;
 use crate::texts::{has_no_question, is_plain_text, is_unnumbered, says_encoding};
-use crate::words::is_default;
 use zs_events::{Chan, KeyArg, PushBody};
+use zs_parts::is_default;
 use zs_sample::{SampleKind, Text};
 use zs_wire::{Body, Value, WireExpr};
 
@@ -25,6 +25,7 @@ pub(crate) fn says(shown: Shown<'_>) -> bool
         Shown::Wire(wire) => is_plain_text(&wire.suffix),
         Shown::WireIf(wire) => says_wire_if(wire),
         Shown::Update(body) => says_update(body),
+        Shown::OwnUpdate(body) => says_update(body),
         Shown::Body(body) => says_body(body),
         Shown::Parameters(text) => is_plain_text(text),
         Shown::Value(value) => says_value(value),
@@ -85,16 +86,16 @@ fn says_update(body: &PushBody) -> bool
     ensures { result ≡ says_body (body_kind body.now) body.now }
 {
     match body {
-        PushBody::Put { encoding, .. } => says_text_if(encoding),
+        PushBody::Put { encoding, .. } => says_encoding_if(encoding),
         PushBody::Delete => true,
     }
 }
 
-fn says_text_if(text: &Option<Text>) -> bool
-    ensures { result ≡ if_there is_plain_text text.now }
+fn says_encoding_if(text: &Option<Text>) -> bool
+    ensures { result ≡ if_there says_encoding text.now }
 {
     match text {
-        Some(text) => is_plain_text(text),
+        Some(text) => says_encoding(text),
         None => true,
     }
 }
@@ -103,7 +104,7 @@ fn says_body(body: &Body) -> bool
     ensures { result ≡ says_body body.now.kind (told_as body.now.kind body.now) }
 {
     match body.kind {
-        SampleKind::Put => is_default(&body.encoding) || is_plain_text(&body.encoding),
+        SampleKind::Put => is_default(&body.encoding) || says_encoding(&body.encoding),
         SampleKind::Delete => true,
     }
 }

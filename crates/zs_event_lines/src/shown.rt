@@ -32,6 +32,8 @@ pub(crate) enum Shown<'a> {
     Payload(&'a ZBytes),
     /// What an application puts or deletes.
     Update(&'a PushBody),
+    /// The same where nobody else names an encoding.
+    OwnUpdate(&'a PushBody),
     /// What a message says to be put or deleted.
     Body(&'a Body),
     Parameters(&'a Text),

@@ -1,10 +1,10 @@
 //! The words that stand for values in the lines of events, and the values that stand for absent options.
 
 ghost use Rattle.std.specs.Prelude.{◌≡◌};
-ghost use Rattle.zs_event_lines.specs.Shown.{locality_word, entity_word, background_word, parent_word, history_word, is_best, is_auto, is_congestion, is_default};
+ghost use Rattle.zs_event_lines.specs.Shown.{locality_word, entity_word, background_word, parent_word, history_word, is_best, is_auto, is_congestion};
 
 use zs_events::{BackgroundKind, EntityKind, ParentKind};
-use zs_sample::{CongestionControl, ConsolidationMode, Locality, QueryTarget, Text};
+use zs_sample::{CongestionControl, ConsolidationMode, Locality, QueryTarget};
 
 /// The word for whose publications are taken, or who is handed them.
 pub(crate) fn locality_word(locality: Locality) -> &'static str
@@ -98,11 +98,4 @@ pub(crate) fn is_congestion(absent: CongestionControl, congestion: CongestionCon
             CongestionControl::Block => true,
         },
     }
-}
-
-/// Whether it is the encoding where none is named.
-pub(crate) fn is_default(encoding: &Text) -> bool
-    ensures { result ≡ is_default encoding.now }
-{
-    encoding.as_str() == "zenoh/bytes"
 }

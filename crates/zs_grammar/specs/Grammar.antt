@@ -28,7 +28,7 @@ use Rattle.zs_events.specs.declared.update.Update.{Update}
 use Rattle.zs_events.specs.Updates.{body_of}
 use Rattle.zs_lines.specs.Lines.{fields}
 use Rattle.zs_parts.specs.Symbols.{u16_max, u32_max, u64_max, entity_kind_of}
-use Rattle.zs_parts.specs.Parts.{number, locality, background_kind, parent, complete, history, key, selector, wire, wire_if, payload, push_body, parameters, target, consolidation, timeout, value, encoding, timestamp, qos, reliable, quality, reply_quality, source, attachment, responder, any_key, cancellation_token, interest, channel, handed_to, channel_kind, Part, Maker, read, form}
+use Rattle.zs_parts.specs.Parts.{number, locality, background_kind, parent, complete, history, key, selector, wire, wire_if, payload, push_body, own_body, parameters, target, consolidation, timeout, value, encoding, timestamp, qos, reliable, quality, reply_quality, source, attachment, responder, any_key, cancellation_token, interest, channel, handed_to, channel_kind, Part, Maker, read, form}
 
 -- what a choice by the first field makes of the fields behind it
 abbrev pub by_word : {A : Type 0} → (List ℕ → List (List ℕ) → Option A) → List (List ℕ) → Option A
@@ -136,7 +136,7 @@ background_of rest = form background_parts Background rest
 
 -- `put LOC KEY BYTES` or `delete LOC KEY`, and the options
 abbrev pub publish_parts : SampleKind → List Part
-publish_parts kind = locality ∷ key ∷ push_body kind ∷ timestamp ∷ quality ∷ source ∷ attachment ∷ []
+publish_parts kind = locality ∷ key ∷ own_body kind ∷ timestamp ∷ quality ∷ source ∷ attachment ∷ []
 
 abbrev pub publish_made : (kind : SampleKind) → Maker (publish_parts kind) Event
 publish_made kind where_to k what time how origin beside = Publish where_to k (update_of what time origin beside) how
@@ -198,7 +198,7 @@ recv_of rest = form (channel_kind ∷ number u32_max ∷ []) Recv rest
 
 -- `reply N KEY BYTES` or `replydel N KEY`, and the options: what is not given is as in the query
 abbrev pub reply_parts : SampleKind → List Part
-reply_parts kind = number u32_max ∷ key ∷ push_body kind ∷ timestamp ∷ reply_quality ∷ source ∷ attachment ∷ []
+reply_parts kind = number u32_max ∷ key ∷ own_body kind ∷ timestamp ∷ reply_quality ∷ source ∷ attachment ∷ []
 
 abbrev pub reply_made : (kind : SampleKind) → Maker (reply_parts kind) Event
 reply_made kind n k what time how origin beside = reply_event n k (update_of what time origin beside) how

@@ -44,7 +44,7 @@ pub(crate) fn parse_publish(
     let Some(key) = fields.key(alloc)? else {
         return Ok(None);
     };
-    let Some(body) = fields.push_body(alloc, kind)? else {
+    let Some(body) = fields.own_body(alloc, kind)? else {
         return Ok(None);
     };
     let timestamp = fields.timestamp();

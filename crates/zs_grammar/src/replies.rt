@@ -24,7 +24,7 @@ pub(crate) fn parse_reply(
     let Some(key) = fields.key(alloc)? else {
         return Ok(None);
     };
-    let Some(body) = fields.push_body(alloc, kind)? else {
+    let Some(body) = fields.own_body(alloc, kind)? else {
         return Ok(None);
     };
     let timestamp = fields.timestamp();

@@ -1,5 +1,5 @@
 -- The values of options, each read from the text behind its name.
-use Rattle.std.specs.Prelude.{ℕ, ◌+◌, nat_le, Bool, true, false, List, [], take, drop, Option, Some, None, option_map, option_and_then, codes, if◌then◌else◌}
+use Rattle.std.specs.Prelude.{ℕ, ◌+◌, nat_le, Bool, true, false, List, [], take, drop, Option, Some, None, option_map, option_and_then, codes, encode_utf8_all, if◌then◌else◌}
 use Rattle.std.specs.List.{position}
 use Rattle.std.specs.Str.{bytes_eq, chars}
 use Rattle.zs_sample.specs.Encoding.{encoding_of}
@@ -44,6 +44,14 @@ source_of field =
 -- an encoding: the empty text is the default
 abbrev pub encoding_text_of : List ℕ → Option (List ℕ)
 encoding_text_of field = Some (encoding_of (chars field))
+
+-- whether that is the default
+abbrev pub is_default : List ℕ → Bool
+is_default text = bytes_eq (encode_utf8_all text) default_encoding
+
+-- an encoding, unless it is the default one
+abbrev pub named_encoding : List ℕ → Option (List ℕ)
+named_encoding text = if is_default text then None else Some text
 
 -- a priority, from the least number that may stand there to 7
 abbrev pub at_least : ℕ → ℕ → Option ℕ

@@ -29,7 +29,7 @@ use Rattle.zs_events.specs.declared.update.PushBody.{PushBody}
 use Rattle.zs_events.specs.declared.update.PushBody.TheVariants.{Put, Delete}
 use Rattle.zs_events.specs.Updates.{default_encoding}
 use Rattle.zs_parts.specs.Symbols.{number_of, u32_max, u64_max, locality_of, background_kind_of, parent_of, complete_of, history_of, key_of, payload_of, after_prefix, wire_of, naming}
-use Rattle.zs_parts.specs.Options.{timestamp_of, entity_of, source_of, encoding_text_of, priority_of, congestion_of, flag_of, target_of, consolidation_of, any_key_of, value_of}
+use Rattle.zs_parts.specs.Options.{timestamp_of, entity_of, source_of, encoding_text_of, named_encoding, priority_of, congestion_of, flag_of, target_of, consolidation_of, any_key_of, value_of}
 use Rattle.zs_parts.specs.Channels.{channel_of, channel_kind_of}
 
 -- fields that have to be there, and then options, each with what it is where it is absent
@@ -47,6 +47,8 @@ pub data Part : Type 0 where
   payload : Part
   -- what is put, with the encoding that it names, or nothing to read where a value is deleted
   push_body : (kind : SampleKind) → Part
+  -- the same where nobody else names an encoding: to name the default one says no more than to name none
+  own_body : (kind : SampleKind) → Part
   -- options of queries
   parameters : Part
   target : Part
@@ -85,6 +87,7 @@ Value wire = WireExpr
 Value wire_if = Option WireExpr
 Value payload = List (List ℕ)
 Value (push_body kind) = PushBody
+Value (own_body kind) = PushBody
 Value parameters = List ℕ
 Value target = QueryTarget
 Value consolidation = ConsolidationMode
@@ -164,9 +167,9 @@ reply_quality_in fields =
     let express = maybe_in (codes "express=") flag_of congestion.1 in
     (record { priority = priority.0; congestion = congestion.0; express = express.0 }, express.1)
 
--- an encoding as it was named, if one was
+-- an encoding, if one is named
 abbrev pub named_encoding_in : List (List ℕ) → Option (List ℕ) × List (List ℕ)
-named_encoding_in fields = maybe_in (codes "enc=") (λ text. Some (chars text)) fields
+named_encoding_in fields = maybe_in (codes "enc=") encoding_text_of fields
 
 -- what is put: a payload, and the encoding that it names
 abbrev pub encoded : List (List ℕ) → Option (List ℕ) × List (List ℕ) → PushBody × List (List ℕ)
@@ -175,6 +178,17 @@ encoded bytes text = (Put bytes text.0, text.1)
 abbrev pub body_in : SampleKind → List (List ℕ) → Option (PushBody × List (List ℕ))
 body_in put_kind fields = option_map (λ found. encoded found.0 (named_encoding_in found.1)) (first_in payload_of fields)
 body_in delete_kind fields = Some (Delete, fields)
+
+-- what is put, where the default encoding is as good as none
+abbrev pub unnamed : PushBody → PushBody
+unnamed (Put bytes text) = Put bytes (option_and_then named_encoding text)
+unnamed Delete = Delete
+
+abbrev pub unnamed_in : PushBody × List (List ℕ) → PushBody × List (List ℕ)
+unnamed_in found = (unnamed found.0, found.1)
+
+abbrev pub own_body_in : SampleKind → List (List ℕ) → Option (PushBody × List (List ℕ))
+own_body_in kind fields = option_map unnamed_in (body_in kind fields)
 
 -- a value: two options
 abbrev pub value_in : List (List ℕ) → Option QueryValue × List (List ℕ)
@@ -201,6 +215,7 @@ read wire fields = first_in wire_of fields
 read wire_if fields = Some (named_wire_in fields)
 read payload fields = first_in payload_of fields
 read (push_body kind) fields = body_in kind fields
+read (own_body kind) fields = own_body_in kind fields
 read parameters fields = Some (option_in (codes "params=") (λ text. Some (chars text)) [] fields)
 read target fields = Some (option_in (codes "target=") target_of BestMatching fields)
 read consolidation fields = Some (option_in (codes "cons=") consolidation_of Auto fields)

@@ -2,6 +2,7 @@
 #![tactic(auto)]
 
 pub use numbers::{parse_hex, parse_number};
+pub use options::is_default;
 pub use parts::Fields;
 pub use symbols::{after_prefix, parse_entity_kind};
 

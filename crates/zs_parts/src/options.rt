@@ -1,7 +1,7 @@
 //! The values of options, each read from the text behind its name.
 
-ghost use Rattle.std.specs.Prelude.{◌≡◌, [], IfOk, Some};
-ghost use Rattle.zs_parts.specs.Options.{timestamp_of, entity_of, two_numbers_of, source_of, encoding_text_of, priority_of, congestion_of, flag_of, target_of, consolidation_of, any_key_of, value_of};
+ghost use Rattle.std.specs.Prelude.{◌≡◌, [], IfOk, Some, option_and_then};
+ghost use Rattle.zs_parts.specs.Options.{timestamp_of, entity_of, two_numbers_of, source_of, encoding_text_of, is_default, named_encoding, priority_of, congestion_of, flag_of, target_of, consolidation_of, any_key_of, value_of};
 
 use crate::numbers::{parse_hex, parse_number};
 use crate::symbols::parse_id;
@@ -70,6 +70,25 @@ pub(crate) fn parse_encoding(alloc: Global, text: &str) -> Result<Text, AllocErr
         return Ok(default_encoding());
     }
     Ok(named)
+}
+
+/// Whether it is the encoding where none is named.
+pub fn is_default(encoding: &Text) -> bool
+    ensures { result ≡ is_default encoding.now }
+{
+    encoding.as_str() == "zenoh/bytes"
+}
+
+/// An encoding, unless it is the default one.
+pub(crate) fn other_encoding(named: Option<Text>) -> Option<Text>
+    ensures { result ≡ option_and_then named_encoding named }
+{
+    let encoding = named?;
+    if is_default(&encoding) {
+        drop(encoding);
+        return None;
+    }
+    Some(encoding)
 }
 
 /// A priority, from the least number that may stand there to 7.

@@ -3,12 +3,13 @@
 ghost use Rattle.std.specs.Prelude.{◌≡◌, [], Some, IfOk, option_map, codes};
 ghost use Rattle.zs_parts.specs.Options.{encoding_text_of, priority_of, congestion_of, flag_of};
 ghost use Rattle.zs_parts.specs.Symbols.{u16_max, u32_max, u64_max, payload_of};
-ghost use Rattle.zs_parts.specs.Parts.{first_of, behind, named_in, option_in, maybe_in, named_encoding_in, body_in, number, locality, background_kind, parent, complete, history, key, selector, wire, payload, push_body, encoding, timestamp, qos, reliable, quality, source, attachment, channel_kind, read, form};
+ghost use Rattle.zs_parts.specs.Parts.{first_of, behind, named_in, option_in, maybe_in, named_encoding_in, body_in, unnamed, number, locality, background_kind, parent, complete, history, key, selector, wire, payload, push_body, own_body, encoding, timestamp, qos, reliable, quality, source, attachment, channel_kind, read, form};
 
 use crate::channels::parse_channel_kind;
 use crate::numbers::parse_number;
 use crate::options::{
-    parse_congestion, parse_encoding, parse_flag, parse_priority, parse_source, parse_timestamp,
+    other_encoding, parse_congestion, parse_encoding, parse_flag, parse_priority, parse_source,
+    parse_timestamp,
 };
 use crate::symbols::{
     after_prefix, parse_background_kind, parse_complete, parse_history, parse_id, parse_key,
@@ -249,8 +250,36 @@ impl<'a> Fields<'a> {
         let Some(payload) = self.payload(alloc)? else {
             return Ok(None);
         };
-        let encoding = self.named_encoding(alloc)?;
+        let encoding = self.encoding_if(alloc)?;
         Ok(Some(PushBody::Put { payload, encoding }))
+    }
+
+    /// What is put, or nothing to read where a value is deleted. To name the default encoding is to name none.
+    #[tactic(auto, unfolding(crate::specs::Parts::read))]
+    pub fn own_body(
+        &mut self,
+        alloc: Global,
+        kind: SampleKind,
+    ) -> Result<Option<PushBody>, AllocError>
+        ensures { IfOk result (λ found. read (own_body kind) self.old ≡ option_map (λ value. (value, self.new)) found) }
+    {
+        let Some(body) = self.push_body(alloc, kind)? else {
+            return Ok(None);
+        };
+        Ok(Some(unnamed(body)))
+    }
+}
+
+// What is put, where the default encoding is as good as none.
+fn unnamed(body: PushBody) -> PushBody
+    ensures { result ≡ unnamed body }
+{
+    match body {
+        PushBody::Put { payload, encoding } => PushBody::Put {
+            payload,
+            encoding: other_encoding(encoding),
+        },
+        PushBody::Delete => PushBody::Delete,
     }
 }
 
@@ -269,20 +298,9 @@ impl<'a> Fields<'a> {
         Ok(found)
     }
 
-    /// An encoding as it is named, if one is.
-    fn named_encoding(&mut self, alloc: Global) -> Result<Option<Text>, AllocError>
-        ensures { IfOk result (λ value. named_encoding_in self.old ≡ (value, self.new)) }
-    {
-        let Some(text) = self.named("enc=") else {
-            return Ok(None);
-        };
-        let found = Text::of(alloc, text)?;
-        self.skip();
-        Ok(Some(found))
-    }
-
+    /// An encoding, if one is named.
     pub(crate) fn encoding_if(&mut self, alloc: Global) -> Result<Option<Text>, AllocError>
-        ensures { IfOk result (λ value. maybe_in (codes "enc=") encoding_text_of self.old ≡ (value, self.new)) }
+        ensures { IfOk result (λ value. named_encoding_in self.old ≡ (value, self.new)) }
     {
         let Some(text) = self.named("enc=") else {
             return Ok(None);

@@ -68,9 +68,13 @@ all_options : event_of (codes "put" ++ 9 ∷ codes "any" ++ 9 ∷ codes "k" ++ 9
 unfolding event_of undeclare_of message_of push_of form read chars is_utf8 hex_on_literals lib.Utf8.encode
 all_options = refl
 
-empty_encoding : event_of (codes "put" ++ 9 ∷ codes "any" ++ 9 ∷ codes "k" ++ 9 ∷ codes "x" ++ 9 ∷ codes "enc=") ≡ Some (Core (Publish Any (Text (codes "k")) (record { body = Put [] (Some []); timestamp = None; source = None; attachment = None }) (record { qos = record { priority = 5; congestion = Drop; express = false }; reliable = true })))
+empty_encoding : event_of (codes "put" ++ 9 ∷ codes "any" ++ 9 ∷ codes "k" ++ 9 ∷ codes "x" ++ 9 ∷ codes "enc=") ≡ Some (Core (Publish Any (Text (codes "k")) (record { body = Put [] None; timestamp = None; source = None; attachment = None }) (record { qos = record { priority = 5; congestion = Drop; express = false }; reliable = true })))
 unfolding event_of undeclare_of message_of push_of form read chars is_utf8 hex_on_literals lib.Utf8.encode
 empty_encoding = refl
+
+default_encoding_named : event_of (codes "put" ++ 9 ∷ codes "any" ++ 9 ∷ codes "k" ++ 9 ∷ codes "x" ++ 9 ∷ codes "enc=zenoh/bytes") ≡ Some (Core (Publish Any (Text (codes "k")) (record { body = Put [] None; timestamp = None; source = None; attachment = None }) (record { qos = record { priority = 5; congestion = Drop; express = false }; reliable = true })))
+unfolding event_of undeclare_of message_of push_of form read chars is_utf8 hex_on_literals lib.Utf8.encode
+default_encoding_named = refl
 
 control_priority : event_of (codes "put" ++ 9 ∷ codes "any" ++ 9 ∷ codes "k" ++ 9 ∷ codes "x" ++ 9 ∷ codes "prio=0") ≡ None
 unfolding event_of undeclare_of message_of push_of form read chars is_utf8 hex_on_literals lib.Utf8.encode
@@ -108,7 +112,7 @@ a_publisher_put : event_of (codes "pput" ++ 9 ∷ codes "2" ++ 9 ∷ codes "x01"
 unfolding event_of undeclare_of message_of push_of form read chars is_utf8 hex_on_literals lib.Utf8.encode
 a_publisher_put = refl
 
-a_default_named : event_of (codes "pput" ++ 9 ∷ codes "2" ++ 9 ∷ codes "x" ++ 9 ∷ codes "enc=") ≡ Some (Core (PublishBy 2 (record { body = Put [] (Some []); timestamp = None; source = None; attachment = None })))
+a_default_named : event_of (codes "pput" ++ 9 ∷ codes "2" ++ 9 ∷ codes "x" ++ 9 ∷ codes "enc=") ≡ Some (Core (PublishBy 2 (record { body = Put [] (Some (codes "zenoh/bytes")); timestamp = None; source = None; attachment = None })))
 unfolding event_of undeclare_of message_of push_of form read chars is_utf8 hex_on_literals lib.Utf8.encode
 a_default_named = refl
 

@@ -19,9 +19,9 @@ use Rattle.zs_events.specs.declared.update.Update.{Update}
 use Rattle.zs_events.specs.Updates.{default_encoding, body_by, texts_by}
 use Rattle.zs_events.specs.Kinds.{value_texts}
 use Rattle.zs_parts.specs.Symbols.{number_of, u32_max, u64_max, locality_of, background_kind_of, parent_of, complete_of, history_of, key_of, payload_of, wire_of, names_nothing, naming}
-use Rattle.zs_parts.specs.Options.{timestamp_of, entity_of, source_of, encoding_text_of, priority_of, congestion_of, flag_of, target_of, consolidation_of, any_key_of, value_of}
+use Rattle.zs_parts.specs.Options.{timestamp_of, entity_of, source_of, encoding_text_of, is_default, priority_of, congestion_of, flag_of, target_of, consolidation_of, any_key_of, value_of}
 use Rattle.zs_parts.specs.Channels.{channel_of, channel_kind_of}
-use Rattle.zs_parts.specs.Parts.{Part, number, locality, background_kind, parent, complete, history, key, selector, wire, wire_if, payload, push_body, parameters, target, consolidation, timeout, value, encoding, timestamp, qos, reliable, quality, reply_quality, source, attachment, responder, any_key, cancellation_token, interest, channel, handed_to, channel_kind, Value, first_of, behind, first_in, named_in, taken, option_in, maybe_in, named_wire_in, qos_in, quality_in, reply_quality_in, named_encoding_in, encoded, body_in, value_in, selector_of, read, Maker, form}
+use Rattle.zs_parts.specs.Parts.{Part, number, locality, background_kind, parent, complete, history, key, selector, wire, wire_if, payload, push_body, own_body, parameters, target, consolidation, timeout, value, encoding, timestamp, qos, reliable, quality, reply_quality, source, attachment, responder, any_key, cancellation_token, interest, channel, handed_to, channel_kind, Value, first_of, behind, first_in, named_in, taken, option_in, maybe_in, named_wire_in, qos_in, quality_in, reply_quality_in, named_encoding_in, encoded, body_in, unnamed, unnamed_in, own_body_in, value_in, selector_of, read, Maker, form}
 use Rattle.zs_script.specs.Plain.{is_field_text, is_plain_event, is_plain_script_event, suffix_if, text_if}
 use Rattle.zs_script.proofs.PlainSymbols.{IsText, PlainKey, PlainChars, PlainWire, on-map, on-then, on-any, prefix-text, chars-plain, key-plain, wire-plain, before-sign, behind-sign}
 
@@ -98,18 +98,12 @@ encoding-text (c ∷ cs) h = h
 encoding-plain : (field : List ℕ) → IsText field → PlainChars (encoding_of (chars field))
 encoding-plain field h = encoding-text (chars field) (chars-plain field h)
 
--- of a value, where it is named
+-- where it is named
 given-encoding-plain : (fields : List (List ℕ)) → AreTexts fields
     → Reads (λ text. AllPlain (text_if text)) (maybe_in (codes "enc=") encoding_text_of fields)
 given-encoding-plain fields h =
     option-plain (codes "enc=") (λ text. option_map Some (encoding_text_of text)) None (λ text. AllPlain (text_if text))
     refl refl (λ text k. and_from _ _ (encoding-plain text k) refl) fields h
-
--- of an update, as it is named
-named-encoding-plain : (fields : List (List ℕ)) → AreTexts fields → Reads (λ text. AllPlain (text_if text)) (named_encoding_in fields)
-named-encoding-plain fields h =
-    option-plain (codes "enc=") (λ text. option_map Some (Some (chars text))) None (λ text. AllPlain (text_if text))
-    refl refl (λ text k. and_from _ _ (chars-plain text k) refl) fields h
 
 -- what is put
 put-texts : (bytes : List (List ℕ)) (text : Option (List ℕ)) → AllPlain (text_if text) → AllPlain (texts_by (Put bytes text))
@@ -121,9 +115,26 @@ body-texts : (kind : SampleKind) (fields : List (List ℕ)) → AreTexts fields
 body-texts put_kind fields h =
     on-map {A = List (List ℕ) × List (List ℕ)} {B = PushBody × List (List ℕ)} (λ found. encoded found.0 (named_encoding_in found.1))
     (Reads (λ _. Unit {0})) (λ found. AllPlain (texts_by found.0) × AreTexts found.1)
-    (λ found k. let text = named-encoding-plain found.1 k.1 in (put-texts found.0 (named_encoding_in found.1).0 text.0, text.1))
+    (λ found k. let text = given-encoding-plain found.1 k.1 in (put-texts found.0 (named_encoding_in found.1).0 text.0, text.1))
     (first_in payload_of fields) (first-any payload_of fields h)
 body-texts delete_kind fields h = (refl, h)
+
+-- and without a name for the default encoding
+unnamed-texts : (what : PushBody) → AllPlain (texts_by what) → AllPlain (texts_by (unnamed what))
+unnamed-texts (Put bytes None) h = h
+unnamed-texts (Put bytes (Some text)) h = go (is_default text)
+  where
+    go : (b : Bool) → AllPlain (texts_by (Put bytes (cond b None (Some text))))
+    go true = refl
+    go false = h
+unnamed-texts Delete h = h
+
+own-body-texts : (kind : SampleKind) (fields : List (List ℕ)) → AreTexts fields
+    → IfSome {T = PushBody × List (List ℕ)} (own_body_in kind fields) (λ found. AllPlain (texts_by found.0) × AreTexts found.1)
+own-body-texts kind fields h =
+    on-map {A = PushBody × List (List ℕ)} {B = PushBody × List (List ℕ)} unnamed_in
+    (λ found. AllPlain (texts_by found.0) × AreTexts found.1) (λ found. AllPlain (texts_by found.0) × AreTexts found.1)
+    (λ found k. (unnamed-texts found.0 k.0, k.1)) (body_in kind fields) (body-texts kind fields h)
 
 -- and as it stands in a message
 pub body-plain : (what : PushBody) (update : Update) → AllPlain (texts_by what) → PlainChars (body_by what [] update).encoding
@@ -197,6 +208,7 @@ IsPlainValue selector s = PlainKey s.0 × PlainChars s.1
 IsPlainValue wire w = PlainWire w
 IsPlainValue wire_if w = PlainWireIf w
 IsPlainValue (push_body kind) what = AllPlain (texts_by what)
+IsPlainValue (own_body kind) what = AllPlain (texts_by what)
 IsPlainValue parameters text = PlainChars text
 IsPlainValue value v = AllPlain (value_texts v)
 IsPlainValue encoding text = PlainChars text
@@ -219,6 +231,7 @@ read-plain wire fields h = first-plain wire_of PlainWire wire-plain fields h
 read-plain wire_if fields h = named-wire-plain fields h
 read-plain payload fields h = first-any payload_of fields h
 read-plain (push_body kind) fields h = body-texts kind fields h
+read-plain (own_body kind) fields h = own-body-texts kind fields h
 read-plain parameters fields h = option-plain (codes "params=") (λ text. Some (chars text)) [] PlainChars refl refl chars-plain fields h
 read-plain target fields h = option-any (codes "target=") target_of _ fields h
 read-plain consolidation fields h = option-any (codes "cons=") consolidation_of _ fields h

@@ -1,7 +1,7 @@
 use Rattle.std.proofs.Common.{◌≡◌, true, refl}
 use Rattle.zs_event_lines.specs.Views.{is_option}
 use Rattle.zs_event_lines.specs.declared.shown.Shown.{Shown}
-use Rattle.zs_event_lines.specs.declared.shown.Shown.TheVariants.{Said, Number, KeyNumber, Moment, Locality, Background, Parent, Complete, History, Key, Selector, Wire, Payload, Update, Body as message_body, QoS, Reliable, Quality, ReplyQuality, WireIf, Parameters, Target, Consolidation, Timeout, Value, Encoding, Timestamp, Source, Attachment, Responder, AnyKey, CancellationToken, Interest, Channel, HandedTo}
+use Rattle.zs_event_lines.specs.declared.shown.Shown.TheVariants.{Said, Number, KeyNumber, Moment, Locality, Background, Parent, Complete, History, Key, Selector, Wire, Payload, Update, OwnUpdate, Body as message_body, QoS, Reliable, Quality, ReplyQuality, WireIf, Parameters, Target, Consolidation, Timeout, Value, Encoding, Timestamp, Source, Attachment, Responder, AnyKey, CancellationToken, Interest, Channel, HandedTo}
 use Rattle.zs_event_lines.proofs.fields.append_shown.Goals as goal
 
 pub append_option-requires : goal.append_option-requires
@@ -22,6 +22,7 @@ append_option-requires c = is-option c.args.shown refl
     is-option (Wire w) is = absurd (c.in_default.not-Wire w is)
     is-option (Payload bytes) is = absurd (c.in_default.not-Payload bytes is)
     is-option (Update body) is = absurd (c.in_default.not-Update body is)
+    is-option (OwnUpdate body) is = absurd (c.in_default.not-OwnUpdate body is)
     is-option (message_body body) is = absurd (c.in_default.not-Body body is)
     is-option (QoS least absent q) is = absurd (c.in_default.not-QoS least absent q is)
     is-option (Reliable flag) is = absurd (c.in_default.not-Reliable flag is)
