@@ -33,8 +33,8 @@ stand the lines that the event comes to, each behind < and a tab:
 An option stands in the line of an event only where it says more than its absence.
 
 A replay takes the events of the > lines anew, and compares what comes of them with
-the < lines. It prints same N, where it is the same for all N events, or differs I,
-where it is something else for event I, and for none before it.
+the < lines. It prints same, a tab and N, where it is the same for all N events, or
+differs, a tab and I, where it is something else for event I, and for none before it.
 
 Status: 0 the end was reached, and the recording is the same; 1 it differs; 2 bad
 words; 3 a line is none of a script, or of a recording; 4 a line is too long; 5 too

@@ -35,7 +35,7 @@ fn replaying(alloc: Global) -> Result<Whole, AllocError> {
     Ok(Whole {
         word: "replay",
         input: spelled(alloc, EVENTS, CLOSE)?,
-        output: spelled(alloc, "same_3\n", "")?,
+        output: spelled(alloc, "same 3\n", "")?,
     })
 }
 

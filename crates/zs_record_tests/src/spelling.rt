@@ -1,5 +1,5 @@
-//! Scripts and recordings as the tests write them: with a space for each tab, `_` for each space, `%` for the options of a
-//! plain put, `!` for a byte that is in no text, and `$` for the most bytes that a line holds behind a mark and a tab.
+//! Scripts and recordings as the tests write them: with a space for each tab, `%` for the options of a plain put, `!` for a
+//! byte that is in no text, and `$` for the most bytes that a line holds behind a mark and a tab.
 
 ghost use Rattle.std.specs.Prelude.{◌<◌};
 
@@ -36,7 +36,6 @@ pub fn spell(bytes: &mut Vec<u8>, text: &str) -> Result<(), AllocError> {
         match byte {
             b'%' => bytes.extend_from_slice(OPTIONS)?,
             b' ' => bytes.push(b'\t')?,
-            b'_' => bytes.push(b' ')?,
             b'!' => bytes.push(0xff)?,
             b'$' => fill(bytes)?,
             byte => bytes.push(byte)?,

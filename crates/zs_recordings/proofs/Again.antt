@@ -1,17 +1,15 @@
 -- The recording of events that can be read back is played again as the same.
-use Rattle.std.proofs.Common.{◌≡◌, ◌+◌, ◌==◌, ℕ, suc, List, [], ◌∷◌, ◌++◌, length, map, flat_map, Bool, true, false, Option, Some, None, refl, sym, ◌∙◌, ap, subst, cond, codes, decimal, arith, append_assoc}
-use Rattle.std.specs.Prelude.{is_some, ◌||◌, ◌&&◌, unwrap_or, option_map, Ok, Err, Result}
+use Rattle.std.proofs.Common.{◌≡◌, ◌+◌, ℕ, suc, List, [], ◌∷◌, ◌++◌, length, map, flat_map, Bool, true, false, Option, Some, None, refl, sym, ◌∙◌, ap, subst, cond, codes, decimal, arith, append_assoc}
+use Rattle.std.specs.Prelude.{is_some, ◌||◌, unwrap_or, option_map, Ok, Err}
 use Rattle.std.specs.List.{list_all}
-use Rattle.std.specs.Str.{bytes_eq, IsUtf8, is_utf8}
+use Rattle.std.specs.Str.{bytes_eq}
 use Rattle.std.proofs.lemmas.Bool.{and_parts, and_from}
 use Rattle.std.proofs.lemmas.List.{append-nil}
 use Rattle.std.proofs.lemmas.List.Folds.{list_all-append}
 use Rattle.std.proofs.lemmas.Slice.Eq.{bytes_eq-Decides}
-use Rattle.std.proofs.lemmas.Str.{IsUtf8-from_is_utf8}
 use Rattle.zs_lines.specs.Lines.{lines, onto_line}
 use Rattle.zs_driving.specs.Tasks.{lines_behind}
 use Rattle.zs_driving.specs.Languages.{events_of, events_behind}
-use Rattle.zs_driving.specs.declared.errors.DriveError.{DriveError}
 use Rattle.zs_driving.specs.declared.errors.DriveError.TheVariants.{BadLine}
 use Rattle.zs_events.specs.declared.event.Event.{Event}
 use Rattle.zs_events.specs.declared.turn.Effect.{Effect}
@@ -25,10 +23,9 @@ use Rattle.zs_script.proofs.PlainTexts.{before-feed, lines-found}
 use Rattle.zs_script.proofs.PlainEffects.{answers-plain, effects-plain}
 use Rattle.zs_recordings.specs.Entries.{marked_row, turn_rows, entry_text, session_of}
 use Rattle.zs_recordings.specs.Recording.{recording_after, recording}
-use Rattle.zs_recordings.specs.Replaying.{RecordingLine, Said, Heard, Group, recording_line, line_in, replay_language, groups_of, group_events, is_empty, is_headless, with_heard, last_rows, first_other, or_place, place_unless, replayed_by, lines_back}
-use Rattle.zs_recordings.specs.Laws.{IsReadable, AreReadable, ReplaysAs, RecordingsReplay, FrontsReplay}
-use Rattle.zs_recordings.proofs.Texts.{joined, rows-utf8}
-use Rattle.zs_recordings.specs.declared.replayed.Replayed.{Replayed}
+use Rattle.zs_recordings.specs.Replaying.{RecordingLine, Said, Heard, Group, recording_line, replay_language, groups_of, group_events, is_empty, is_headless, with_heard, last_rows, first_other, or_place, place_unless, replayed_by, lines_back}
+use Rattle.zs_recordings.specs.Laws.{IsReadable, AreReadable, RecordingsReplay, FrontsReplay}
+use Rattle.zs_recordings.proofs.Texts.{joined}
 use Rattle.zs_recordings.specs.declared.replayed.Replayed.TheVariants.{Same}
 
 -- the rows that are recorded: that of an event, and those of its turn
@@ -104,24 +101,19 @@ turn-joined n turn =
     ∙ ap (λ (bytes : List ℕ). marked_line (codes "<\t") n [] (answer_fields turn.answer) ++ bytes) (effects-joined n turn.effects)
 
 -- which lines of a recording the rows are
-said-line : (text : List ℕ) (e : Event) → is_utf8 (said_row text) ≡ true → session_of text ≡ Some e → recording_line (said_row text) ≡ Some (Said e)
-said-line text e utf8 says = ap (λ (b : Bool). cond b (line_in (said_row text)) None) utf8 ∙ ap (λ (o : Option Event). option_map Said o) says
+said-line : (text : List ℕ) (e : Event) → session_of text ≡ Some e → recording_line (said_row text) ≡ Some (Said e)
+said-line text e says = ap (λ (o : Option Event). option_map Said o) says
 
 abbrev IsHeard : List ℕ → Type 0
 IsHeard text = recording_line text ≡ Some (Heard text)
-
-heard-line : (n : ℕ) (parts : List (List ℕ)) → is_utf8 (heard_row n parts) ≡ true → IsHeard (heard_row n parts)
-heard-line n parts utf8 = ap (λ (b : Bool). cond b (line_in (heard_row n parts)) None) utf8
 
 abbrev AreHeard : List (List ℕ) → Type 0
 AreHeard [] = Unit {0}
 AreHeard (text ∷ rows) = IsHeard text × AreHeard rows
 
-effects-heard : (n : ℕ) (fx : List Effect) → list_all is_utf8 (effect_rows n fx) ≡ true → AreHeard (effect_rows n fx)
-effects-heard n [] utf8 = tt
-effects-heard n (effect ∷ fx) utf8 =
-    let both = and_parts (is_utf8 (heard_row n (effect_fields effect))) (list_all is_utf8 (effect_rows n fx)) utf8 in
-    (heard-line n (effect_fields effect) both.0, effects-heard n fx both.1)
+effects-heard : (n : ℕ) (fx : List Effect) → AreHeard (effect_rows n fx)
+effects-heard n [] = tt
+effects-heard n (effect ∷ fx) = (refl, effects-heard n fx)
 
 -- rows of a recording that is the same so far, the newest first
 record IsSame (s : Settings) (h : List Event) (rows : List (List ℕ)) : Type 0 where
@@ -214,15 +206,8 @@ takes-entry : (s : Settings) (h : List Event) (e : Event) (before : List (List �
 takes-entry s h e before r p =
     let n = length h + 1 in
     let turn = effects s h e in
-    let own = said_row r.row ∷ heard_rows n turn in
-    let text : joined own ≡ entry_text n e turn =
-    ap (λ (bytes : List ℕ). marked_row r.row ++ bytes) (turn-joined n turn)
-    ∙ ap (λ (o : Option (List ℕ)). unwrap_or (option_map marked_row o) [] ++ turn_rows n turn) (sym r.line) in
-    let utf8 = rows-utf8 own (subst IsUtf8 (sym text) (IsUtf8-from_is_utf8 (entry_text n e turn) r.utf8)) in
-    let first = and_parts (is_utf8 (said_row r.row)) (list_all is_utf8 (heard_rows n turn)) utf8 in
-    let second = and_parts (is_utf8 (heard_row n (answer_fields turn.answer))) (list_all is_utf8 (effect_rows n turn.effects)) first.1 in
-    let said = said-line r.row e first.0 r.says in
-    let are : AreHeard (heard_rows n turn) = (heard-line n (answer_fields turn.answer) second.0, effects-heard n turn.effects second.1) in
+    let said = said-line r.row e r.says in
+    let are : AreHeard (heard_rows n turn) = (refl, effects-heard n turn.effects) in
     record {
       good = and_from (is_some (recording_line (said_row r.row))) (all_taken (heard_rows n turn)) (ap (λ (o : Option RecordingLine). is_some o) said) (taken (heard_rows n turn) are);
       same =

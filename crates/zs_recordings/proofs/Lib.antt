@@ -1,4 +1,3 @@
-pub mod Rows
 pub mod Printed
 pub mod Texts
 pub mod Recorded

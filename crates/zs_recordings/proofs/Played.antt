@@ -36,7 +36,7 @@ other_is machine s (g ∷ older) f = rw (f.other, f.heard, f.rows, f.count) refl
 
 -- an event was taken
 pub took_event : (old new : Replayer) (e : Event) (turn : Turn) → TakesStep old.state new.state e turn → new.other ≡ other_in old → new.count ≡ old.count + 1 → old.count + 1 < 2 ^ 64
-    → string_bytes new.heard ≡ [] → string_bytes new.rows ≡ turn_rows (old.count + 1) turn → new.headless ≡ old.headless → Plays (Said e) old new
+    → new.heard.items ≡ [] → string_bytes new.rows ≡ turn_rows (old.count + 1) turn → new.headless ≡ old.headless → Plays (Said e) old new
 took_event old new e turn steps other count fits heard rows headless = record {
   follows = λ s groups f.
       let stepped = steps s (group_events groups) f.stands in
@@ -72,14 +72,14 @@ took_first old new text none state count heard rows other headless = record {
       stands = subst (λ (w : World). Stands w s []) (sym state) f.stands;
       count = count ∙ f.count;
       small = subst (λ (n : ℕ). n < 2 ^ 64) (sym count) f.small;
-      heard = ap string_bytes heard ∙ f.heard;
+      heard = ap (λ (v : _). v.items) heard ∙ f.heard;
       rows = ap string_bytes rows ∙ f.rows;
       other = other ∙ f.other;
     }
     go s (g ∷ older) f = let some = f.count in absurd (omega (arith, some, none))
 
 pub took_next : (old new : Replayer) (text : List ℕ) → (old.count == 0) ≡ false → new.state ≡ old.state → new.count ≡ old.count
-    → string_bytes new.heard ≡ string_bytes old.heard ++ (text ++ codes "\n") → new.rows ≡ old.rows
+    → new.heard.items ≡ old.heard.items ++ (text ++ codes "\n") → new.rows ≡ old.rows
     → new.other ≡ old.other → new.headless ≡ old.headless → Plays (Heard text) old new
 took_next old new text some state count heard rows other headless = record {
   follows = λ s groups f. go s groups f;
@@ -204,7 +204,7 @@ same-outcomes (Some p) None n small h k is =
 same-outcomes (Some p) (Some q) n small h k is =
     ap Differs (decimal_injective p q (omega (arith, h, small)) (omega (arith, k, small))
     (append_cancel_right (decimal p) (decimal q) (codes "\n")
-    (append_cancel_left (codes "differs ") (decimal p ++ codes "\n") (decimal q ++ codes "\n") is)))
+    (append_cancel_left (codes "differs\t") (decimal p ++ codes "\n") (decimal q ++ codes "\n") is)))
 
 same-answers : (s t : Settings) (lines : List RecordingLine) → length (groups_of lines) < 2 ^ 64 → verdict_text s lines ≡ verdict_text t lines
     → answer_for s lines ≡ answer_for t lines

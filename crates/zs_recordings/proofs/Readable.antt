@@ -23,7 +23,7 @@ use Rattle.zs_event_lines.proofs.EventsBack.{printed-events}
 use Rattle.zs_event_lines.proofs.OneLine.{printed-lines}
 use Rattle.zs_event_lines.proofs.ReadEvents.{lines-say}
 use Rattle.zs_recordings.specs.Entries.{marked_row, is_printable, turn_rows, entry_text, if_recorded, recorded_of, if_core}
-use Rattle.zs_recordings.specs.Recording.{AreTexts, recorded_script}
+use Rattle.zs_recordings.specs.Recording.{AreTexts}
 use Rattle.zs_recordings.specs.Laws.{IsReadable, AreReadable, ArePlainTurns, ScriptsAreReadable}
 use Rattle.zs_recordings.proofs.Texts.{cut-utf8}
 
@@ -54,7 +54,6 @@ sayable-readable s h e sayable plain utf8 = go (line_of e) refl sayable.0
           one = printed-lines e row shown;
           says = ap if_core (printed-events e row shown text typed) ∙ ap Some sayable.1;
           plain = plain;
-          utf8 = utf8;
         }
 
 -- the close is one

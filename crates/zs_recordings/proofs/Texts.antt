@@ -1,9 +1,8 @@
 -- What was printed is UTF-8 text: of texts in code, of entries, and of the lines that a text is cut into.
-use Rattle.std.proofs.Common.{◌≡◌, ◌+◌, ◌<◌, ℕ, suc, List, [], ◌∷◌, ◌++◌, length, take, drop, get_or, true, Option, Some, None, refl, sym, ◌∙◌, ap, subst, lit<, arith, append_assoc, codes}
+use Rattle.std.proofs.Common.{◌≡◌, ◌+◌, ◌<◌, ℕ, suc, List, [], ◌∷◌, ◌++◌, length, take, drop, get_or, true, Option, Some, None, refl, sym, ◌∙◌, ap, subst, arith, codes}
 use Rattle.std.specs.Prelude.{String, Result, Ok, Err, OnOk}
-use Rattle.std.specs.List.{list_all, flat_map}
+use Rattle.std.specs.List.{flat_map}
 use Rattle.std.specs.Str.{IsUtf8, is_utf8}
-use Rattle.std.proofs.lemmas.Bool.{and_from}
 use Rattle.std.specs.String.{string_bytes}
 use Rattle.std.proofs.lemmas.Str.{IsUtf8-string_bytes, IsUtf8-take, IsUtf8-drop, IsCharBoundary-before_ascii, IsCharBoundary-after_ascii, is_utf8-from_IsUtf8}
 use Rattle.zs_driving.specs.Tasks.{lines_behind}
@@ -58,12 +57,6 @@ cut-utf8 xs ys b small utf8 =
 -- rows with a line feed behind each
 abbrev pub joined : List (List ℕ) → List ℕ
 joined rows = flat_map (λ text. text ++ codes "\n") rows
-
-pub rows-utf8 : (rows : List (List ℕ)) → IsUtf8 (joined rows) → list_all is_utf8 rows ≡ true
-rows-utf8 [] utf8 = refl
-rows-utf8 (text ∷ rows) utf8 =
-    let both = cut-utf8 text (joined rows) 10 (lit< tt) (subst IsUtf8 (append_assoc text (codes "\n") (joined rows)) utf8) in
-    and_from _ _ (is_utf8-from_IsUtf8 text both.0) (rows-utf8 rows both.1)
 
 -- the entries of a script's events, from the texts of its rows
 rows-texts : (s : Settings) (h rows : List (List ℕ)) → AreRowTexts (rules_of (record_language s)) (lines_behind h rows)

@@ -1,7 +1,6 @@
 -- Recordings are played again as what they are.
-use Rattle.std.specs.Prelude.{◌≡◌, ℕ, ◌+◌, Bool, true, is_some, List, [], ◌∷◌, ◌++◌, length, Some, Ok, if◌then◌else◌}
+use Rattle.std.specs.Prelude.{◌≡◌, ℕ, Bool, true, is_some, List, [], ◌∷◌, ◌++◌, length, Some, Ok, if◌then◌else◌}
 use Rattle.std.specs.List.{filter_map, list_all}
-use Rattle.std.specs.Str.{is_utf8}
 use Rattle.zs_lines.specs.Lines.{lines}
 use Rattle.zs_driving.specs.Driving.{read_text}
 use Rattle.zs_events.specs.declared.event.Event.{Event}
@@ -11,7 +10,7 @@ use Rattle.zs_core.specs.Effects.{effects}
 use Rattle.zs_script.specs.Plain.{has_no_line_feed, is_plain_effect}
 use Rattle.zs_event_lines.specs.Slots.{printed}
 use Rattle.zs_event_lines.specs.Lines.{line_of}
-use Rattle.zs_recordings.specs.Entries.{entry_text, recorded_of, session_of}
+use Rattle.zs_recordings.specs.Entries.{recorded_of, session_of}
 use Rattle.zs_recordings.specs.Recording.{AreTexts, recording, recorded_script, record_task}
 use Rattle.zs_recordings.specs.Replaying.{recording_line, lines_back, answer_for}
 use Rattle.zs_recordings.specs.declared.replayed.Replayed.TheVariants.{Same}
@@ -24,15 +23,14 @@ read_events rows closed = filter_map recorded_of rows ++ (if closed then Close �
 abbrev pub RunsRecord : Type 0
 RunsRecord = (s : Settings) (rows : List (List ℕ)) (closed : Bool) → read_text (record_task s) rows closed ≡ recording s (read_events rows closed)
 
--- an event that can be read back, behind others: its line has no line feed and says the event, what it comes to has texts
--- without tabs and line feeds, and what is recorded of it is UTF-8 text
+-- an event that can be read back, behind others: its line has no line feed and says the event, and what it comes to has
+-- texts without tabs and line feeds
 pub record IsReadable (s : Settings) (h : List Event) (e : Event) : Type 0 where
   pub row : List ℕ
   pub line : printed (line_of e) ≡ Some row
   pub one : has_no_line_feed row ≡ true
   pub says : session_of row ≡ Some e
   pub plain : list_all is_plain_effect (effects s h e).effects ≡ true
-  pub utf8 : is_utf8 (entry_text (length h + 1) e (effects s h e)) ≡ true
 
 abbrev pub AreReadable : Settings → List Event → List Event → Type 0
 AreReadable s h [] = Unit {0}

@@ -1,5 +1,5 @@
 -- What the machines that record and replay stand for.
-use Rattle.std.specs.Prelude.{◌≡◌, ℕ, ◌+◌, ◌<◌, ◌^◌, ◌==◌, Bool, true, ◌||◌, List, [], ◌∷◌, ◌++◌, length, Option}
+use Rattle.std.specs.Prelude.{◌≡◌, ℕ, ◌<◌, ◌^◌, ◌==◌, Bool, true, ◌||◌, List, [], ◌∷◌, ◌++◌, length, Option}
 use Rattle.std.specs.Str.{bytes_eq, is_utf8}
 use Rattle.std.specs.String.{string_bytes}
 use Rattle.zs_driving.specs.Tasks.{Rules}
@@ -46,19 +46,19 @@ pub record Follows (machine : Replayer) (s : Settings) (groups : List Group) : T
   pub stands : Stands machine.state s (group_events groups)
   pub count : machine.count ≡ length groups
   pub small : machine.count < 2 ^ 64
-  pub heard : string_bytes machine.heard ≡ last_heard groups
+  pub heard : machine.heard.items ≡ last_heard groups
   pub rows : string_bytes machine.rows ≡ last_rows s groups
   pub other : machine.other ≡ earlier_other s groups
 
 -- the first event of which something else was recorded, as it knows
 abbrev pub other_in : Replayer → Option ℕ
-other_in machine = or_place machine.other (place_unless (bytes_eq (string_bytes machine.heard) (string_bytes machine.rows)) machine.count)
+other_in machine = or_place machine.other (place_unless (bytes_eq machine.heard.items (string_bytes machine.rows)) machine.count)
 
 -- a line was taken: whatever groups the replayer stood behind, it stands behind them with the line, and it is headless
 -- where it was, or where the line is of a turn and no event was taken
 abbrev pub marked_by : RecordingLine → Replayer → Bool
 marked_by (Said e) old = old.headless
-marked_by (Heard text) old = old.headless || (old.count == 0)
+marked_by (Heard row) old = old.headless || (old.count == 0)
 
 pub record Plays (line : RecordingLine) (old new : Replayer) : Type 0 where
   pub follows : (s : Settings) (groups : List Group) → Follows old s groups → Follows new s (with_line line groups)

@@ -1,6 +1,6 @@
 -- Recordings that are played again: what was recorded of each event, and whether it is what the event comes to.
 use Rattle.std.specs.Prelude.{ℕ, ◌≡◌, ◌+◌, Bool, true, false, ◌||◌, List, [], ◌∷◌, ◌++◌, length, Option, Some, None, is_some, option_map, Result, Ok, Err, OnOk, codes, decimal, if◌then◌else◌}
-use Rattle.std.specs.Str.{bytes_eq, is_utf8}
+use Rattle.std.specs.Str.{bytes_eq}
 use Rattle.zs_driving.specs.declared.errors.DriveError.{DriveError}
 use Rattle.zs_driving.specs.declared.errors.DriveError.TheVariants.{BadLine}
 use Rattle.zs_keys.specs.Stream.{PutsOn}
@@ -21,31 +21,29 @@ pub data RecordingLine : Type 0 where
   Said : Event → RecordingLine
   Heard : List ℕ → RecordingLine
 
+-- by what stands in a row behind `>` and a tab, if that is its front, and behind `<` and a tab
 abbrev pub line_by : Option (List ℕ) → Option (List ℕ) → List ℕ → Option RecordingLine
-line_by (Some rest) other text = option_map Said (session_of rest)
-line_by None (Some rest) text = Some (Heard text)
-line_by None None text = None
+line_by (Some rest) other row = option_map Said (session_of rest)
+line_by None (Some rest) row = Some (Heard row)
+line_by None None row = None
 
-abbrev pub line_in : List ℕ → Option RecordingLine
-line_in text = line_by (after_prefix (codes ">\t") text) (after_prefix (codes "<\t") text) text
-
--- the line that a row is: it is UTF-8 text
+-- the line that a row is: behind `>` and a tab the line of an event, and behind `<` and a tab any bytes
 abbrev pub recording_line : List ℕ → Option RecordingLine
-recording_line row = if is_utf8 row then line_in row else None
+recording_line row = line_by (after_prefix (codes ">\t") row) (after_prefix (codes "<\t") row) row
 
--- an event, and the text of the lines that were recorded of it
+-- an event, and the bytes of the lines that were recorded of it
 pub record Group : Type 0 where
   pub event : Event
   pub heard : List ℕ
 
 -- the groups with one line more, the newest group first; a line of no event is passed over
 abbrev pub with_heard : List ℕ → List Group → List Group
-with_heard text [] = []
-with_heard text (g ∷ older) = record { event = g.event; heard = g.heard ++ (text ++ codes "\n") } ∷ older
+with_heard row [] = []
+with_heard row (g ∷ older) = record { event = g.event; heard = g.heard ++ (row ++ codes "\n") } ∷ older
 
 abbrev pub with_line : RecordingLine → List Group → List Group
 with_line (Said e) groups = record { event = e; heard = [] } ∷ groups
-with_line (Heard text) groups = with_heard text groups
+with_line (Heard row) groups = with_heard row groups
 
 -- the groups of lines, the newest first in both
 abbrev pub groups_of : List RecordingLine → List Group
@@ -60,7 +58,7 @@ is_empty (g ∷ older) = false
 abbrev pub is_headless : List RecordingLine → Bool
 is_headless [] = false
 is_headless (Said e ∷ h) = is_headless h
-is_headless (Heard text ∷ h) = is_headless h || is_empty (groups_of h)
+is_headless (Heard row ∷ h) = is_headless h || is_empty (groups_of h)
 
 -- the events of groups, the newest first in both
 abbrev pub group_events : List Group → List Event
@@ -107,8 +105,8 @@ replayed s h = replayed_by (first_other s (groups_of h)) (length (groups_of h))
 
 -- how that is printed
 abbrev pub replayed_text : Replayed → List ℕ
-replayed_text (Same count) = codes "same " ++ (decimal count ++ codes "\n")
-replayed_text (Differs place) = codes "differs " ++ (decimal place ++ codes "\n")
+replayed_text (Same count) = codes "same\t" ++ (decimal count ++ codes "\n")
+replayed_text (Differs place) = codes "differs\t" ++ (decimal place ++ codes "\n")
 
 -- what is printed at the end: nothing where a line stands before all events
 abbrev pub verdict_text : Settings → List RecordingLine → List ℕ

@@ -70,8 +70,8 @@ fn drive_recorder<S: Source, K: Sink>(
 }
 
 /// Plays a recording again: the events of its `>` lines are taken by a new session, and what comes of each is compared
-/// with the `<` lines behind it. At the end `same N` is written, with the number of events, or `differs I`, with the first
-/// event, from 1, of which something else was recorded. The same is answered.
+/// with the `<` lines behind it, which may hold any bytes. At the end `same` is written, with the number of events behind
+/// a tab, or `differs`, with the first event, from 1, of which something else was recorded. The same is answered.
 ///
 /// # Errors
 ///

@@ -8,7 +8,7 @@ ghost use Rattle.zs_core.specs.Types.{Settings};
 ghost use Rattle.zs_core.specs.Settings.{is_valid};
 ghost use Rattle.zs_grammar.specs.Grammar.{event_of};
 ghost use Rattle.zs_recordings.specs.Entries.{if_core, session_of};
-ghost use Rattle.zs_recordings.specs.Replaying.{Said, Heard, Group, recording_line, line_in, replay_language, replayed_by, replayed_text, first_other};
+ghost use Rattle.zs_recordings.specs.Replaying.{Said, Heard, Group, recording_line, replay_language, replayed_by, replayed_text, first_other};
 ghost use Rattle.zs_recordings.specs.Machines.{Follows, Plays, HasPlayed, other_in};
 
 use crate::entries::append_turn_rows;
@@ -19,7 +19,7 @@ use zs_core::{Event, SessionState, Settings};
 use zs_driving::{LineMachine, Transcript};
 use zs_events::ScriptEvent;
 use zs_lines::Line;
-use zs_script::{after_prefix, parse_event};
+use zs_script::parse_event;
 
 /// A session that plays a recording again.
 #[derive(Drop)]
@@ -28,8 +28,9 @@ pub(crate) struct Replayer {
     state: SessionState,
     /// How many events were taken.
     count: u64,
-    /// What was recorded of the last event, and the lines of its turn. Their memory outlives the events.
-    heard: String,
+    /// What was recorded of the last event, which may be no text, and the lines of its turn. Their memory outlives the
+    /// events.
+    heard: Vec<u8>,
     rows: String,
     /// The first event before the last one of which something else was recorded.
     other: Option<u64>,
@@ -49,7 +50,7 @@ impl Replayer {
             alloc,
             state,
             count: 0,
-            heard: String::new(alloc),
+            heard: Vec::new(alloc),
             rows: String::new(alloc),
             other: None,
             headless: false,
@@ -81,7 +82,7 @@ impl Replayer {
         if self.other.is_some() {
             return self.other;
         }
-        if self.heard.as_str() == self.rows.as_str() {
+        if self.heard.as_slice() == self.rows.as_bytes() {
             None
         } else {
             Some(self.count)
@@ -89,33 +90,19 @@ impl Replayer {
     }
 
     /// Takes a row of bytes. False says that it is no line of a recording.
-    #[tactic(auto, using(crate::proofs::Rows::utf8_tests))]
     fn take_row(&mut self, row: &[u8], number: u64) -> Result<bool, AllocError>
         ensures known { IfOk result (λ taken. taken ≡ is_some (recording_line row.now)) }
         ensures took { result ≡ Ok true → IfSome (recording_line row.now) (λ line. Plays line self.old self.new) }
     {
-        let Ok(text) = str::from_utf8(row) else {
-            return Ok(false);
-        };
-        self.take_text(text, number)
-    }
-
-    /// Takes a row of text.
-    fn take_text(&mut self, text: &str, number: u64) -> Result<bool, AllocError>
-        ensures known { IfOk result (λ taken. taken ≡ is_some (line_in text.now)) }
-        ensures took { result ≡ Ok true → IfSome (line_in text.now) (λ line. Plays line self.old self.new) }
-    {
-        if let Some(rest) = after_prefix(text, ">\t") {
-            return self.take_line(rest, number);
-        }
-        match after_prefix(text, "<\t") {
-            Some(_) => self.hear(text),
-            None => Ok(false),
+        match row {
+            [b'>', b'\t', said @ ..] => self.take_line(said, number),
+            [b'<', b'\t', ..] => self.hear(row),
+            _ => Ok(false),
         }
     }
 
     /// Takes the line of an event.
-    fn take_line(&mut self, row: &str, number: u64) -> Result<bool, AllocError>
+    fn take_line(&mut self, row: &[u8], number: u64) -> Result<bool, AllocError>
         ensures known { IfOk result (λ taken. taken ≡ is_some (session_of row.now)) }
         ensures took { result ≡ Ok true → IfSome (session_of row.now) (λ e. Plays (Said e) self.old self.new) }
     {
@@ -158,26 +145,26 @@ impl Replayer {
 
     /// Takes a line of a turn.
     #[tactic(auto, using(crate::proofs::Played::playing))]
-    fn hear(&mut self, text: &str) -> Result<bool, AllocError>
+    fn hear(&mut self, row: &[u8]) -> Result<bool, AllocError>
         ensures known { IfOk result (λ taken. taken ≡ true) }
-        ensures took { OnOk result (Plays (Heard text.now) self.old self.new) }
+        ensures took { OnOk result (Plays (Heard row.now) self.old self.new) }
     {
         if self.count == 0 {
             self.headless = true;
             return Ok(true);
         }
-        self.heard.push_str(text)?;
-        self.heard.push('\n')?;
+        self.heard.extend_from_slice(row)?;
+        self.heard.push(b'\n')?;
         Ok(true)
     }
 }
 
 /// The event of the session that a line of a script says.
-fn said_by(alloc: Global, text: &str, number: u64) -> Result<Option<Event>, AllocError>
-    ensures { IfOk result (λ found. found ≡ session_of text.now) }
+fn said_by(alloc: Global, row: &[u8], number: u64) -> Result<Option<Event>, AllocError>
+    ensures { IfOk result (λ found. found ≡ session_of row.now) }
 {
-    let mut bytes = Vec::with_capacity(alloc, text.len())?;
-    bytes.extend_from_slice(text.as_bytes())?;
+    let mut bytes = Vec::with_capacity(alloc, row.len())?;
+    bytes.extend_from_slice(row)?;
     let line = Line { number, bytes };
     let said = parse_event(alloc, &line);
     drop(line);
@@ -202,8 +189,8 @@ fn add_replayed(
 {
     let mut text = String::new(alloc);
     match replayed {
-        Replayed::Same(count) => writeln!(text, "same {count}")?,
-        Replayed::Differs(place) => writeln!(text, "differs {place}")?,
+        Replayed::Same(count) => writeln!(text, "same\t{count}")?,
+        Replayed::Differs(place) => writeln!(text, "differs\t{place}")?,
     }
     transcript.add(text.as_str())
 }
