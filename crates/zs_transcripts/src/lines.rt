@@ -54,7 +54,8 @@ pub any k enc=zenoh/bytes prio=5 cc=drop express=0 rel=1 => pub any k";
 /// Puts and deletes, and pushes of the network.
 const PUBLICATIONS: &str = "\
 pput 2 x01
-pput 2 x01 enc=
+pput 2 x01 enc= => pput 2 x01 enc=zenoh/bytes
+pput 2 x01 enc=zenoh/bytes
 pput 2 x01 enc=a
 pput 2 x01 prio=1 => nothing
 pput 2 => nothing
@@ -66,7 +67,8 @@ delete any k enc=a => nothing
 put any test/k x7a656e6f68
 put local é xFf => put local é xff
 put any k x
-put any k x enc=
+put any k x enc= => put any k x
+put any k x enc=zenoh/bytes => put any k x
 put any k x prio=7 rel=0
 put any k x rel=0 prio=7 => nothing
 put any k x prio=7 prio=7 => nothing
@@ -128,6 +130,8 @@ undeclare queryable 2
 background queryable 2
 reply 0 a x01
 reply 0 a x01 prio=7
+reply 0 a x01 enc=zenoh/bytes => reply 0 a x01
+reply 0 a x01 enc=text/plain
 reply 0 a x01 prio=0 => nothing
 reply 0 a x01 rel=1 => nothing
 reply 00 a x01 => nothing
