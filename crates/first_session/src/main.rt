@@ -76,6 +76,7 @@ fn act(rt: &impl Print, effect: &Effect) -> Result<()> {
     Ok(())
 }
 
+/// Opens a session and takes it through its events, each with the lines that a script's run would print of it.
 fn run(rt: &impl Print, alloc: Global) -> Result<()> {
     let mut state = SessionState::new(alloc, &Settings::default())?;
     let events = [
@@ -96,6 +97,7 @@ fn run(rt: &impl Print, alloc: Global) -> Result<()> {
     Ok(())
 }
 
+/// Runs the session, with the system's memory and its standard output.
 fn main(rt: HostRuntime) -> Result<()> {
     run(&rt, rt.alloc())
 }

@@ -187,6 +187,7 @@ fn status(host: &HostRuntime, rt: &(impl Wait + Threads + Sync), alloc: Global) 
     }
 }
 
+/// Runs the program on the host. It exits with what `status` answers.
 fn main(rt: HostRuntime) -> ExitCode {
     ExitCode::from(status(&rt, &rt, rt.alloc()))
 }

@@ -12,6 +12,8 @@ use std::alloc::AllocError;
 use zs_events::{BackgroundKind, Effects, Event, Refusal};
 use zs_world::{Change, Decision, EntityChange, SessionTables};
 
+/// What has that kind and number is left to itself: it lives on, and can no longer be named. `NotFound` where it can't
+/// be named now.
 pub fn decide_background(
     world: &SessionTables,
     kind: BackgroundKind,

@@ -13,6 +13,7 @@ use zs_model::into_owned;
 use zs_wire::Message;
 use zs_world::{Change, Decision, KeyChange, SessionTables};
 
+/// A key is declared, and its number is the answer. One that is held already is held once more, untold to the network.
 pub fn decide_key(world: &SessionTables, key: &KeyArg) -> Result<Decision, AllocError>
     ensures { IfOk result (λ made. made ≡ open_decision world.now (Event.Key key.now)) }
 {
@@ -40,6 +41,8 @@ pub fn decide_key(world: &SessionTables, key: &KeyArg) -> Result<Decision, Alloc
     Ok(Decision::accepted(Some(u32::from(number)), effects, change))
 }
 
+/// A declared key is given back. `NotFound` where its number stands for no such key, `NotDeclared` where the argument
+/// is a text, or a declared key with a suffix.
 pub fn decide_undeclare_key(world: &SessionTables, key: &KeyArg) -> Result<Decision, AllocError>
     ensures { IfOk result (λ made. made ≡ open_decision world.now (Event.UndeclareKey key.now)) }
 {

@@ -19,6 +19,7 @@ use zs_tables::{ListenerRow, RemoteQueryable, RemoteSubscriber};
 use zs_wire::{Message, WireExpr};
 use zs_world::{Change, Decision, EntityChange, EntityRow, MatchingChange, SessionTables};
 
+/// A listener to a publisher or querier is declared; the network isn't told. `NotFound` where that doesn't live.
 pub fn decide_listen(
     world: &SessionTables,
     parent: ParentKind,
@@ -37,6 +38,7 @@ pub fn decide_listen(
     Ok(Decision::accepted(Some(number), Effects::new(world.alloc), change))
 }
 
+/// Whether anyone matches a publisher or querier now, answered as 1 or 0. `NotFound` where that doesn't live.
 pub fn decide_status(
     world: &SessionTables,
     parent: ParentKind,
@@ -51,6 +53,7 @@ pub fn decide_status(
     Ok(Decision::quiet(world.alloc, Some(as_number(count > 0)), Change::Nothing))
 }
 
+/// A listener ends; the network isn't told. `NotFound` also where it was left to itself.
 pub fn decide_undeclare_listener(world: &SessionTables, id: u32) -> Result<Decision, AllocError>
     ensures { IfOk result (λ made. made ≡ open_decision world.now (Event.Undeclare EntityKind.Listener id)) }
 {
@@ -64,6 +67,7 @@ pub fn decide_undeclare_listener(world: &SessionTables, id: u32) -> Result<Decis
     Ok(Decision::of(Effects::new(world.alloc), change))
 }
 
+/// The network tells a subscriber, in place of one of its number: listeners may match it from now on.
 pub fn decide_remote_subscriber(
     world: &SessionTables,
     id: u32,
@@ -81,6 +85,7 @@ pub fn decide_remote_subscriber(
     Ok(Decision::quiet(world.alloc, None, change))
 }
 
+/// The network tells a queryable, in place of one of its number: listeners may match it from now on.
 pub fn decide_remote_queryable(
     world: &SessionTables,
     id: u32,
@@ -103,6 +108,7 @@ pub fn decide_remote_queryable(
     Ok(Decision::quiet(world.alloc, None, change))
 }
 
+/// The network ends a subscriber. `Ignored` where it told none of that number.
 pub fn decide_ended_sub(world: &SessionTables, id: u32) -> Result<Decision, AllocError>
     ensures { IfOk result (λ made. made ≡ open_decision world.now (Event.Net (Message.UndeclareSubscriber id))) }
 {
@@ -113,6 +119,7 @@ pub fn decide_ended_sub(world: &SessionTables, id: u32) -> Result<Decision, Allo
     Ok(Decision::quiet(world.alloc, None, change))
 }
 
+/// The network ends a queryable. `Ignored` where it told none of that number.
 pub fn decide_ended_queryable(world: &SessionTables, id: u32) -> Result<Decision, AllocError>
     ensures { IfOk result (λ made. made ≡ open_decision world.now (Event.Net (Message.UndeclareQueryable id))) }
 {

@@ -16,6 +16,7 @@ use zs_model::{PubRow, into_owned};
 use zs_tables::GroupKind;
 use zs_world::{Change, Decision, EntityChange, EntityRow, SessionTables};
 
+/// A publisher is declared. The network hears of the first one of a group, if it is in the destination.
 pub fn decide_pub(
     world: &SessionTables,
     key: &KeyArg,
@@ -54,6 +55,7 @@ pub fn decide_pub(
     Ok(Decision::accepted(Some(id), effects, change))
 }
 
+/// A publisher ends, and the listeners to it. The network hears of the last one of a group that it was told of.
 pub fn decide_undeclare_pub(world: &SessionTables, id: u32) -> Result<Decision, AllocError>
     ensures { IfOk result (λ made. made ≡ open_decision world.now (Event.Undeclare EntityKind.Pub id)) }
 {

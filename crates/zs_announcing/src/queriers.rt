@@ -17,6 +17,8 @@ use zs_model::{KeyList, QuerierRow, into_owned};
 use zs_tables::GroupKind;
 use zs_world::{Change, Decision, EntityChange, EntityRow, SessionTables};
 
+/// A querier is declared. The network hears of the first one on a key, if it is in the destination: queriers have
+/// no aggregates.
 pub fn decide_querier(
     world: &SessionTables,
     key: &KeyArg,
@@ -55,6 +57,7 @@ pub fn decide_querier(
     Ok(Decision::accepted(Some(id), effects, change))
 }
 
+/// A querier ends, and with it its open gets, whatever they miss, and the listeners to it.
 pub fn decide_undeclare_querier(world: &SessionTables, id: u32) -> Result<Decision, AllocError>
     ensures { IfOk result (λ made. made ≡ open_decision world.now (Event.Undeclare EntityKind.Querier id)) }
 {

@@ -16,6 +16,7 @@ use zs_tables::QueryableRow;
 use zs_wire::Message;
 use zs_world::{Change, Decision, EntityChange, EntityRow, SessionTables};
 
+/// A queryable is declared. It shares its declaration with no other, even on the same key.
 pub fn decide_queryable(
     world: &SessionTables,
     origin: Locality,
@@ -43,6 +44,7 @@ pub fn decide_queryable(
     Ok(Decision::accepted(Some(id), effects, change))
 }
 
+/// A queryable ends. `NotFound` also where it was left to itself.
 pub fn decide_undeclare_queryable(world: &SessionTables, id: u32) -> Result<Decision, AllocError>
     ensures { IfOk result (λ made. made ≡ open_decision world.now (Event.Undeclare EntityKind.Queryable id)) }
 {

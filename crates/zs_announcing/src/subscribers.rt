@@ -22,6 +22,7 @@ use zs_tables::{GroupKind, SubRow};
 use zs_wire::Message;
 use zs_world::{Change, Decision, EntityChange, EntityRow, SessionTables};
 
+/// A subscriber is declared. The network hears of the first one of a group, if it is in the origin.
 pub fn decide_sub(
     world: &SessionTables,
     origin: Locality,
@@ -56,6 +57,8 @@ pub fn decide_sub(
     Ok(Decision::accepted(Some(id), effects, change))
 }
 
+/// A subscriber ends. The network hears of the last one of a group that it was told of. `NotFound` also where the
+/// subscriber was left to itself.
 pub fn decide_undeclare_sub(world: &SessionTables, id: u32) -> Result<Decision, AllocError>
     ensures { IfOk result (λ made. made ≡ open_decision world.now (Event.Undeclare EntityKind.Sub id)) }
 {
@@ -85,6 +88,8 @@ pub fn names_sub(world: &SessionTables, id: u32) -> bool
     world.tables.has(id) && !world.left_subs.contains(id)
 }
 
+/// The session closes: the network is told, then queryables end, subscribers, those to liveliness, gets and the gets of
+/// tokens.
 pub fn decide_close(world: &SessionTables) -> Result<Decision, AllocError>
     ensures { IfOk result (λ made. made ≡ open_decision world.now Event.Close) }
 {

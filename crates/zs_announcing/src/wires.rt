@@ -27,6 +27,7 @@ pub fn wire_form(
     }
 }
 
+/// The form of a key that was named by a declaration: whole where the declaration doesn't stand for its front here.
 fn wire_by(world: &SessionTables, text: &str, declared: Declared) -> Result<WireExpr, AllocError>
     ensures { IfOk result (λ wire. wire ≡ wire_form (own_keys_at world.now) text.now (Some declared)) }
 {

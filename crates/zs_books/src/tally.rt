@@ -14,10 +14,12 @@ struct Cut<L: Ledger> {
 }
 
 impl<L: Ledger> Cut<L> {
+    /// Says in how many parts the ledger is cut: in 4294967296, those of a session. It does nothing when it runs.
     fn tell(&self)
         ensures { L.parts ≡ 4294967296 }
     {}
 
+    /// The same fact for another share of the ledger.
     fn again(&self) -> Cut<L> {
         self.tell();
         Cut { of: PhantomData }

@@ -55,6 +55,7 @@ impl PartialEq for ZBytes {
 
     ghost laws = { partial_equiv_from_equiv (on_equiv bytes_of nat_list_eq_equiv) };
 
+    /// Whether the bytes are the same in the same order, wherever the slices are cut. It takes no memory.
     fn eq(&self, other: &Self) -> bool {
         same_left(&mut self.reader(), &mut other.reader())
     }

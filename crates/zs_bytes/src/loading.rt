@@ -28,6 +28,7 @@ impl From<AllocError> for ReadError {
 
     ghost from_gives = { λ _ e. e ≡ ReadError.NoMemory };
 
+    /// Want of memory is `NoMemory`, so that `?` hands it on.
     fn from(_error: AllocError) -> ReadError {
         ReadError::NoMemory
     }

@@ -27,6 +27,7 @@ impl From<AllocError> for TextError {
 
     ghost from_gives = { λ _ e. e ≡ TextError.NoMemory };
 
+    /// Want of memory is `NoMemory`, so that `?` hands it on.
     fn from(_error: AllocError) -> TextError {
         TextError::NoMemory
     }
@@ -42,6 +43,7 @@ pub struct ZBytes {
 }
 
 impl Drop for ZBytes {
+    /// Gives up the slices. Memory that other payloads share stays.
     fn drop(self) {
         let ZBytes { slices, len: _ } = self;
         drop(slices);
@@ -64,6 +66,7 @@ impl Model for ZBytes {
 impl Default for ZBytes {
     ghost is_default = { λ value. value ≡ [] };
 
+    /// The payload without a slice, as `new` makes it.
     fn default() -> ZBytes {
         ZBytes::new()
     }
@@ -94,6 +97,7 @@ impl ZBytes {
         self.len == 0
     }
 
+    /// The slices as they are stored, in order.
     pub(crate) fn as_slices(&self) -> &[Bytes]
         ensures { result.now ≡ self.now }
     {

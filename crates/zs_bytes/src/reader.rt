@@ -186,6 +186,7 @@ fn moved(base: u64, offset: i64, end: u64) -> Option<u64>
 impl<'a> io::Read for ZBytesReader<'a> {
     ghost remaining = { λ r. Some (unread r) };
 
+    /// Copies the next bytes, as many as fit or are left, and never fails. 0 is the end, or a buffer without room.
     fn read(&mut self, buf: &mut [u8]) -> io::Result<usize>
         ensures bound { ReadsAtMost result buf.new }
         ensures bytes { ReadConsumes (Some (unread self.old)) (Some (unread self.new)) result buf.new }
@@ -200,6 +201,7 @@ impl<'a> io::Read for ZBytesReader<'a> {
 impl<'a> io::Seek for ZBytesReader<'a> {
     ghost stream_bytes = { λ r. Some r.bytes };
 
+    /// Goes to a place, at most the end, and returns it in bytes from the start. Below the start it is `InvalidInput`.
     fn seek(&mut self, to: SeekFrom) -> io::Result<u64>
         ensures bytes { Keeps (Some self.old.bytes) (Some self.new.bytes) }
         ensures refused { IsErr result ↔ (seek_target self.old to <ℤ pos 0) }
@@ -214,6 +216,7 @@ impl<'a> io::Seek for ZBytesReader<'a> {
         }
     }
 
+    /// Goes back to the start, and never fails.
     fn rewind(&mut self) -> io::Result<()>
         ensures bytes { Keeps (Some self.old.bytes) (Some self.new.bytes) }
         ensures ok { IsOk result }
@@ -223,6 +226,7 @@ impl<'a> io::Seek for ZBytesReader<'a> {
         Ok(())
     }
 
+    /// How many bytes are behind the reader. It never fails.
     fn stream_position(&mut self) -> io::Result<u64>
         ensures bytes { Keeps (Some self.old.bytes) (Some self.new.bytes) }
         ensures value { result ≡ Ok self.old.position }
@@ -231,6 +235,7 @@ impl<'a> io::Seek for ZBytesReader<'a> {
         Ok(self.position as u64)
     }
 
+    /// Goes on or back by that many bytes, up to the end. Below the start it is refused, as by `seek`.
     fn seek_relative(&mut self, offset: i64) -> io::Result<()>
         ensures bytes { Keeps (Some self.old.bytes) (Some self.new.bytes) }
         ensures refused { IsErr result ↔ ((pos self.old.position +ℤ offset) <ℤ pos 0) }

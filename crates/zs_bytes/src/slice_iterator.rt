@@ -1,7 +1,7 @@
 //! The slices of a payload, one at a time.
 
-ghost use Rattle.std.specs.Prelude.{◌≡◌};
-ghost use Rattle.std.specs.Iterator.{YieldsFirstRef, item_count};
+ghost use Rattle.std.specs.Prelude.{◌≡◌, ◌≤◌, Some, IfSome, length};
+ghost use Rattle.std.specs.Iterator.{YieldsFirstRef, UpTo, at_most, item_count};
 
 use bytes::Bytes;
 use std::marker::Model;
@@ -21,6 +21,7 @@ impl<'a> Model for ZBytesSliceIterator<'a> {
 }
 
 impl<'a> ZBytesSliceIterator<'a> {
+    /// An iterator over these slices.
     pub(crate) fn over(rest: &'a [Bytes]) -> ZBytesSliceIterator<'a>
         ensures { result ≡ rest.now }
     {
@@ -35,13 +36,19 @@ impl<'a> Iterator for ZBytesSliceIterator<'a> {
 
     ghost remaining = { item_count (λ rest. rest) };
 
+    /// The first slice that is left, as the payload holds it: nothing is copied.
     fn next(&mut self) -> Option<&'a [u8]> {
         let (first, rest) = self.rest.split_first()?;
         self.rest = rest;
         Some(first.as_slice())
     }
 
-    fn size_hint(&self) -> (usize, Option<usize>) {
+    /// How many slices are left, exactly: the lower bound is the upper one.
+    fn size_hint(&self) -> (usize, Option<usize>)
+        ensures lower { result.0 ≤ length self.now }
+        ensures upper { IfSome result.1 (UpTo (at_most (length self.now))) }
+        ensures exact { result ≡ (length self.now, Some (length self.now)) }
+    {
         (self.rest.len(), Some(self.rest.len()))
     }
 }

@@ -30,6 +30,7 @@ impl Slices {
         }
     }
 
+    /// The slices in order, however they are held. It takes no memory.
     pub(crate) fn as_slice(&self) -> &[Bytes]
         ensures { result.now ≡ slices_of self.now }
     {

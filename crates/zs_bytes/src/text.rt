@@ -1,3 +1,4 @@
+//! Texts that are never changed, whose copies share their memory.
 ghost use Rattle.std.specs.Prelude.{◌≡◌, ◌↔◌, [], IsTrue, IfOk, codes, encode_utf8_all};
 ghost use Rattle.std.specs.Str.{chars};
 ghost use Rattle.zs_bytes.specs.Text.{held_bytes};
@@ -16,6 +17,7 @@ enum Held {
 }
 
 impl Held {
+    /// The text in UTF-8: a constant, or what lies in shared memory.
     fn as_str(&self) -> &str
         ensures { result.now ≡ held_bytes self.now }
     {
@@ -26,6 +28,7 @@ impl Held {
         }
     }
 
+    /// The same text in the same place. It fails only where a shared one has more copies than can be counted.
     fn try_clone(&self) -> Result<Held, AllocError>
         ensures { IfOk result (λ copy. held_bytes copy ≡ held_bytes self.now) }
     {
@@ -43,6 +46,7 @@ pub struct Text {
 }
 
 impl Drop for Text {
+    /// Gives up the text. Memory that other copies share stays.
     fn drop(self) {
         let Text { held } = self;
         drop(held);
@@ -111,6 +115,7 @@ impl Text {
 }
 
 impl fmt::Debug for Text {
+    /// Shows the text in quotes, with its escapes, as Debug of a `str` does.
     fn fmt<W: fmt::Write>(&self, f: &mut fmt::Formatter<W>) -> fmt::Result {
         fmt::Debug::fmt(&self.as_str(), f)
     }

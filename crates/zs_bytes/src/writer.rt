@@ -167,6 +167,7 @@ fn close(alloc: Global, slices: &mut Vec<Bytes>, tail: &mut Vec<u8>) -> Result<(
 impl io::Write for ZBytesWriter {
     ghost contents = { λ w. Some (bytes_written w) };
 
+    /// Takes all the bytes or, for want of memory, none of them.
     fn write(&mut self, buf: &[u8]) -> io::Result<usize>
         ensures bound { WritesAtMost result buf.now }
         ensures bytes { WriteAppends (Some (bytes_written self.old)) (Some (bytes_written self.new)) result buf.now }
@@ -178,6 +179,7 @@ impl io::Write for ZBytesWriter {
         Ok(ZBytesWriter::write(self, buf)?)
     }
 
+    /// Does nothing, and never fails: what was written is there already.
     fn flush(&mut self) -> io::Result<()>
         ensures bytes { Keeps (Some (bytes_written self.old)) (Some (bytes_written self.new)) }
         ensures same { self.new ≡ self.old }

@@ -30,6 +30,7 @@ pub extern "C" fn yq_effect(alloc: Global, slot: &mut Slot, effect: &mut EffectF
     }
 }
 
+/// Writes the numbers of the session's first effect, which stays. It answers `NOTHING` where none waits.
 fn tell_first(session: &LineSession, effect: &mut EffectForm) -> u32
     ensures done { result ≡ 0 → TellsFirst session.now.effects effect.new }
     ensures kept { ¬ (result ≡ 0) → effect.new ≡ effect.old }
@@ -98,6 +99,7 @@ fn is_part(part: u8) -> bool
     1 <= part && part <= 5
 }
 
+/// Copies from a part that is known to exist. Where no effect waits, the count is 0 and the status `NOTHING`.
 fn copy_first(session: &LineSession, part: u8, out: &mut [u8], count: &mut usize) -> u32
     ensures done { result ≡ 0 → CopiesFirst part session.now.effects out.old out.new count.new }
     ensures kept { ¬ (result ≡ 0) → (out.new ≡ out.old) × (count.new ≡ 0) }
@@ -135,6 +137,7 @@ pub extern "C" fn yq_next_effect(alloc: Global, slot: &mut Slot) -> u32
     }
 }
 
+/// Lets go of the session's first effect. It answers `NOTHING` where none waits.
 fn drop_first(session: &mut LineSession) -> u32
     ensures done { result ≡ 0 → DropsFirst session.old session.new }
     ensures kept { ¬ (result ≡ 0) → session.new ≡ session.old }

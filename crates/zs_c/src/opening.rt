@@ -57,6 +57,7 @@ fn fill(alloc: Global, slot: &mut Slot, form: &SettingsForm) -> u32
     }
 }
 
+/// Opens a session in a box of its own. An error is want of memory alone.
 fn boxed(alloc: Global, settings: &Settings) -> Result<Box<LineSession>, AllocError>
     requires { IsTrue (is_valid settings.now) }
     ensures { IfOk result (λ made. made.value ≡ opened settings.now) }

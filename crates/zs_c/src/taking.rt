@@ -43,6 +43,7 @@ pub(crate) fn take(
     }
 }
 
+/// Gives the event to the session of the slot, if it has one. The event is freed in either case.
 fn take_event(alloc: Global, slot: &mut Slot, event: Event, answer: &mut AnswerForm) -> u32
     ensures { Called (Some event) slot.old.handle.value slot.new.handle.value answer.old answer.new result }
 {

@@ -18,6 +18,7 @@ enum About {
     Other,
 }
 
+/// What a message is about: `Other` is what the steps here don't send.
 fn message_about(message: &Message) -> About {
     match message {
         Message::DeclareSubscriber { .. } => About::Declaration,
@@ -43,6 +44,7 @@ fn drained_about<H: Drop, B: Books, R: Wait>(
     }
 }
 
+/// What an event is about: `Other` is what the steps here don't take.
 fn event_about(event: &Event) -> About {
     match event {
         Event::Sub { .. } => About::Declaration,

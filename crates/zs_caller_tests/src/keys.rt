@@ -35,6 +35,7 @@ enum GivenBack {
     Otherwise,
 }
 
+/// What a session's error says of a key that is given back.
 fn refused_for(why: SessionError) -> GivenBack {
     match why {
         SessionError::Refused(Refusal::NotFound) => GivenBack::NotFound,

@@ -24,6 +24,7 @@ pub(crate) enum Calls {
     Threads,
 }
 
+/// Makes the calls, and uses the caller up; some of them split it twice.
 fn make<
     E: EntryLedger + Send + Sync,
     S: Ledger + Send + Sync,
@@ -48,6 +49,7 @@ fn make<
     }
 }
 
+/// Opens a session of default settings for the calls; without a session the test fails.
 fn open<
     E: EntryLedger + Send + Sync,
     S: Ledger + Send + Sync,
@@ -78,22 +80,26 @@ fn run<R: Wait + Abort + Threads + Sync>(rt: &R, alloc: Global, calls: Calls) {
     open::<Brand, Brand, Brand, R>(rt, alloc, calls, entries, sent, drained);
 }
 
+/// A caller that has all parts is told each event with its turn, and each message, once.
 #[test]
 fn tells_one_caller(rt: HostRuntime) {
     run(&rt, rt.alloc(), Calls::OneCaller);
 }
 
+/// A share isn't told how many events there are; who joins all parts again is.
 #[test]
 fn tells_whoever_has_all_parts(rt: HostRuntime) {
     run(&rt, rt.alloc(), Calls::TwoCallers);
 }
 
+/// A key is given back as often as it was declared; a stranger's, or one under no number, is refused.
 #[test]
 fn gives_keys_back_as_often(rt: HostRuntime) {
     run(&rt, rt.alloc(), Calls::Keys);
 }
 
+/// Two threads put beside each other for a slow receiver, and the session counts all their puts.
 #[test]
-fn all_puts_are_in_the_journal(rt: HostRuntime) {
+fn all_puts_are_counted(rt: HostRuntime) {
     run(&rt, rt.alloc(), Calls::Threads);
 }

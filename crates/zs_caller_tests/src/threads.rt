@@ -81,7 +81,7 @@ fn run_three<
 }
 
 /// Two callers put beside each other for a subscriber whose fifo has room for one item and whose receiver is slow, so each put
-/// waits until the one before it was taken. All entries are in the journal.
+/// waits until the one before it was taken. The session counts the entries of all.
 pub(crate) fn three_threads<
     E: EntryLedger + Send + Sync,
     S: Ledger + Send + Sync,

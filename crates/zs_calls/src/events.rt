@@ -12,6 +12,7 @@ use zs_events::{
 use zs_sample::Locality;
 use zs_wire::Value;
 
+/// What the session itself publishes on a key.
 #[tactic(auto, unfolding(zs_held::specs::Numbers::numbered_at))]
 pub(crate) fn publish(
     destination: Locality,
@@ -30,6 +31,7 @@ pub(crate) fn publish(
     }
 }
 
+/// What the publisher of that number publishes, on its key and with its quality.
 #[tactic(auto, unfolding(zs_held::specs::Numbers::numbered_at))]
 pub(crate) fn publish_by(id: u32, update: Shared<Update>) -> Event
     ensures event { result ≡ PublishBy id update }
@@ -38,6 +40,7 @@ pub(crate) fn publish_by(id: u32, update: Shared<Update>) -> Event
     Event::PublishBy { id, update }
 }
 
+/// A get on a key. Its replies go to its handler, so it names no channel.
 #[tactic(auto, unfolding(zs_held::specs::Numbers::numbered_at, zs_turns::specs::Gates::takes_handler))]
 pub(crate) fn get(key: KeyArg, settings: QuerySettings, inquiry: Shared<Inquiry>) -> Event
     ensures event { result ≡ Get key settings inquiry Print }
@@ -52,6 +55,7 @@ pub(crate) fn get(key: KeyArg, settings: QuerySettings, inquiry: Shared<Inquiry>
     }
 }
 
+/// A get of the querier of that number. Its replies go to its handler, so it names no channel.
 #[tactic(auto, unfolding(zs_held::specs::Numbers::numbered_at, zs_turns::specs::Gates::takes_handler))]
 pub(crate) fn querier_get(id: u32, inquiry: Shared<Inquiry>) -> Event
     ensures event { result ≡ QuerierGet id inquiry Print }
@@ -65,6 +69,7 @@ pub(crate) fn querier_get(id: u32, inquiry: Shared<Inquiry>) -> Event
     }
 }
 
+/// An answer under a query's number: what a key's value is, or that it is deleted.
 #[tactic(auto, unfolding(zs_held::specs::Numbers::numbered_at))]
 pub(crate) fn reply(value: u32, key: KeyArg, update: Shared<Update>, quality: ReplyQuality) -> Event
     ensures event { result ≡ Reply value key update quality }
@@ -78,6 +83,7 @@ pub(crate) fn reply(value: u32, key: KeyArg, update: Shared<Update>, quality: Re
     }
 }
 
+/// An answer under a query's number: an error.
 #[tactic(auto, unfolding(zs_held::specs::Numbers::numbered_at))]
 pub(crate) fn reply_err(value: u32, error: Shared<Value>) -> Event
     ensures event { result ≡ ReplyErr value error }
@@ -86,6 +92,7 @@ pub(crate) fn reply_err(value: u32, error: Shared<Value>) -> Event
     Event::ReplyErr { value, error }
 }
 
+/// One more of the query of that number: the answer is the new one's number.
 #[tactic(auto, unfolding(zs_held::specs::Numbers::numbered_at))]
 pub(crate) fn share(value: u32) -> Event
     ensures event { result ≡ Share value }
@@ -94,6 +101,7 @@ pub(crate) fn share(value: u32) -> Event
     Event::Share { value }
 }
 
+/// The query of that number is given back.
 #[tactic(auto, unfolding(zs_held::specs::Numbers::numbered_at))]
 pub(crate) fn finish(value: u32) -> Event
     ensures event { result ≡ Finish value }

@@ -87,6 +87,7 @@ pub trait QueryValues {
 }
 
 impl QueryCalls for Query {
+    /// The answer in the making: nothing is answered before its `wait`, which also tells a session that isn't its own.
     fn reply<'a, H, B: Books>(
         &'a self,
         session: &'a Session<H, B>,
@@ -98,6 +99,7 @@ impl QueryCalls for Query {
         ReplyBuilder::of(self, session, key, PublicationBuilderPut::of(payload))
     }
 
+    /// The answer in the making, which has no payload: nothing is answered before its `wait`.
     fn reply_del<'a, H, B: Books>(
         &'a self,
         session: &'a Session<H, B>,
@@ -108,6 +110,7 @@ impl QueryCalls for Query {
         ReplyBuilder::of(self, session, key, PublicationBuilderDelete)
     }
 
+    /// The error in the making, with a payload that says what is wrong: nothing is answered before its `wait`.
     fn reply_err<'a, H, B: Books>(
         &'a self,
         session: &'a Session<H, B>,
@@ -120,6 +123,7 @@ impl QueryCalls for Query {
 }
 
 impl QuerySamples for Query {
+    /// The sample's answer in the making: it holds the sample whole, and nothing is answered before its `wait`.
     fn reply_sample<'a, H, B: Books>(
         &'a self,
         session: &'a Session<H, B>,
@@ -132,6 +136,7 @@ impl QuerySamples for Query {
 }
 
 impl QueryValues for Query {
+    /// Copies the query before the session is stepped, so that a number is drawn only for a query that is there.
     fn share<H: Handler<Item> + Drop, B: Books, R: Wait>(
         &self,
         rt: &R,
@@ -158,6 +163,7 @@ impl QueryValues for Query {
         }
     }
 
+    /// Lets go of the query only once its end was accepted; otherwise it comes back with the reason.
     fn finish<H: Handler<Item> + Drop, B: Books, R: Wait>(
         self,
         rt: &R,

@@ -58,6 +58,7 @@ fn body_of(
 }
 
 impl<'a, H, B: Books> ReplySample<'a, H, B> {
+    /// A sample that is to answer that query. Whether the session is the query's shows at its `wait`.
     pub(crate) fn of(
         query: &'a Query,
         session: &'a Session<H, B>,

@@ -25,18 +25,21 @@ pub trait SessionCalls<H, B: Books> {
 }
 
 impl<H, B: Books> SessionCalls<H, B> for Session<H, B> {
+    /// A put with the default quality, for all subscribers, of which nothing else is said.
     fn put<'a>(&'a self, key: KeyExpr<'a>, payload: ZBytes) -> SessionPutBuilder<'a, H, B>
         ensures { result ≡ published (on_key self.now key.entry) (put_of payload) }
     {
         PublicationBuilder::new(OnKey::of(self, key), PublicationBuilderPut::of(payload))
     }
 
+    /// A delete with the default quality, for all subscribers, of which nothing else is said.
     fn delete<'a>(&'a self, key: KeyExpr<'a>) -> SessionDeleteBuilder<'a, H, B>
         ensures { result ≡ published (on_key self.now key.entry) Deletes }
     {
         PublicationBuilder::new(OnKey::of(self, key), PublicationBuilderDelete)
     }
 
+    /// A get with the default settings, without a payload and a handler.
     fn get<'a>(&'a self, selector: &'a Selector<'a>) -> SessionGetBuilder<'a, H, B>
         ensures { result ≡ session_get self.now selector.now }
     {

@@ -1,4 +1,4 @@
-// A handler of a token.
+//! What a token keeps of each handler.
 
 /// A handler: a job, and the number by which it can be removed.
 #[derive(Drop)]

@@ -1,4 +1,4 @@
-// The answers of a token that a caller has to expect.
+//! The answers of a token that a caller has to expect: why a job is not added, and what a failed cancellation says.
 
 /// Why a job was not added.
 #[derive(Clone, Copy, Debug, PartialEq, Eq)]

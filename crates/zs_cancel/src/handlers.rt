@@ -28,6 +28,7 @@ impl<J: Job> Model for Handlers<J> {
 }
 
 impl<J: Job> Handlers<J> {
+    /// The handlers of these entries, none of which has run. They run in the order of the list.
     pub(crate) fn new(entries: Vec<Entry<J>, Global>) -> Handlers<J>
         ensures { result ≡ entries.items }
     {

@@ -1,4 +1,4 @@
-// The state of a token as it lies under its lock, and the right to tell the outcome.
+//! What a token's lock guards: the state, and the permit to tell the outcome.
 ghost use Rattle.std.specs.Prelude.{◌≡◌, ◌==◌, ◌↔◌, true, false, IsSome, IfSome, IfNone, IfOk, OnOk, IfErr, IsErrAnd};
 ghost use Rattle.std.specs.List.{list_any};
 ghost use Rattle.atomic_table.specs.Seated.{TableId, table_id_coded};

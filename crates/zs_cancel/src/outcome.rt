@@ -1,4 +1,4 @@
-// How a run ended.
+//! The outcome of a cancellation.
 
 /// How the run of a token's handlers ended.
 #[derive(Clone, Copy, Debug, PartialEq, Eq)]

@@ -63,6 +63,8 @@ impl<J: Job> Model for CancelResult<J> {
 }
 
 impl<J: Job> Shared<J> {
+    /// A new token's state under its lock, no notifiers, and no events. The state holds the gate's only pass,
+    /// which is the permit. The error is want of memory.
     fn new(alloc: Global) -> Result<Shared<J>, AllocError> {
         let (mut door, keeper) = Gate::open(alloc)?;
         let Ok(pass) = door.pass() else {
@@ -76,6 +78,7 @@ impl<J: Job> Shared<J> {
         })
     }
 
+    /// The outcome, if it is told by now. It takes the lock for the look alone, and doesn't wait for the run.
     fn result<R: Wait>(&self, rt: &R) -> Option<Outcome> {
         let (locked, taken) = self.lock.take(rt);
         let result = locked.result();

@@ -121,6 +121,7 @@ impl<D> Model for Reports<D> {
 }
 
 impl<D: Drop> Reports<D> {
+    /// What became of the items, as the session told it when the passes went back.
     pub(crate) fn of(reports: Vec<Handed<Item, D>>) -> Reports<D>
         ensures { result ≡ reports.items }
     {

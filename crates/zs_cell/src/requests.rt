@@ -5,6 +5,7 @@ ghost use Rattle.zs_cell.specs.Further.{asks_queryables, is_request};
 use zs_events::Event;
 use zs_wire::Message;
 
+/// Whether a message is a request: no other message asks queryables.
 fn is_request(message: &Message) -> bool
     ensures { result ≡ is_request message.now }
 {

@@ -40,6 +40,7 @@ pub(crate) struct Inner<H, B: Books> {
 }
 
 impl<H: Drop, B: Books> Drop for Inner<H, B> {
+    /// Lets go of the lock, with the session under it.
     fn drop(self) {
         let Inner {
             alloc: _,

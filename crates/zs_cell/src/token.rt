@@ -35,6 +35,7 @@ impl<H, B: Books> Model for SessionToken<H, B> {
 }
 
 impl<H: Drop, B: Books> SessionToken<H, B> {
+    /// The cancellation token that the session drew that number for.
     pub(crate) fn of(session: Session<H, B>, number: u32) -> SessionToken<H, B>
         ensures { result ≡ record { session = session; number = number } }
     {

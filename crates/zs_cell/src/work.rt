@@ -49,6 +49,7 @@ impl<D> Model for Worked<D> {
 }
 
 impl<H: Drop, D: Drop> Work<H, D> {
+    /// The calls of an event that was taken, and the gate that is waited for behind them, if there is one.
     #[tactic(none)]
     pub(crate) fn of(handing: Handing<H, D>, closing: Option<Closing<H>>) -> Work<H, D>
         ensures { result ≡ record { answer = handing.turn.answer; back = handing.back; lents = all_lents (map call_seen handing.calls); waits = is_some closing; gate = option_map (λ c. c.draining.gate) closing } }
@@ -56,6 +57,7 @@ impl<H: Drop, D: Drop> Work<H, D> {
         Work { handing, closing }
     }
 
+    /// What the event was answered; its calls are still to be made.
     #[tactic(none)]
     pub(crate) fn answer(&self) -> Answer
         ensures { result ≡ self.now.answer }

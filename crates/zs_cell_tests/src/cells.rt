@@ -24,11 +24,13 @@ struct Count(AtomicU64);
 impl Handler<Item> for Count {
     type Done = u64;
 
+    /// Counts the call, and tells how many were before it.
     fn on<R: Wait>(&self, _rt: &R, _inside: &Inside, item: Item) -> Handled<Item, u64> {
         drop(item);
         Handled::Taken(self.0.fetch_add(1, Ordering::SeqCst))
     }
 
+    /// Tells how many calls there were.
     fn ended<R: Wait>(&self, _rt: &R, _drained: &Drained) -> u64 {
         self.0.load(Ordering::SeqCst)
     }
@@ -171,6 +173,7 @@ fn run<R: Abort + Wait>(rt: &R, alloc: Global, cell: &mut SessionCell<Count>, lo
     tell(rt, alloc, cell, log);
 }
 
+/// Subscribers are called for what they hear, a refused handler comes back, and each other one is told its end.
 #[test]
 fn calls_and_tells_the_end(rt: HostRuntime) {
     let alloc = rt.alloc();

@@ -81,6 +81,7 @@ fn run(alloc: Global, printed: &mut Printed) -> Result<(), AllocError> {
     Ok(())
 }
 
+/// Each turn is foreseen as it is taken then, and both are the worked ones.
 #[test]
 fn foresees_each_turn(rt: HostRuntime) {
     let alloc = rt.alloc();

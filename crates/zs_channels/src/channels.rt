@@ -1,3 +1,4 @@
+//! All channels of a run.
 ghost use Rattle.std.specs.Prelude.{◌≡◌, false, OnOk, OnErr, option_map};
 ghost use Rattle.std.specs.Option.{is_some};
 ghost use Rattle.zs_channels.specs.Channel.{Channel, with_item, without_first, at_end, received};
@@ -50,6 +51,7 @@ impl<T> Channels<T> {
         self.finds(kind, id)
     }
 
+    /// Whether the kind has a channel of that number. A kind that can't have channels has none.
     fn finds(&self, kind: Kind, id: u32) -> bool
         ensures { result ≡ is_some (channel_at kind id self.now) }
     {

@@ -24,6 +24,7 @@ impl Channels<HandOver> {
         self.hear_effects(turn.effects.as_slice())
     }
 
+    /// Hears the event itself: what draws a number with a handler may open a channel, any other opens none.
     fn hear_declared(&mut self, event: &Event, answer: Answer) -> Result<(), AllocError>
         ensures { OnOk result (self.new ≡ behind_all (opening (row_of event.now).handled (row_of event.now).channel answer) self.old) }
     {
@@ -33,6 +34,7 @@ impl Channels<HandOver> {
         }
     }
 
+    /// Opens the channel under the number that was answered. A refused event opens none.
     fn hear_opening(&mut self, kind: Kind, to: Chan, answer: Answer) -> Result<(), AllocError>
         ensures { OnOk result (self.new ≡ behind_all (opening_of kind to answer) self.old) }
     {
@@ -43,6 +45,7 @@ impl Channels<HandOver> {
         }
     }
 
+    /// Hears effects in their order. At an `Err` those in front were heard.
     fn hear_effects(&mut self, effects: &[Effect]) -> Result<(), AllocError>
         ensures { OnOk result (self.new ≡ behind_all (news_of_effects effects.now) self.old) }
     {
@@ -52,6 +55,7 @@ impl Channels<HandOver> {
         Ok(())
     }
 
+    /// Hears an effect: what is handed over and what ends reaches channels, messages and matching don't.
     fn hear_effect(&mut self, effect: &Effect) -> Result<(), AllocError>
         ensures { OnOk result (self.new ≡ behind_all (news_of_effect effect.now) self.old) }
     {
@@ -66,6 +70,7 @@ impl Channels<HandOver> {
         }
     }
 
+    /// Keeps a sample or a reply for the channel of whom it is handed to. Queries go into no channel.
     fn hear_item(&mut self, item: &HandOver) -> Result<(), AllocError>
         ensures { OnOk result (self.new ≡ behind_all (news_of_item item.now) self.old) }
     {

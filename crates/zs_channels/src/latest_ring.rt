@@ -83,6 +83,7 @@ impl<T> LatestRing<T> {
 }
 
 impl<T: Drop> Drop for LatestRing<T> {
+    /// Lets go of the ring, with the items that weren't read.
     fn drop(self) {
         let LatestRing { size: _, ring: _ } = self;
     }
@@ -98,6 +99,7 @@ fn clear<T: Drop>(ring: &mut RingQueue<T>)
     }
 }
 
+/// What a reader is told of what the ring gave: a ring that has ended is deleted.
 fn answer_of<T>(taken: Result<Option<T>, RingDeleted>) -> Received<T>
     ensures { result ≡ ring_answer taken }
 {

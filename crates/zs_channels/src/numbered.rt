@@ -1,3 +1,4 @@
+//! Channels that share a kind, each under its number.
 ghost use Rattle.std.specs.Prelude.{◌≡◌, [], OnOk, OnErr, option_map};
 ghost use Rattle.std.specs.Option.{is_some};
 ghost use Rattle.zs_channels.specs.Channel.{opened, with_item, without_first, at_end, received};

@@ -1,3 +1,4 @@
+//! One channel, over the queue that it was declared with.
 ghost use Rattle.std.specs.Prelude.{◌≡◌, [], true, IfSome, IfOk, OnOk, OnErr};
 ghost use Rattle.zs_channels.specs.Lent.{channel_lent};
 ghost use Rattle.zs_channels.specs.Channel.{opened, with_item, without_first, at_end, received};
@@ -47,6 +48,7 @@ impl<T> OpenChannel<T> {
         }
     }
 
+    /// A channel with a fifo of that size. Size 0 declares none.
     fn fifo(alloc: Global, size: u32) -> Result<Option<Self>, AllocError>
         ensures { IfOk result (λ made. made ≡ opened (Chan.Fifo size)) }
     {
@@ -59,6 +61,7 @@ impl<T> OpenChannel<T> {
         }))
     }
 
+    /// A channel with a ring of that size. Size 0 declares none.
     fn ring(alloc: Global, size: u32) -> Result<Option<Self>, AllocError>
         ensures { IfOk result (λ made. made ≡ opened (Chan.Ring size)) }
     {
@@ -116,6 +119,7 @@ impl<T> OpenChannel<T> {
 }
 
 impl<T: Drop> Lent<T> {
+    /// Gives the queue's first item. Where all is over, a ring is deleted and a fifo disconnected.
     fn recv(&mut self) -> Received<T>
         ensures answer { result ≡ received (channel_lent self.old) }
         ensures items { channel_lent self.new ≡ without_first (channel_lent self.old) }
@@ -128,6 +132,7 @@ impl<T: Drop> Lent<T> {
         }
     }
 
+    /// Tells the queue that the callback has ended. Where all is over that changes nothing.
     fn end(&mut self)
         ensures { channel_lent self.new ≡ at_end (channel_lent self.old) }
     {

@@ -1,3 +1,4 @@
+//! Which kinds can have channels.
 ghost use Rattle.std.specs.Prelude.{◌≡◌};
 ghost use Rattle.zs_channels.specs.Table.{shelf_of};
 

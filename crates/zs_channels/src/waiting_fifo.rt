@@ -105,6 +105,7 @@ impl<T> WaitingFifo<T> {
 }
 
 impl<T: Drop> Drop for WaitingFifo<T> {
+    /// Lets go of the items in the queue and of those that wait for room in it.
     fn drop(self) {
         let WaitingFifo {
             size: _,
@@ -131,6 +132,7 @@ fn admit<T: Drop>(queue: &mut FifoQueue<T>, waiting: &mut VecDeque<T>, has_ended
     }
 }
 
+/// What a reader is told of what the queue gave: one that has ended and is empty is disconnected.
 fn answer_of<T>(taken: Result<Option<T>, Disconnected>) -> Received<T>
     ensures { result ≡ fifo_answer taken }
 {

@@ -1,3 +1,4 @@
+//! The events by which an application declares entities, leaves them to themselves and ends them.
 ghost use Rattle.std.specs.Prelude.{◌≡◌, true, false};
 ghost use Rattle.zs_events.specs.declared.chan.Chan.TheVariants.{Print};
 ghost use Rattle.zs_events.specs.declared.event.Event.TheVariants.{Sub, Pub, Queryable, Querier, Listen, Status, Token, Lsub, LivelinessGet, Undeclare, Background};

@@ -1,3 +1,4 @@
+//! How a session is stepped by such events.
 ghost use Rattle.std.specs.Prelude.{◌≡◌, None, Some, option_map, is_some, true, false, IfOk, IfErr, OnOk};
 ghost use Rattle.std.specs.Arc.{arc_value};
 ghost use Rattle.zs_events.specs.declared.event.Event.TheVariants.{Status, Undeclare, Background};

@@ -1,3 +1,5 @@
+//! The sides of a link.
+
 /// One of two linked sessions.
 #[derive(Clone, Copy, Debug, PartialEq, Eq, Hash)]
 pub enum LinkSide {

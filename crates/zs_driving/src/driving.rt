@@ -1,3 +1,4 @@
+//! The loop over the lines of a source: read, take, write when due.
 ghost use Rattle.std.specs.Prelude.{◌≡◌, ◌≤◌, ℕ, List, [], Option, IfErr, OnOk, OnErr};
 ghost use Rattle.zs_keys.specs.Stream.{HasRisen, PutsOn};
 ghost use Rattle.zs_lines.specs.Writing.{PutsFrontOn};

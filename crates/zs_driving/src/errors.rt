@@ -1,3 +1,4 @@
+//! Why a run over lines stops early.
 ghost use Rattle.std.specs.Prelude.{◌≡◌};
 
 use std::alloc::AllocError;
@@ -32,6 +33,7 @@ impl From<LineError> for DriveError {
 
     ghost from_gives = { λ line error. error ≡ drive_error line };
 
+    /// What the reading of lines failed of, under the same name. The number of a line that is too long stays.
     fn from(error: LineError) -> DriveError {
         match error {
             LineError::ReadFault => DriveError::ReadFault,
@@ -47,6 +49,7 @@ impl From<WriteFault> for DriveError {
 
     ghost from_gives = { λ _ error. error ≡ DriveError.WriteFault };
 
+    /// A sink that didn't take the text ends a run with `WriteFault`.
     fn from(_error: WriteFault) -> DriveError {
         DriveError::WriteFault
     }
@@ -57,6 +60,7 @@ impl From<AllocError> for DriveError {
 
     ghost from_gives = { λ _ error. error ≡ DriveError.NoMemory };
 
+    /// An allocation that failed ends a run with `NoMemory`.
     fn from(_error: AllocError) -> DriveError {
         DriveError::NoMemory
     }

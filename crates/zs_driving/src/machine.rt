@@ -1,3 +1,4 @@
+//! What a program of lines has to do to be driven.
 ghost use Rattle.std.specs.Prelude.{◌≡◌, ℕ, ◌+◌, Bool, true, false, List, [], ◌∷◌, ◌++◌, length, Ok, IfOk, OnOk, OnErr};
 ghost use Rattle.zs_driving.specs.Tasks.{Rules};
 

@@ -36,6 +36,8 @@ impl<R: Read> Source for StdSource<R> {
 
     ghost faults = { λ s. s.faults };
 
+    /// Reads from std's reader. It counts each read, each that gives bytes, and each error, which is a fault.
+    /// A count of 0 is the end, where there was room.
     fn read(&mut self, into: &mut [u8]) -> Result<usize, Failed>
         ensures within { IfOk result (λ count. count ≤ length into.new) }
         ensures counted { self.new.reads ≡ count_after self.old.reads 1 }
@@ -75,6 +77,7 @@ impl<W: Write> StdSink<W> {
 impl<W: Write> Sink for StdSink<W> {
     ghost faults = { λ s. s.faults };
 
+    /// Writes to std's writer, and counts as a fault an error, and a count of 0 where there were bytes to take.
     fn write(&mut self, piece: &[u8]) -> Result<usize, Failed>
         ensures within { IfOk result (λ count. count ≤ length piece.now) }
         ensures later { self.old.faults ≤ self.new.faults }

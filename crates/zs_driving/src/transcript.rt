@@ -30,6 +30,7 @@ impl Model for Transcript {
 }
 
 impl Transcript {
+    /// A transcript in which nothing waits.
     pub(crate) fn new(alloc: Global) -> Transcript
         ensures { result ≡ [] }
     {

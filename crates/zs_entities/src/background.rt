@@ -1,3 +1,4 @@
+//! Builders of entities that are left to themselves.
 ghost use Rattle.std.specs.Prelude.{◌≡◌};
 
 use std::marker::Model;
@@ -16,12 +17,14 @@ impl<V> Model for BackgroundBuilder<V> {
 }
 
 impl<V> BackgroundBuilder<V> {
+    /// That of an entity, from the builder of one that would be held.
     pub(crate) fn of(builder: V) -> BackgroundBuilder<V>
         ensures { result ≡ builder }
     {
         BackgroundBuilder { builder }
     }
 
+    /// The builder that it was made of, with all that was said of the entity.
     pub(crate) fn into_builder(self) -> V
         ensures { result ≡ self }
     {

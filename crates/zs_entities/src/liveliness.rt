@@ -24,6 +24,7 @@ impl<'a, H, B: Books> Model for Liveliness<'a, H, B> {
 }
 
 impl<'a, H, B: Books> Liveliness<'a, H, B> {
+    /// The liveliness of that session. Nothing is declared or asked by this.
     pub(crate) fn of(session: &'a Session<H, B>) -> Liveliness<'a, H, B>
         ensures { result ≡ session.now }
     {

@@ -32,6 +32,7 @@ impl<'a, H, B: Books> Model for LivelinessTokenBuilder<'a, H, B> {
 }
 
 impl<'a, H, B: Books> LivelinessTokenBuilder<'a, H, B> {
+    /// A token on that key, which isn't declared yet.
     pub(crate) fn of(
         session: &'a Session<H, B>,
         key: KeyExpr<'a>,

@@ -32,24 +32,28 @@ pub trait SessionLiveliness<H, B: Books> {
 }
 
 impl<H, B: Books> SessionEntities<H, B> for Session<H, B> {
+    /// Begins with samples from anywhere, and without a handler.
     fn declare_subscriber<'a>(&'a self, key: KeyExpr<'a>) -> SubscriberBuilder<'a, H, B>
         ensures { result ≡ new_subscriber self.now key.entry }
     {
         SubscriberBuilder::of(self, key)
     }
 
+    /// Begins for all subscribers, with the default encoding and quality, and reliable.
     fn declare_publisher<'a>(&'a self, key: KeyExpr<'a>) -> PublisherBuilder<'a, H, B>
         ensures { result ≡ new_publisher self.now key.entry }
     {
         PublisherBuilder::of(self, key)
     }
 
+    /// Begins with queries from anywhere, not complete, and without a handler.
     fn declare_queryable<'a>(&'a self, key: KeyExpr<'a>) -> QueryableBuilder<'a, H, B>
         ensures { result ≡ new_queryable self.now key.entry }
     {
         QueryableBuilder::of(self, key)
     }
 
+    /// Begins with the same settings as a get of the session.
     fn declare_querier<'a>(&'a self, key: KeyExpr<'a>) -> QuerierBuilder<'a, H, B>
         ensures { result ≡ new_querier self.now key.entry }
     {
@@ -58,6 +62,7 @@ impl<H, B: Books> SessionEntities<H, B> for Session<H, B> {
 }
 
 impl<H, B: Books> SessionLiveliness<H, B> for Session<H, B> {
+    /// Borrows the session, and changes nothing in it.
     fn liveliness<'a>(&'a self) -> Liveliness<'a, H, B>
         ensures { result ≡ self.now }
     {

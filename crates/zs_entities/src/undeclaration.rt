@@ -1,3 +1,4 @@
+//! Ends of entities, which wait for callbacks or don't.
 ghost use Rattle.std.specs.Prelude.{◌≡◌, true, false};
 
 use std::marker::Model;

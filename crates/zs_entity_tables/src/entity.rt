@@ -31,14 +31,17 @@ impl Entity for SubRow {
 
     ghost shared = { sub_shared };
 
+    /// The number that the subscriber drew.
     fn id(&self) -> u32 {
         self.id
     }
 
+    /// Whence the subscriber takes samples: where the network is in that, it is told of the subscriber.
     fn destination(&self) -> Locality {
         self.origin
     }
 
+    /// The key that the subscriber was declared on.
     fn key(&self) -> &KeyExpr<'static> {
         &self.key
     }
@@ -49,14 +52,17 @@ impl Entity for PubRow {
 
     ghost shared = { pub_shared };
 
+    /// The number that the publisher drew.
     fn id(&self) -> u32 {
         self.id
     }
 
+    /// Whose subscribers the publisher's samples are handed to, by its settings.
     fn destination(&self) -> Locality {
         self.settings.get().destination
     }
 
+    /// The key that the publisher was declared on.
     fn key(&self) -> &KeyExpr<'static> {
         &self.key
     }
@@ -67,14 +73,17 @@ impl Entity for QuerierRow {
 
     ghost shared = { querier_shared };
 
+    /// The number that the querier drew.
     fn id(&self) -> u32 {
         self.id
     }
 
+    /// Whose queryables the querier asks, by its settings.
     fn destination(&self) -> Locality {
         self.settings.destination
     }
 
+    /// The key that the querier was declared on.
     fn key(&self) -> &KeyExpr<'static> {
         &self.key
     }

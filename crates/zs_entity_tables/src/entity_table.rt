@@ -29,6 +29,7 @@ impl<R: Entity> Model for EntityTable<R> {
 }
 
 impl<R: Entity> EntityTable<R> {
+    /// No entities. It takes its memory from `alloc`.
     pub fn new(alloc: Global) -> EntityTable<R>
         ensures { result ≡ [] }
     {
@@ -55,6 +56,7 @@ impl<R: Entity> EntityTable<R> {
         drop(self.rows.remove(id));
     }
 
+    /// Takes all entities out.
     pub fn clear(&mut self)
         ensures { self.new ≡ [] }
     {

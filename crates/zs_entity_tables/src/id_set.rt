@@ -23,6 +23,7 @@ impl Model for IdSet {
 }
 
 impl IdSet {
+    /// No numbers. It takes its memory from `alloc`.
     pub fn new(alloc: Global) -> IdSet
         ensures { result ≡ [] }
     {
@@ -49,12 +50,14 @@ impl IdSet {
         self.ids.remove(id);
     }
 
+    /// Takes all numbers out.
     pub fn clear(&mut self)
         ensures { self.new ≡ [] }
     {
         self.ids.clear();
     }
 
+    /// Whether a number is there.
     pub fn contains(&self, id: u32) -> bool
         ensures { result ≡ list_any (λ other. other == id) self.now }
     {

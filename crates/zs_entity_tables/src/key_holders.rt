@@ -90,6 +90,7 @@ impl KeyHolderCounts {
         *count = count.saturating_sub(1);
     }
 
+    /// Nobody holds a number any more; the places of those that were given back go too.
     pub fn clear(&mut self)
         ensures { self.new.rows ≡ [] }
     {

@@ -30,6 +30,7 @@ impl Model for Matching {
 }
 
 impl Matching {
+    /// No listeners, and nobody whom the network told. It takes its memory from `alloc`.
     pub fn new(alloc: Global) -> Matching
         ensures { result ≡ none_kept }
     {

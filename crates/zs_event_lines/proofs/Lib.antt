@@ -2,6 +2,7 @@ pub mod Joining
 pub mod Digits
 pub mod Symbols
 pub mod Options
+pub mod EncodingsBack
 pub mod PartsBack
 pub mod FormsBack
 pub mod PlainFields

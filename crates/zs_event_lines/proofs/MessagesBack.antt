@@ -23,7 +23,8 @@ use Rattle.zs_event_lines.specs.Shown.{shown}
 use Rattle.zs_event_lines.specs.Sayable.{kept, says, is_typed, gathered, gathered_push}
 use Rattle.zs_event_lines.specs.Slots.{Slot, slots_fields, slots_say, slots_are_typed, slots_of}
 use Rattle.zs_event_lines.specs.Lines.{told_as, is_said_body, push_slots, push_line, named_timeout, request_slots, response_front, reply_slots, answered_line, message_line, gathered_body, gathered_answer, gathered_request, gathered_message}
-use Rattle.zs_event_lines.proofs.PartsBack.{back, default-same, encoding-kept}
+use Rattle.zs_event_lines.proofs.EncodingsBack.{default-same, encoding-kept}
+use Rattle.zs_event_lines.proofs.PartsBack.{back}
 use Rattle.zs_event_lines.proofs.FormsBack.{form-back}
 use Rattle.zs_event_lines.proofs.LineTexts.{words_are_plain}
 

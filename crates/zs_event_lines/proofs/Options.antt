@@ -91,6 +91,12 @@ pub map-same : {A : Type 0} (o : Option A) → option_map (λ a. a) o ≡ o
 map-same None = refl
 map-same (Some a) = refl
 
+pub maybe-same : {A : Type 0} (name : List ℕ) (symbol : List ℕ → Option A) (text : A → List ℕ) (o : Option A)
+    (rest : List (List ℕ)) → list_all (λ b. b == b) name ≡ true → ((a : A) → o ≡ Some a → symbol (text a) ≡ Some a)
+    → named_in name rest ≡ None → maybe_in name symbol (field_if (λ a. name ++ text a) o ++ rest) ≡ (o, rest)
+maybe-same name symbol text o rest named says none =
+    maybe-back name symbol text (λ a. a) o rest named says none ∙ ap (λ found. (found, rest)) (map-same o)
+
 pub there : {A : Type 0} (test : A → Bool) (o : Option A) → if_there test o ≡ true → (a : A) → o ≡ Some a → test a ≡ true
 there test None h a same = cc
 there test (Some b) h a same = rw (sym (same_Some b a same)) h

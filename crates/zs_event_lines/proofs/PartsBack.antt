@@ -1,13 +1,10 @@
 -- Each part is read as what was printed of it.
 use Rattle.std.proofs.Common.{ℕ, ◌≡◌, ◌==◌, Bool, true, false, not, ◌&&◌, List, [], ◌∷◌, ◌++◌, Option, Some, None, option_map, option_and_then, refl, sym, ap, ◌∙◌, cond, codes, decimal, encode_utf8_all, append_assoc}
 use Rattle.std.specs.Prelude.{nat_le}
-use Rattle.std.specs.List.{list_all}
 use Rattle.std.specs.Str.{all_scalars, chars}
 use Rattle.std.proofs.lemmas.Bool.{and_parts, not-true, eqb-true}
-use Rattle.std.proofs.lemmas.Str.{chars-encodes, chars-nil, encodes_same}
-use Rattle.std.specs.Cmp.Lexicographic.{same_text}
+use Rattle.std.proofs.lemmas.Str.{chars-encodes, chars-nil}
 use Rattle.std.proofs.lemmas.Option.{same_Some}
-use Rattle.zs_sample.specs.Encoding.{encoding_of}
 use Rattle.zs_wire.specs.declared.body.Value.{Value as QueryValue}
 use Rattle.zs_wire.specs.declared.quality.CongestionControl.{CongestionControl}
 use Rattle.zs_wire.specs.declared.quality.CongestionControl.TheVariants.{Drop, Block}
@@ -26,18 +23,18 @@ use Rattle.zs_events.specs.declared.publication.ReplyQuality.{ReplyQuality}
 use Rattle.zs_events.specs.declared.update.PushBody.{PushBody}
 use Rattle.zs_events.specs.declared.update.PushBody.TheVariants.{Put, Delete}
 use Rattle.zs_events.specs.Updates.{default_encoding}
-use Rattle.zs_events.specs.Kinds.{is_nothing}
 use Rattle.zs_parts.specs.Symbols.{number_of, u32_max, u64_max, locality_of, background_kind_of, parent_of, complete_of, history_of, key_of, payload_of, wire_of, names_nothing}
 use Rattle.zs_parts.specs.Options.{timestamp_of, entity_of, source_of, encoding_text_of, is_default, named_encoding, priority_of, congestion_of, flag_of, target_of, consolidation_of, any_key_of, value_of}
 use Rattle.zs_parts.specs.Channels.{channel_of}
 use Rattle.zs_printing.specs.Words.{congestion_word, flag_digit, complete_word, target_word, consolidation_word, bytes_text, wire_text, timestamp_text, entity_text, source_text}
-use Rattle.zs_printing.specs.Pieces.{field_if, encoding_field, parameter_fields, written}
-use Rattle.zs_parts.specs.Parts.{Part, number, locality, background_kind, parent, complete, history, key, selector, wire, wire_if, payload, push_body, own_body, parameters, target, consolidation, timeout, value, encoding, timestamp, qos, reliable, quality, reply_quality, source, attachment, responder, any_key, cancellation_token, interest, channel, handed_to, channel_kind, Value, first_of, first_in, named_in, taken, option_in, maybe_in, named_wire_in, qos_in, quality_in, reply_quality_in, named_encoding_in, encoded, body_in, unnamed, unnamed_in, own_body_in, value_in, selector_of, read}
+use Rattle.zs_printing.specs.Pieces.{field_if, parameter_fields, written}
+use Rattle.zs_parts.specs.Parts.{Part, number, locality, background_kind, parent, complete, history, key, selector, wire, wire_if, payload, push_body, own_body, parameters, target, consolidation, timeout, value, encoding, timestamp, qos, reliable, quality, reply_quality, source, attachment, responder, any_key, cancellation_token, interest, channel, handed_to, channel_kind, Value, first_of, first_in, named_in, taken, option_in, maybe_in, named_wire_in, qos_in, quality_in, reply_quality_in, encoded, body_in, unnamed, unnamed_in, own_body_in, value_in, selector_of, read}
 use Rattle.zs_event_lines.specs.Shown.{unless, locality_word, background_word, parent_word, history_word, key_text, selector_text, is_best, is_auto, is_congestion, encoding_fields, priority_field, congestion_field, express_field, reliable_fields, qos_fields, quality_fields, reply_quality_fields, channel_text, is_print, shown}
 use Rattle.zs_event_lines.specs.Sayable.{if_there, says_encoding, says_wire, says_priority, says_channel, says, is_wire, is_timestamp, is_entity, is_source, are_bytes, is_typed, gathered, gathered_push, gathered_value, kept}
 use Rattle.zs_event_lines.proofs.Digits.{number-says, payload-says}
 use Rattle.zs_event_lines.proofs.Symbols.{locality-says, background-says, parent-says, complete-says, history-says, congestion-says, flag-says, target-says, consolidation-says, priority-says, channel-says, timestamp-says, entity-says, source-says, wire-says, key-says, selector-says}
-use Rattle.zs_event_lines.proofs.Options.{AllDeclined, Over, over-field, over-unless, over-if, over-any, over-append, option-back, maybe-back, map-same, there}
+use Rattle.zs_event_lines.proofs.Options.{AllDeclined, Over, over-field, over-unless, over-if, over-any, over-append, option-back, maybe-back, maybe-same, there}
+use Rattle.zs_event_lines.proofs.EncodingsBack.{default-same, encoding-says, encoding-back, named-encoding-back, other-twice, other-there}
 
 -- the names whose absence a part looks for
 abbrev pub asks : Part → List (List ℕ)
@@ -121,68 +118,6 @@ flag-same flag h = h
 express-same : (flag : Bool) → not flag ≡ true → flag ≡ false
 express-same true h = cc
 express-same false h = refl
-
-default-encodes : encode_utf8_all default_encoding ≡ default_encoding
-unfolding lib.Utf8.encode
-default-encodes = refl
-
-pub default-same : (text : List ℕ) → is_default text ≡ true → text ≡ default_encoding
-default-same text h = encodes_same text default_encoding (same_text (encode_utf8_all text) default_encoding (sym h) ∙ sym default-encodes)
-
--- encodings
-named-fields : (text : List ℕ) → encoding_fields text ≡ unless (is_default text) (encoding_field text)
-named-fields text = go (is_default text)
-  where
-    go : (b : Bool) → field_if encoding_field (cond b None (Some text)) ≡ unless b (encoding_field text)
-    go true = refl
-    go false = refl
-
-pub encoding-kept : (text : List ℕ) → not (is_nothing text) ≡ true → encoding_of text ≡ text
-encoding-kept [] h = cc
-encoding-kept (c ∷ cs) h = refl
-
-encoding-says : (text : List ℕ) → says_encoding text ≡ true → all_scalars text ≡ true → encoding_text_of (encode_utf8_all text) ≡ Some text
-encoding-says text h k =
-    ap (λ (t : List ℕ). Some (encoding_of t)) (chars-encodes text k) ∙ ap Some (encoding-kept text (and_parts (not (is_nothing text)) _ h).0)
-
-encoding-back : (text : List ℕ) (rest : List (List ℕ)) → says_encoding text ≡ true → all_scalars text ≡ true
-    → named_in (codes "enc=") rest ≡ None
-    → option_in (codes "enc=") encoding_text_of default_encoding (encoding_fields text ++ rest) ≡ (text, rest)
-encoding-back text rest h k none =
-    ap (λ (fields : List (List ℕ)). option_in (codes "enc=") encoding_text_of default_encoding (fields ++ rest)) (named-fields text)
-    ∙ option-back (codes "enc=") encoding_text_of default_encoding text (is_default text) (encode_utf8_all text) rest refl
-    (default-same text) (encoding-says text h k) none
-
-maybe-same : {A : Type 0} (name : List ℕ) (symbol : List ℕ → Option A) (text : A → List ℕ) (o : Option A)
-    (rest : List (List ℕ)) → list_all (λ b. b == b) name ≡ true → ((a : A) → o ≡ Some a → symbol (text a) ≡ Some a)
-    → named_in name rest ≡ None → maybe_in name symbol (field_if (λ a. name ++ text a) o ++ rest) ≡ (o, rest)
-maybe-same name symbol text o rest named says none =
-    maybe-back name symbol text (λ a. a) o rest named says none ∙ ap (λ found. (found, rest)) (map-same o)
-
-named-encoding-back : (text : Option (List ℕ)) (rest : List (List ℕ)) → if_there says_encoding text ≡ true → if_there all_scalars text ≡ true
-    → named_in (codes "enc=") rest ≡ None → named_encoding_in (field_if encoding_field text ++ rest) ≡ (text, rest)
-named-encoding-back text rest h k none =
-    maybe-same (codes "enc=") encoding_text_of encode_utf8_all text rest refl
-    (λ t same. encoding-says t (there says_encoding text h t same) (there all_scalars text k t same)) none
-
--- an encoding other than the default one
-pub other-twice : (text : Option (List ℕ))
-    → option_and_then named_encoding (option_and_then named_encoding text) ≡ option_and_then named_encoding text
-other-twice None = refl
-other-twice (Some text) = go (is_default text) refl
-  where
-    go : (b : Bool) → is_default text ≡ b → option_and_then named_encoding (cond b None (Some text)) ≡ cond b None (Some text)
-    go true same = refl
-    go false same = rw same refl
-
-pub other-there : (test : List ℕ → Bool) (text : Option (List ℕ)) → if_there test text ≡ true
-    → if_there test (option_and_then named_encoding text) ≡ true
-other-there test None h = refl
-other-there test (Some text) h = go (is_default text)
-  where
-    go : (b : Bool) → if_there test (cond b None (Some text)) ≡ true
-    go true = refl
-    go false = h
 
 -- fields that have to be there
 first-back : {A : Type 0} (symbol : List ℕ → Option A) (field : List ℕ) (found : A) (rest : List (List ℕ)) → symbol field ≡ Some found

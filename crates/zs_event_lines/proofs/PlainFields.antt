@@ -34,7 +34,7 @@ use Rattle.zs_script.proofs.PlainTexts.{plain-append, decimal-plain, bytes-plain
 use Rattle.zs_script.proofs.PlainPieces.{congestion-plain, flag-plain, target-plain, consolidation-plain, complete-plain, wire-plain, timestamp-plain, entity-plain, source-plain, one, one-if, parameters-plain}
 use Rattle.zs_event_lines.specs.Shown.{unless, locality_word, background_word, parent_word, history_word, suffix_text, key_text, question_text, selector_text, is_best, is_auto, is_congestion, encoding_fields, priority_field, congestion_field, express_field, reliable_fields, qos_fields, reply_quality_fields, body_fields, query_value_fields, channel_text, is_print, shown}
 use Rattle.zs_event_lines.specs.Sayable.{if_there, says_key, says_encoding, says_wire, says_body, says, has_no_question}
-use Rattle.zs_event_lines.proofs.PartsBack.{other-there}
+use Rattle.zs_event_lines.proofs.EncodingsBack.{other-there}
 
 locality-plain : (l : Locality) → is_plain (locality_word l) ≡ true
 locality-plain Any = refl

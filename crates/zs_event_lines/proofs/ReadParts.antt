@@ -25,7 +25,7 @@ use Rattle.zs_script.proofs.PlainSymbols.{IsText, on-map, on-then, prefix-text}
 use Rattle.zs_script.proofs.PlainParts.{AreTexts}
 use Rattle.zs_event_lines.specs.Sayable.{if_there, says_encoding, says_wire, says_priority, says, is_wire, is_timestamp, is_entity, is_source, are_bytes, is_typed, gathered, kept}
 use Rattle.zs_event_lines.proofs.ReadSymbols.{weaken, on-all, number-small, IsPayload, payload-reads, chars-said, IsEncoding, default-said, encoding-reads, key-reads, selector-reads, IsWire, wire-reads, timestamp-reads, entity-reads, source-reads, priority-reads, IsChannel, channel-reads}
-use Rattle.zs_event_lines.proofs.PartsBack.{other-twice, other-there}
+use Rattle.zs_event_lines.proofs.EncodingsBack.{other-twice, other-there}
 
 -- a value that a line says
 abbrev pub IsSaid : (part : Part) → Value part → Type 0

@@ -51,6 +51,7 @@ pub(crate) fn append_shown(out: &mut String, shown: Shown<'_>) -> Result<(), All
     }
 }
 
+/// A tab and a text.
 #[tactic(auto, using(crate::proofs::Joining::joining))]
 fn append_field(out: &mut String, text: &str) -> Result<(), AllocError>
     ensures { OnOk result (string_bytes out.new ≡ string_bytes out.old ++ (9 ∷ text.now)) }
@@ -82,6 +83,7 @@ pub(crate) fn append_unless(
     write!(out, "\t{name}{text}")
 }
 
+/// A key: its text, or its declared number and what stands behind that.
 #[tactic(auto, using(crate::proofs::Joining::joining))]
 fn append_key(out: &mut String, key: &KeyArg) -> Result<(), AllocError>
     ensures { OnOk result (string_bytes out.new ≡ string_bytes out.old ++ (9 ∷ key_text key.now)) }
@@ -114,6 +116,7 @@ fn append_suffix(out: &mut String, text: &str) -> Result<(), AllocError>
     write!(out, ":{text}")
 }
 
+/// A key, and behind it the parameters that a get hands to the queryables.
 #[tactic(auto, using(crate::proofs::Joining::joining))]
 fn append_selector(out: &mut String, key: &KeyArg, text: &Text) -> Result<(), AllocError>
     ensures { OnOk result (string_bytes out.new ≡ string_bytes out.old ++ (9 ∷ selector_text key.now text.now)) }
@@ -133,6 +136,8 @@ fn append_question(out: &mut String, text: &str) -> Result<(), AllocError>
     write!(out, "?{text}")
 }
 
+/// A wire expression: `s` or `r` for whether its sender or its receiver declared the number, the number, a colon, and
+/// the suffix.
 pub(crate) fn append_wire(out: &mut String, wire: &WireExpr) -> Result<(), AllocError>
     ensures { OnOk result (string_bytes out.new ≡ string_bytes out.old ++ (9 ∷ wire_text wire.now)) }
 {
@@ -144,6 +149,7 @@ pub(crate) fn append_wire(out: &mut String, wire: &WireExpr) -> Result<(), Alloc
     }
 }
 
+/// A payload: `x`, and two hexadecimal digits for each byte.
 #[tactic(auto, using(crate::proofs::Joining::joining))]
 fn append_payload(out: &mut String, bytes: &ZBytes) -> Result<(), AllocError>
     ensures { OnOk result (string_bytes out.new ≡ string_bytes out.old ++ (9 ∷ bytes_text bytes.now)) }
@@ -152,6 +158,7 @@ fn append_payload(out: &mut String, bytes: &ZBytes) -> Result<(), AllocError>
     append_bytes(out, bytes)
 }
 
+/// What a publisher puts: the payload, and the encoding wherever one is named. Deletions have no field.
 #[tactic(auto, using(crate::proofs::Joining::joining))]
 fn append_update(out: &mut String, body: &PushBody) -> Result<(), AllocError>
     ensures { OnOk result (string_bytes out.new ≡ string_bytes out.old ++ tabs (body_fields body.now)) }
@@ -163,6 +170,7 @@ fn append_update(out: &mut String, body: &PushBody) -> Result<(), AllocError>
     append_encoding_if(out, encoding)
 }
 
+/// The same where no publisher names an encoding: the default one has no field, as its absence says it.
 #[tactic(auto, using(crate::proofs::Joining::joining))]
 fn append_own_update(out: &mut String, body: &PushBody) -> Result<(), AllocError>
     ensures { OnOk result (string_bytes out.new ≡ string_bytes out.old ++ tabs (body_fields (unnamed body.now))) }
@@ -197,6 +205,7 @@ fn append_encoding_if(out: &mut String, text: &Option<Text>) -> Result<(), Alloc
     write!(out, "\tenc={text}")
 }
 
+/// What a message puts: the payload, and the encoding unless it is the default one. Deletions have no field.
 #[tactic(auto, using(crate::proofs::Joining::joining))]
 fn append_body(out: &mut String, body: &Body) -> Result<(), AllocError>
     ensures { OnOk result (string_bytes out.new
@@ -219,6 +228,7 @@ fn append_put(out: &mut String, body: &Body) -> Result<(), AllocError>
     append_encoding(out, &body.encoding)
 }
 
+/// Quality of service: three options. `absent` is what happens where a queue is full and nothing is said of it.
 #[tactic(auto, using(crate::proofs::Joining::joining))]
 fn append_qos(out: &mut String, absent: CongestionControl, qos: QoSType) -> Result<(), AllocError>
     ensures { OnOk result (string_bytes out.new ≡ string_bytes out.old ++ tabs (qos_fields absent qos)) }
@@ -228,6 +238,7 @@ fn append_qos(out: &mut String, absent: CongestionControl, qos: QoSType) -> Resu
     append_unless(out, !qos.express, "express=", flag_digit(qos.express))
 }
 
+/// A priority, unless it is 5, the one of whatever names none.
 #[tactic(auto, using(crate::proofs::Joining::joining))]
 fn append_priority(out: &mut String, priority: u8) -> Result<(), AllocError>
     ensures { OnOk result (string_bytes out.new
@@ -239,6 +250,7 @@ fn append_priority(out: &mut String, priority: u8) -> Result<(), AllocError>
     write!(out, "\tprio={priority}")
 }
 
+/// What happens where a queue is full, unless its absence says it.
 fn append_congestion(
     out: &mut String,
     absent: CongestionControl,
@@ -255,6 +267,7 @@ fn append_congestion(
     )
 }
 
+/// Quality of service of a publication: three options, and whether it is reliable, which is said only where it isn't.
 #[tactic(auto, using(crate::proofs::Joining::joining))]
 fn append_quality(out: &mut String, quality: PublicationQuality) -> Result<(), AllocError>
     ensures { OnOk result (string_bytes out.new ≡ string_bytes out.old ++ tabs (quality_fields quality)) }
@@ -273,6 +286,7 @@ fn append_reply_quality(out: &mut String, quality: ReplyQuality) -> Result<(), A
     append_express_if(out, quality.express)
 }
 
+/// The priority of a reply, if it has its own. Its absence is that of the query, so that 5 is said too.
 #[tactic(auto, using(crate::proofs::Joining::joining))]
 fn append_priority_if(out: &mut String, priority: Option<u8>) -> Result<(), AllocError>
     ensures { OnOk result (string_bytes out.new ≡ string_bytes out.old ++ tabs (field_if priority_field priority)) }
@@ -283,6 +297,7 @@ fn append_priority_if(out: &mut String, priority: Option<u8>) -> Result<(), Allo
     write!(out, "\tprio={priority}")
 }
 
+/// What happens to a reply where a queue is full, if that is its own.
 #[tactic(auto, using(crate::proofs::Joining::joining))]
 fn append_congestion_if(
     out: &mut String,
@@ -296,6 +311,7 @@ fn append_congestion_if(
     append_unless(out, false, "cc=", congestion_word(congestion))
 }
 
+/// Whether a reply goes out at once, if that is its own: a `false` is said too.
 #[tactic(auto, using(crate::proofs::Joining::joining))]
 fn append_express_if(out: &mut String, express: Option<bool>) -> Result<(), AllocError>
     ensures { OnOk result (string_bytes out.new ≡ string_bytes out.old ++ tabs (field_if express_field express)) }

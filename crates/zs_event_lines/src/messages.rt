@@ -66,6 +66,7 @@ fn append_number(out: &mut String, name: &str, id: u32) -> Result<bool, AllocErr
     append_line(out, "net", &[Shown::Said(name), Shown::Number(id)])
 }
 
+/// The line of a key that is declared under a number.
 fn append_key_expr(out: &mut String, number: u16, wire: &WireExpr) -> Result<bool, AllocError>
     ensures { IfOk result (λ told.
         IsPrinted (printed (net_line (message_line (DeclareKeyExpr number wire.now)))) told (string_bytes out.old) (string_bytes out.new)) }
@@ -81,6 +82,7 @@ fn append_key_expr(out: &mut String, number: u16, wire: &WireExpr) -> Result<boo
     )
 }
 
+/// The line of a queryable that is declared.
 fn append_queryable(
     out: &mut String,
     id: u32,
@@ -103,6 +105,7 @@ fn append_queryable(
     )
 }
 
+/// The line of a liveliness token that is declared, with the interest that it answers, if any.
 fn append_token(
     out: &mut String,
     id: u32,
@@ -125,6 +128,7 @@ fn append_token(
     )
 }
 
+/// The line of a liveliness token that ends. It names the key if the message does.
 fn append_untoken(
     out: &mut String,
     id: u32,
@@ -157,6 +161,7 @@ fn is_said_body(body: &Body) -> bool
     }
 }
 
+/// The line of a publication. There is none where no line says its body, as of a deletion with a payload.
 fn append_push(out: &mut String, push: &Push) -> Result<bool, AllocError>
     ensures { IfOk result (λ told.
         IsPrinted (printed (net_line (message_line (push_message push.now))))
@@ -192,6 +197,7 @@ fn named_timeout(time: u64) -> Option<u64>
     Some(time)
 }
 
+/// The line of a query. A timeout of 10000 milliseconds has no field, as its absence says it.
 fn append_request(out: &mut String, request: &Request) -> Result<bool, AllocError>
     ensures { IfOk result (λ told.
         IsPrinted (printed (net_line (message_line (request_message request.now))))
@@ -216,6 +222,7 @@ fn append_request(out: &mut String, request: &Request) -> Result<bool, AllocErro
     )
 }
 
+/// The line of a response, which brings data or an error.
 fn append_response(out: &mut String, response: &Response) -> Result<bool, AllocError>
     ensures { IfOk result (λ told.
         IsPrinted (printed (net_line (message_line (response_message response.now))))

@@ -93,6 +93,7 @@ fn append_number_if(out: &mut String, name: &str, id: Option<u32>) -> Result<(),
     append_named(out, name, u64::from(id))
 }
 
+/// A wire expression, if there is one.
 #[tactic(auto, using(crate::proofs::Joining::joining))]
 fn append_wire_if(out: &mut String, wire: &Option<WireExpr>) -> Result<(), AllocError>
     ensures { OnOk result (string_bytes out.new ≡ string_bytes out.old ++ tabs (field_if wire_text wire.now)) }
@@ -103,6 +104,7 @@ fn append_wire_if(out: &mut String, wire: &Option<WireExpr>) -> Result<(), Alloc
     append_wire(out, wire)
 }
 
+/// Parameters, if there are any.
 #[tactic(auto, using(crate::proofs::Joining::joining))]
 fn append_parameters(out: &mut String, text: &Text) -> Result<(), AllocError>
     ensures { OnOk result (string_bytes out.new
@@ -111,6 +113,7 @@ fn append_parameters(out: &mut String, text: &Text) -> Result<(), AllocError>
     append_parameter_text(out, text.as_str())
 }
 
+/// The same of their UTF-8 bytes.
 fn append_parameter_text(out: &mut String, text: &str) -> Result<(), AllocError>
     ensures { OnOk result (string_bytes out.new ≡ string_bytes out.old ++ tabs (parameter_fields text.now)) }
 {

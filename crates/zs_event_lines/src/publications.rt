@@ -36,6 +36,7 @@ pub(crate) fn append_publisher<'a>(
     )
 }
 
+/// The first word of a line that puts or deletes on a key.
 fn publish_word(body: &PushBody) -> &'static str
     ensures { result.now ≡ publish_word (body_kind body.now) }
 {
@@ -73,6 +74,7 @@ pub(crate) fn append_publish<'a>(
     )
 }
 
+/// The first word of a line by which a publisher puts or deletes.
 fn publish_by_word(body: &PushBody) -> &'static str
     ensures { result.now ≡ publish_by_word (body_kind body.now) }
 {
@@ -105,6 +107,7 @@ pub(crate) fn append_publish_by(
     )
 }
 
+/// The first word of a line that answers a query by a put or by a deletion.
 fn reply_word(body: &PushBody) -> &'static str
     ensures { result.now ≡ reply_word (body_kind body.now) }
 {

@@ -39,6 +39,8 @@ pub(crate) fn says(shown: Shown<'_>) -> bool
     }
 }
 
+/// Whether a field can name the key. A text that has the form of a declared number would be read as that number, and a
+/// key that is given with its declaration has no form.
 fn says_key(key: &KeyArg) -> bool
     ensures { result ≡ says_key key.now }
 {
@@ -67,12 +69,14 @@ fn has_key_no_question(key: &KeyArg) -> bool
     }
 }
 
+/// Whether a wire expression can be said where it may be left out. One that names nothing is read as left out.
 fn says_wire(wire: &WireExpr) -> bool
     ensures { result ≡ says_wire wire.now }
 {
     !(wire.scope == 0 && wire.suffix.is_empty()) && is_plain_text(&wire.suffix)
 }
 
+/// The same, or that it is left out.
 fn says_wire_if(wire: &Option<WireExpr>) -> bool
     ensures { result ≡ if_there says_wire wire.now }
 {
@@ -82,6 +86,7 @@ fn says_wire_if(wire: &Option<WireExpr>) -> bool
     }
 }
 
+/// Whether the encoding that a put names can be said, if it names one. Deletions have nothing to be said.
 fn says_update(body: &PushBody) -> bool
     ensures { result ≡ says_body (body_kind body.now) body.now }
 {
@@ -91,6 +96,7 @@ fn says_update(body: &PushBody) -> bool
     }
 }
 
+/// Whether an encoding can be said, if there is one.
 fn says_encoding_if(text: &Option<Text>) -> bool
     ensures { result ≡ if_there says_encoding text.now }
 {
@@ -100,6 +106,7 @@ fn says_encoding_if(text: &Option<Text>) -> bool
     }
 }
 
+/// Whether the encoding of what a message puts can be said, or needs no word. Deletions have nothing to be said.
 fn says_body(body: &Body) -> bool
     ensures { result ≡ says_body body.now.kind (told_as body.now.kind body.now) }
 {
@@ -109,6 +116,7 @@ fn says_body(body: &Body) -> bool
     }
 }
 
+/// Whether the encoding of a value can be said, if there is a value.
 fn says_value(value: &Option<Value>) -> bool
     ensures { result ≡ if_there (λ w. says_encoding w.encoding) value.now }
 {
@@ -118,12 +126,14 @@ fn says_value(value: &Option<Value>) -> bool
     }
 }
 
+/// Whether a priority is one that lines have, from the least number that may stand there to 7.
 fn says_priority(least: u8, priority: u8) -> bool
     ensures { result ≡ says_priority least priority }
 {
     least <= priority && priority <= 7
 }
 
+/// Whether the priority of a reply is from 1 to 7, if it has its own.
 fn says_priority_if(priority: Option<u8>) -> bool
     ensures { result ≡ if_there (λ n. says_priority 1 n) priority }
 {
@@ -133,6 +143,7 @@ fn says_priority_if(priority: Option<u8>) -> bool
     }
 }
 
+/// Whether a channel's size is from 1 to 65535. What is printed at once has none.
 fn says_channel(channel: Chan) -> bool
     ensures { result ≡ says_channel channel }
 {

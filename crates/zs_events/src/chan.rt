@@ -1,3 +1,4 @@
+//! The channels that what is handed over can go into.
 /// Where what is handed to a subscriber or a get goes, beside being printed.
 #[derive(Clone, Copy, Debug, PartialEq, Eq, Hash)]
 pub enum Chan {

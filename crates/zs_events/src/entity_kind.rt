@@ -1,3 +1,4 @@
+//! The sorts of entities that an event can name by number.
 /// The sorts of entities that an application can undeclare.
 #[derive(Clone, Copy, Debug, PartialEq, Eq, Hash)]
 pub enum EntityKind {

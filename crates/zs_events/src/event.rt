@@ -1,3 +1,4 @@
+//! The events of a session: what its application does, what the network sends, and the clock.
 ghost use Rattle.std.specs.Prelude.{◌≡◌};
 ghost use Rattle.zs_events.specs.Kinds.{row_of};
 
@@ -149,6 +150,7 @@ pub enum Event {
 }
 
 impl Drop for Event {
+    /// Lets go of the event's key, and of its hold on what it shares.
     fn drop(self) {
         match self {
             Event::Key { key } => drop(key),

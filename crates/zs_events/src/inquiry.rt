@@ -1,3 +1,4 @@
+//! What a get asks, and how.
 use zs_sample::{ConsolidationMode, Locality, QoSType, QueryTarget, SourceInfo, Text, ZBytes};
 use zs_wire::Value;
 
@@ -30,6 +31,7 @@ pub struct Inquiry {
 }
 
 impl Drop for Inquiry {
+    /// Lets go of the parameters, the value and the attachment.
     fn drop(self) {
         let Inquiry {
             parameters,

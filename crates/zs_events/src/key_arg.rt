@@ -1,3 +1,4 @@
+//! Keys as the application names them: by a text, or by a declared number.
 ghost use Rattle.std.specs.Prelude.{◌≡◌, IfOk};
 
 use std::alloc::{AllocError, Global};
@@ -24,6 +25,7 @@ pub enum KeyArg {
 }
 
 impl Drop for KeyArg {
+    /// Lets go of the text. A number that it names stays declared.
     fn drop(self) {
         match self {
             KeyArg::Text(text) => drop(text),

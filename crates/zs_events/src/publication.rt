@@ -1,3 +1,4 @@
+//! The settings of publishers, and what is said with publications and replies beside their keys.
 use zs_sample::{CongestionControl, Locality, QoSType, Text};
 use zs_wire::Body;
 
@@ -20,6 +21,7 @@ pub struct PublisherSettings {
 }
 
 impl Drop for PublisherSettings {
+    /// Lets go of the encoding's text.
     fn drop(self) {
         let PublisherSettings {
             destination: _,

@@ -1,3 +1,4 @@
+//! What a read of a channel gives.
 /// What a read of a channel is answered.
 #[derive(Debug, Drop)]
 pub enum Received<T> {

@@ -1,3 +1,4 @@
+//! What a script can have happen: events of a session, and reads of its channels.
 use crate::event::Event;
 use crate::turn::Kind;
 

@@ -1,3 +1,4 @@
+//! What comes of an event: its answer, and the effects in their order.
 ghost use Rattle.std.specs.Prelude.{◌≡◌, [], ◌∷◌, ◌++◌, ◌↔◌, length, slice_get, IsTrue, IfOk, OnOk, OnErr};
 ghost use Rattle.std.specs.Option.{option_copied};
 ghost use Rattle.zs_events.specs.Turn.{was_refused, answered};
@@ -88,6 +89,7 @@ pub enum HandOver {
 }
 
 impl Drop for HandOver {
+    /// Lets go of this hold on the item. Who else is handed it keeps it.
     fn drop(self) {
         match self {
             HandOver::Sample {
@@ -156,6 +158,7 @@ pub enum Effect {
 }
 
 impl Drop for Effect {
+    /// Lets go of the message or of what is handed over. An end and a status hold nothing.
     fn drop(self) {
         match self {
             Effect::Send(message) => drop(message),
@@ -192,6 +195,7 @@ pub struct Effects {
 }
 
 impl Drop for Effects {
+    /// Lets go of the effects and of the memory that holds them.
     fn drop(self) {
         let Effects { items } = self;
         drop(items);

@@ -1,3 +1,4 @@
+//! The new value of a key, or its end, as an application says it and as a message carries it.
 ghost use Rattle.std.specs.Prelude.{◌≡◌, [], ◌++◌, Some, IfOk, unwrap_or};
 ghost use Rattle.zs_sample.specs.Encoding.{encoding_of};
 ghost use Rattle.zs_events.specs.Updates.{body_by, body_of, default_encoding};

@@ -39,6 +39,7 @@ pub struct Exchange<H> {
 }
 
 impl<H: Drop> Drop for Exchange<H> {
+    /// Lets go of the gates with the handlers behind them, and of the messages that were still to be sent.
     fn drop(self) {
         let Exchange {
             alloc: _,

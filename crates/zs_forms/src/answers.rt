@@ -39,6 +39,7 @@ impl ReplyForm {
     }
 }
 
+/// The priority of a reply, if it has its own: 0 is its query's. A number above 7 says nothing.
 fn own_priority(number: u8) -> Option<Option<u8>>
     ensures { result ≡ own_priority_of number }
 {
@@ -49,6 +50,8 @@ fn own_priority(number: u8) -> Option<Option<u8>>
     }
 }
 
+/// What happens to a reply where a queue is full, if that is its own: 0 is as with its query, 1 it is lost, 2 the
+/// sender waits. A number above 2 says nothing.
 fn own_congestion(number: u8) -> Option<Option<CongestionControl>>
     ensures { result ≡ own_congestion_of number }
 {
@@ -60,6 +63,7 @@ fn own_congestion(number: u8) -> Option<Option<CongestionControl>>
     }
 }
 
+/// A flag of a reply, if it has its own: 0 is its query's, 1 is false, 2 is true. A number above 2 says nothing.
 fn own_flag(number: u8) -> Option<Option<bool>>
     ensures { result ≡ own_flag_of number }
 {
@@ -103,6 +107,7 @@ pub fn reply_delete(
     replied(alloc, query, key, how, update)
 }
 
+/// The answer that says an update of a key. There is none where a number of `how` says nothing, or the key is no UTF-8.
 fn replied(
     alloc: Global,
     query: u32,

@@ -71,6 +71,7 @@ pub fn declare_publisher(
     Ok(Some(Event::Pub { key, settings }))
 }
 
+/// What a publisher is declared with. There is none where a number of `how` says nothing, or the encoding is no UTF-8.
 fn settings(
     alloc: Global,
     how: &PublicationForm,

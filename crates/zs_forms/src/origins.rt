@@ -88,13 +88,14 @@ impl SourceForm {
     }
 }
 
-/// The halves of a number.
+/// The upper half of a number: what stands before its last 64 bits.
 fn high(number: u128) -> u64
     ensures { result ≡ high number }
 {
     (number >> 64) as u64
 }
 
+/// The lower half: its last 64 bits.
 fn low(number: u128) -> u64
     ensures { result ≡ low number }
 {

@@ -75,6 +75,7 @@ pub(crate) fn locality(number: u8) -> Option<Locality>
     }
 }
 
+/// The priority of that number: 0 is 5, which is Zenoh's default, and above 7 there is none.
 fn priority_in(number: u8) -> Option<u8>
     ensures { result ≡ priority_of number }
 {

@@ -65,12 +65,14 @@ pub struct LivelinessForm {
     pub token: u32,
 }
 
+/// After how many milliseconds a get ends, if it says so itself.
 pub(crate) fn timeout(is_there: bool, milliseconds: u64) -> Option<u64>
     ensures { result ≡ optional is_there milliseconds }
 {
     if is_there { Some(milliseconds) } else { None }
 }
 
+/// The number of the cancellation token, if there is one.
 pub(crate) fn token(is_there: bool, number: u32) -> Option<u32>
     ensures { result ≡ optional is_there number }
 {

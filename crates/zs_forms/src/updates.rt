@@ -41,6 +41,7 @@ impl<'a> ExtrasForm<'a> {
         self.update(alloc, PushBody::Delete)
     }
 
+    /// What is put or deleted, and beside it the timestamp, the source and the attachment that are there.
     fn update(&self, alloc: Global, body: PushBody) -> Result<Update, AllocError>
         ensures { IfOk result (λ made. made ≡ update_of body self.now) }
     {

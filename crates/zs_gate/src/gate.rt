@@ -42,6 +42,7 @@ pub enum NoPass {
 }
 
 impl fmt::Display for NoPass {
+    /// Writes in words why there was no pass.
     fn fmt<W: fmt::Write>(&self, f: &mut fmt::Formatter<W>) -> fmt::Result {
         f.write_str(match self {
             NoPass::Full => "all passes of the gate are out",
@@ -58,6 +59,7 @@ impl From<AllocError> for NoPass {
 
     ghost from_gives = { λ _ why. why ≡ NoMemory };
 
+    /// An allocation that failed gives no pass for want of memory.
     fn from(_error: AllocError) -> NoPass {
         NoPass::NoMemory
     }

@@ -1,4 +1,4 @@
-// A gate with its door and its keeper, as it lies under a group's lock.
+//! What a group's lock guards: a gate with its door and its keeper.
 ghost use Rattle.std.specs.Prelude.{◌≡◌, ◌≢◌, ◌+◌, ◌↔◌, IfOk, IfSome, IfNone, OnErr};
 ghost use Rattle.zs_gate.specs.declared.watch.Watch.TheVariants.{Open, Drained as IsDrained};
 ghost use Rattle.zs_gate.specs.Groups.{watch_after_close, gate_of, IsWaiting, IsClosed};
@@ -29,6 +29,7 @@ impl Model for Group {
 }
 
 impl Group {
+    /// A group whose gate is open and that no one waits for. The door and the keeper are of one gate.
     pub fn new(door: Door, keeper: Keeper) -> Group
         requires { door.gate ≡ keeper }
         ensures { result ≡ record { gate = keeper; out = door.out; watch = Open keeper } }

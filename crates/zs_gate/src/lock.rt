@@ -77,6 +77,7 @@ impl<T, K, F: Fact<T, K>> Model for KeyedLock<T, K, F> {
 }
 
 impl<T: Drop, K, F: Fact<T, K>> Drop for KeyedLock<T, K, F> {
+    /// Lets go of the table, and so of the value that is home in it.
     fn drop(self) {
         let Self { table: _ } = self;
     }

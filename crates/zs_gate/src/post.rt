@@ -1,4 +1,6 @@
-// One seat at a gate's table, with the table. Each method is one step of the gate, or one cut or union of seats.
+//! The steps of a gate's word, each taken from a seat that knows what the step needs.
+//!
+//! One seat at a gate's table, with the table. Each method is one step of the gate, or one cut or union of seats.
 ghost use Rattle.std.specs.Prelude.{◌≡◌, ◌≢◌, ℕ, ◌^◌, ◌<◌, [], Bool, true, false, IfOk, OnErr, MatchBool};
 ghost use Rattle.std.specs.Arc.{arc_value};
 ghost use Rattle.atomic_table.specs.Seated.{TableId, table_id_coded};

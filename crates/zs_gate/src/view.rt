@@ -1,5 +1,5 @@
-// What the seats of a gate know, the rule of a gate, and its kinds of step: enter, retreat, leave, drain, look, and the
-// cut and the union of seats, each of which is one step on the word.
+//! The table of a gate: what its seats know, its rule, and its kinds of step: enter, retreat, leave, drain, look, and the
+//! cut and the union of seats, each of which is one step on the word.
 use atomic_table::{Join, Play, Split, TableRule};
 
 // How far a keeper has come.

@@ -1,4 +1,4 @@
-// How far the keeper of a group has come.
+//! The keeper of a group, and how far it has come, from open to drained.
 use crate::keeper::{Drained, Draining, Keeper};
 
 #[derive(Drop)]

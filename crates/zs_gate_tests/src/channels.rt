@@ -5,6 +5,7 @@ use std::sync::Wait;
 use std::time::Clock;
 use zs_handlers::{DefaultHandler, Disconnected, FifoChannelHandler, RingDeleted};
 
+/// A fifo gives its items in order, those that are left even after the end, and takes none from then on.
 #[test]
 fn hands_items_through_a_fifo(rt: HostRuntime) {
     let fifo = fifo(&rt);
@@ -40,6 +41,7 @@ fn empties<R: Wait>(rt: &R, fifo: &Fifo) -> bool {
     seen == (true, false, Ok(2), Err(Disconnected), false)
 }
 
+/// A full ring gives its oldest item up for a new one; after the end `take_left` alone gives what is left.
 #[test]
 fn hands_items_through_a_ring(rt: HostRuntime) {
     let ring = ring(&rt);
@@ -82,6 +84,7 @@ fn leaves_the_last<R: Wait>(rt: &R, ring: &Ring) -> bool {
     seen == (Err(RingDeleted), Some(4), None)
 }
 
+/// Iterators and a drain of the default fifo give its items in order, and have no more once all are given.
 #[test]
 fn goes_through_items(rt: HostRuntime) {
     let fifo = Channel::new(&rt, DefaultHandler.into_handler(rt.alloc()));

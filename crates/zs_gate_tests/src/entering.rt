@@ -39,6 +39,7 @@ pub(crate) struct Caller {
 }
 
 impl Drop for Caller {
+    /// Drops both parts. It is written out, so that no proof takes a caller apart where it goes.
     fn drop(self) {
         let Caller {
             inside: _,
@@ -48,17 +49,19 @@ impl Drop for Caller {
 }
 
 impl Caller {
+    /// Is inside of one gate, and knows that another one has drained: so it may call, and tell the end.
     pub(crate) fn new<R: AllocGlobal + Abort>(rt: &R) -> Caller {
         let inside = entered(rt);
         let drained = ended(rt);
         Caller { inside, drained }
     }
 
+    /// What shows a handler that it is called inside of a gate.
     pub(crate) fn inside(&self) -> &Inside {
         &self.inside
     }
 
-    // Whether the handler takes the item.
+    // Whether the handler takes the item and loses none for it.
     pub(crate) fn hands<R: Wait, H: Handler<u64>>(&self, rt: &R, handler: &H, item: u64) -> bool {
         match handler.on(rt, &self.inside, item) {
             Handled::Taken(done) => {
@@ -100,6 +103,7 @@ pub(crate) fn ring<R: AllocGlobal + Abort>(rt: &R) -> Ring {
 }
 
 impl<S: Drop, C: Drop> Drop for Channel<S, C> {
+    /// Drops the caller and both ends. It is written out for the same reason as that of a caller.
     fn drop(self) {
         let Channel {
             caller: _,
@@ -110,6 +114,7 @@ impl<S: Drop, C: Drop> Drop for Channel<S, C> {
 }
 
 impl<S: Handler<u64> + Drop, C: Drop> Channel<S, C> {
+    /// Both ends, and a caller of their own; there has to be memory for them.
     pub(crate) fn new<R: AllocGlobal + Abort>(
         rt: &R,
         ends: Result<(S, C), ChannelError>,
@@ -133,6 +138,7 @@ impl<S: Handler<u64> + Drop, C: Drop> Channel<S, C> {
         let _ = self.caller.ends(rt, &self.sender);
     }
 
+    /// The receiver alone; the sender and its caller are gone.
     pub(crate) fn into_receiver(self) -> C {
         let Channel {
             caller,

@@ -37,6 +37,7 @@ fn is_drained(draining: Draining) -> bool {
     }
 }
 
+/// A pass that comes while a gate drains stays outside, and the gate has drained once the one inside left.
 #[test]
 fn keeps_late_passes_outside(rt: HostRuntime) {
     let (mut door, keeper) = Gate::open(rt.alloc()).expect(&rt, "a gate");
@@ -53,6 +54,7 @@ fn keeps_late_passes_outside(rt: HostRuntime) {
 struct Waiting(Draining);
 
 impl Task for Waiting {
+    /// Waits; that the wait ends is all there is to see.
     fn run<R: Wait>(self, rt: &R) -> bool {
         drop(self.0.wait(rt));
         true
@@ -67,6 +69,7 @@ fn wakes_at_a_leave<R: Host>(rt: &R, keeper: Keeper, inside: Inside) -> bool {
     (waits, waiting.ends(rt)) == (true, true)
 }
 
+/// A thread that drains a gate waits until the one inside, who is on another thread, has left.
 #[test]
 fn waits_for_another_thread(rt: HostRuntime) {
     let (mut door, keeper) = Gate::open(rt.alloc()).expect(&rt, "a gate");

@@ -13,6 +13,7 @@ struct Waiter {
 }
 
 impl Task for Waiter {
+    /// Whether the wait is answered as it is to be.
     fn run<R: Wait>(self, rt: &R) -> bool {
         self.group.wait(rt) == self.wanted
     }
@@ -39,6 +40,7 @@ fn wakes_at_a_release<R: Host>(rt: &R, group: &SyncGroup, notifier: Notifier) ->
     seen == ((1, false), true, true, (0, true))
 }
 
+/// The release of the last notifier wakes who waits, and closes the group: no notifier is given then.
 #[test]
 fn wakes_who_waits_for_a_release(rt: HostRuntime) {
     let group = SyncGroup::new(rt.alloc()).expect(&rt, "a group");
@@ -56,6 +58,7 @@ fn wakes_at_the_close<R: Host>(rt: &R, group: &SyncGroup) -> bool {
     seen == (true, true, Waited::WasClosed, true)
 }
 
+/// A close wakes who waits for a group, though a notifier is still out.
 #[test]
 fn wakes_who_waits_as_it_closes(rt: HostRuntime) {
     let group = SyncGroup::new(rt.alloc()).expect(&rt, "a group");

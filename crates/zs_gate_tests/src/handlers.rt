@@ -18,10 +18,12 @@ impl Handler<u64> for Sum {
 
     ghost evicts = { false };
 
+    /// Adds the item, and tells the sum before it.
     fn on<R: Wait>(&self, _rt: &R, _inside: &Inside, item: u64) -> Handled<u64, u64> {
         Handled::Taken(self.0.fetch_add(item, Ordering::SeqCst))
     }
 
+    /// Tells the sum of all items.
     fn ended<R: Wait>(&self, _rt: &R, _drained: &Drained) -> u64 {
         self.0.load(Ordering::SeqCst)
     }
@@ -42,6 +44,7 @@ fn done_of<R: Wait, H: Handler<u64>>(
     }
 }
 
+/// A handler of a program's own takes each item, and tells its result by the call and at the end.
 #[test]
 fn takes_each_item(rt: HostRuntime) {
     let caller = Caller::new(&rt);

@@ -14,6 +14,7 @@ pub(crate) struct Words {
 }
 
 impl Drop for Words {
+    /// Drops both holds. It is written out, so that no proof takes the words apart where they go.
     fn drop(self) {
         let Words {
             digits: _,
@@ -30,16 +31,19 @@ impl Words {
         Words { digits, released }
     }
 
+    /// A second hold of both words, for a job.
     fn again<R: Abort>(&self, rt: &R) -> Words {
         let digits = hold(rt, &self.digits);
         let released = hold(rt, &self.released);
         Words { digits, released }
     }
 
+    /// Lets the jobs go on: those that wait, and those that will.
     pub(crate) fn release(&self) {
         self.released.store(1, Ordering::SeqCst);
     }
 
+    /// The digits as one decimal number, of which the last is the newest; 0 if there is none.
     pub(crate) fn written(&self) -> u64 {
         self.digits.load(Ordering::SeqCst)
     }
@@ -71,6 +75,7 @@ pub(crate) struct Write {
 }
 
 impl Write {
+    /// A job of that digit, with its own hold of the words.
     pub(crate) fn new<R: Abort>(rt: &R, words: &Words, digit: u64, failing: bool) -> Write {
         Write {
             words: words.again(rt),
@@ -85,6 +90,7 @@ impl Job for Write {
 
     ghost fails = { λ job failed. failed ≡ job.failing };
 
+    /// Writes before it waits, so that a test sees that it runs.
     fn run(self) -> Result<(), JobFailed> {
         self.words.write(self.digit);
         self.words.wait();

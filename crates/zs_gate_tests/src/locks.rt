@@ -32,6 +32,7 @@ fn count<R: Wait>(rt: &R, lock: &Lock) {
 struct Counter(Arc<Lock, Global>);
 
 impl Task for Counter {
+    /// Counts, and leaves it to the test to look at the sum.
     fn run<R: Wait>(self, rt: &R) -> bool {
         count(rt, &self.0);
         true
@@ -45,6 +46,7 @@ fn value<R: Wait>(rt: &R, lock: &Lock) -> u64 {
     value
 }
 
+/// No turn of two threads that count under one lock is lost.
 #[test]
 fn is_held_by_one_thread_at_a_time(rt: HostRuntime) {
     let lock = KeyedLock::new(rt.alloc(), &100, 100).expect(&rt, "a lock");

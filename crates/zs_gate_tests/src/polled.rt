@@ -48,6 +48,7 @@ fn wakes_at_the_end<R: Wait, S: Wait + Drop>(
     seen == (Poll::Pending, true, Poll::Ready(None))
 }
 
+/// A stream wakes the task that polls it for an item and at the end, and is terminated then.
 #[test]
 fn streams_by_hand(rt: HostRuntime) {
     let task = MockTask::new(&rt).expect(&rt, "a task");
@@ -95,6 +96,7 @@ fn gives_two<R: Wait + AllocGlobal + RandomSource + Abort, S: Wait + Drop>(
     )
 }
 
+/// A stream of a fifo that has ended gives what is left, and then the end; its readings follow.
 #[test]
 fn streams_an_ended_fifo(rt: HostRuntime) {
     let fifo = fifo(&rt);
@@ -114,6 +116,7 @@ fn becomes<R: Wait + AllocGlobal + RandomSource + Abort>(
     (was_over, block_on(rt, future).expect(rt, "an executor"))
 }
 
+/// The future of a receiver becomes an item, or `Disconnected` where none is left after the end.
 #[test]
 fn becomes_an_item_or_the_end(rt: HostRuntime) {
     let fifo = fifo(&rt);

@@ -14,6 +14,7 @@ const HANDLED: Key = Key::Of(Kind::Subscriber, 1);
 
 const PLAIN: Key = Key::Of(Kind::Publisher, 2);
 
+/// The name of a post under that key: at place 0, with neither a parent nor a token.
 fn named(key: Key) -> Name {
     Name {
         key,

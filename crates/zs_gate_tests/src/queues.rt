@@ -2,6 +2,7 @@
 
 use zs_handlers::{FifoQueue, RingQueue};
 
+/// A fifo gives its items in the order in which it took them.
 #[test]
 fn gives_items_of_a_fifo_in_order(rt: HostRuntime) {
     let mut fifo = FifoQueue::new(rt.alloc(), 2).expect(&rt, "a fifo");
@@ -14,6 +15,7 @@ fn gives_items_of_a_fifo_in_order(rt: HostRuntime) {
     assert!(rt; seen == (Ok(()), Ok(()), Ok(Some(1)), Ok(Some(2))));
 }
 
+/// A full ring gives its oldest item back for a new one, and then gives the next one.
 #[test]
 fn keeps_the_newest_items_of_a_ring(rt: HostRuntime) {
     let mut ring = RingQueue::new(rt.alloc(), 2).expect(&rt, "a ring");

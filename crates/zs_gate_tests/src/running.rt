@@ -16,6 +16,7 @@ impl<R: Wait + Threads + Clock + AllocGlobal + Abort + Copy + Send + 'static> Ho
 
 // What a thread does. It answers whether it saw what it was to see.
 pub(crate) trait Task: Drop + Send + 'static {
+    /// Does it in the thread, with the runtime that the thread has.
     fn run<R: Wait>(self, rt: &R) -> bool;
 }
 
@@ -26,12 +27,14 @@ pub(crate) struct Running {
 }
 
 impl Drop for Running {
+    /// Drops the handle and the word. It is written out, so that no proof takes a thread apart where it goes.
     fn drop(self) {
         let Running { thread: _, end: _ } = self;
     }
 }
 
 impl Running {
+    /// Starts a thread that does the task; there have to be memory and a thread for it.
     pub(crate) fn start<R: Host, T: Task>(rt: &R, task: T) -> Running {
         let end = word(rt);
         let told = hold(rt, &end);

@@ -20,6 +20,7 @@ fn run_taken(state: &mut TokenState<Write>) -> Option<Outcome> {
     Some(handlers.run())
 }
 
+/// Handlers run in the order in which they were added, and none behind the first that fails.
 #[test]
 fn runs_in_order_up_to_the_first_failure(rt: HostRuntime) {
     let words = Words::new(&rt);

@@ -15,6 +15,7 @@ struct Sending {
 }
 
 impl Drop for Sending {
+    /// Drops all parts. It is written out, so that no proof takes a sender apart where it goes.
     fn drop(self) {
         let Sending {
             caller: _,
@@ -25,6 +26,7 @@ impl Drop for Sending {
 }
 
 impl Task for Sending {
+    /// Whether all three items are taken; it stops at the first that isn't.
     fn run<R: Wait>(self, rt: &R) -> bool {
         for item in 1..4 {
             if !self.caller.hands(rt, &self.sender, item) {
@@ -58,6 +60,7 @@ fn waits_for_a_receive<R: Host>(
     (waits, received, sending.ends(rt)) == ((true, true), Ok(Some(1)), true)
 }
 
+/// A sender waits while its fifo is full, and goes on once an item was received.
 #[test]
 fn waits_for_room(rt: HostRuntime) {
     let ends = FifoChannel::new(2).into_handler(rt.alloc());
@@ -73,6 +76,7 @@ struct Receiving {
 }
 
 impl Drop for Receiving {
+    /// Drops both parts. It is written out for the same reason as that of a sender.
     fn drop(self) {
         let Receiving {
             receiver: _,
@@ -82,6 +86,7 @@ impl Drop for Receiving {
 }
 
 impl Task for Receiving {
+    /// Receives up to the end, which it waits for.
     fn run<R: Wait>(self, rt: &R) -> bool {
         for item in self.receiver.iter(rt) {
             self.last.store(item, Ordering::SeqCst);
@@ -107,6 +112,7 @@ fn waits_for_a_send<R: Host>(
     (waits, takes, came, receiving.ends(rt)) == (true, true, true, true)
 }
 
+/// A receiver waits while its fifo is empty: for an item, and then for the end.
 #[test]
 fn waits_for_an_item_and_the_end(rt: HostRuntime) {
     let ends = FifoChannel::new(2).into_handler(rt.alloc());

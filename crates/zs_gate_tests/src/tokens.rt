@@ -18,6 +18,7 @@ struct Canceller {
 }
 
 impl Task for Canceller {
+    /// Cancels, waits for the handlers and the notifiers, and tells whether the answer is the wanted one.
     fn run<R: Wait>(self, rt: &R) -> bool {
         let Canceller { cancel, wanted } = self;
         cancel.wait(rt) == wanted
@@ -31,6 +32,7 @@ struct Trial {
 }
 
 impl Drop for Trial {
+    /// Drops the words and the token. It is written out, so that no proof takes a trial apart where it goes.
     fn drop(self) {
         let Trial { words: _, token: _ } = self;
     }
@@ -99,6 +101,7 @@ fn cancels_twice<R: Host>(rt: &R, trial: &Trial) -> bool {
     (runs, waits, is_over, ends) == (true, true, false, (true, true))
 }
 
+/// Of two threads that cancel a token, one runs the handler, and both are answered once it has ended.
 #[test]
 fn runs_a_handler_once_for_two_threads(rt: HostRuntime) {
     let trial = Trial::new(&rt);
@@ -126,6 +129,7 @@ fn answers_each_canceller_the_failure(rt: HostRuntime) {
     assert!(rt; (added, fails, trial.words.written()) == (Ok(0), true, 1));
 }
 
+/// A token that was cancelled refuses a handler.
 #[test]
 fn takes_no_handler_once_it_is_cancelled(rt: HostRuntime) {
     let trial = Trial::new(&rt);
@@ -145,6 +149,7 @@ fn removes_the_second<R: Wait + AllocGlobal + Abort>(rt: &R, trial: &Trial) -> b
     seen == (true, false, true, true)
 }
 
+/// A handler that was removed isn't run: its failure doesn't show.
 #[test]
 fn leaves_out_what_was_removed(rt: HostRuntime) {
     let trial = Trial::new(&rt);
@@ -163,6 +168,7 @@ fn wakes_at_a_release<R: Host>(rt: &R, trial: &Trial, notifier: Notifier) -> boo
     (waits, canceller.ends(rt)) == (true, true)
 }
 
+/// Who cancels a token waits for its notifier; from then on the token gives none.
 #[test]
 fn waits_for_a_notifier(rt: HostRuntime) {
     let trial = Trial::new(&rt);

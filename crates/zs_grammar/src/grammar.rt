@@ -38,6 +38,7 @@ fn split_fields(alloc: Global, line: &str) -> Result<Vec<&str>, AllocError>
     line.split('\t').collect(alloc)
 }
 
+/// What fields say, by the first of them: `recv` takes from a channel, other words are events of the session.
 fn parse_fields(alloc: Global, fields: &mut Fields<'_>) -> Result<Option<ScriptEvent>, AllocError>
     ensures { IfOk result (λ found. found ≡ event_of_fields fields.old) }
 {

@@ -23,6 +23,7 @@ pub fn hear_effects(view: &mut View, id: u32, effects: &Effects) -> Result<(), A
     Ok(())
 }
 
+/// Has a view take what one effect hands over. Other effects change nothing.
 fn hear_effect(view: &mut View, id: u32, effect: &Effect) -> Result<(), AllocError>
     ensures { OnOk result (view.new ≡ heard_effect id effect.now view.old) }
 {
@@ -32,6 +33,7 @@ fn hear_effect(view: &mut View, id: u32, effect: &Effect) -> Result<(), AllocErr
     }
 }
 
+/// Has a view take what is handed over, if it is a sample for that subscriber.
 fn hear_item(view: &mut View, id: u32, item: &HandOver) -> Result<(), AllocError>
     ensures { OnOk result (view.new ≡ heard_item id item.now view.old) }
 {
@@ -45,6 +47,7 @@ fn hear_item(view: &mut View, id: u32, item: &HandOver) -> Result<(), AllocError
     }
 }
 
+/// Has a view take a sample that goes to a liveliness subscriber of number `id`; others change nothing.
 fn hear_numbered(
     view: &mut View,
     kind: Kind,

@@ -40,6 +40,7 @@ fn split_fields(alloc: Global, line: &str) -> Result<Vec<&str>, AllocError>
     line.split('\t').collect(alloc)
 }
 
+/// What the fields of a line ask: a word alone, or a word and a name. More fields ask nothing.
 fn parse_fields(alloc: Global, fields: &[&str]) -> Result<Option<GroupLine>, AllocError>
     ensures { IfOk result (λ found. found ≡ line_of (texts fields.now)) }
 {
@@ -51,6 +52,7 @@ fn parse_fields(alloc: Global, fields: &[&str]) -> Result<Option<GroupLine>, All
     }
 }
 
+/// What a word alone asks: only `view` may stand so.
 fn parse_view(word: &str) -> Option<GroupLine>
     ensures { result ≡ line_of_one word.now }
 {
@@ -60,6 +62,7 @@ fn parse_view(word: &str) -> Option<GroupLine>
     }
 }
 
+/// What a word asks with a second field behind it; nothing where that is no name.
 fn parse_named(alloc: Global, word: &str, name: &str) -> Result<Option<GroupLine>, AllocError>
     ensures { IfOk result (λ found. found ≡ line_of_two word.now name.now) }
 {
@@ -69,6 +72,7 @@ fn parse_named(alloc: Global, word: &str, name: &str) -> Result<Option<GroupLine
     named(alloc, word, name)
 }
 
+/// What a word asks with a name behind it, which is taken to be one: only `join` and `leave` may stand so.
 fn named(alloc: Global, word: &str, name: &str) -> Result<Option<GroupLine>, AllocError>
     ensures { IfOk result (λ found. found ≡ line_named word.now name.now) }
 {

@@ -39,6 +39,7 @@ pub fn append_view(out: &mut String, number: u64, side: &str, view: &View) -> Re
     Ok(())
 }
 
+/// Puts the line of one name and its count behind a text.
 fn append_member(
     out: &mut String,
     number: u64,

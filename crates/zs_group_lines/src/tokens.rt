@@ -65,6 +65,7 @@ impl Tokens {
         }
     }
 
+    /// Adds a token whose declaration was answered a number, if its key was given as a text. Else nothing changes.
     fn note_token(&mut self, key: &KeyArg, answer: Answer) -> Result<(), AllocError>
         ensures ok { OnOk result (self.new ≡ token_held key.now answer self.old) }
         ensures err { OnErr result (self.new ≡ self.old) }
@@ -79,6 +80,7 @@ impl Tokens {
         self.add(Token { key, id })
     }
 
+    /// Takes a token out whose undeclaration was accepted. Ends of other entities change nothing.
     fn note_end(&mut self, kind: EntityKind, id: u32, answer: Answer)
         ensures { self.new ≡ token_ended kind id answer self.old }
     {
@@ -88,6 +90,7 @@ impl Tokens {
         }
     }
 
+    /// Puts a token behind the others, as the newest one.
     fn add(&mut self, token: Token) -> Result<(), AllocError>
         ensures ok { OnOk result (self.new ≡ self.old ++ token ∷ []) }
         ensures err { OnErr result (self.new ≡ self.old) }
@@ -101,6 +104,7 @@ impl Tokens {
         }
     }
 
+    /// Takes out the token of that number, if it is held.
     fn end(&mut self, id: u32)
         ensures { self.new ≡ without id self.old }
     {
@@ -133,7 +137,7 @@ impl Tokens {
     }
 }
 
-/// Leaves all tokens but the one of that number.
+/// Keeps all tokens but the one of that number.
 fn leave_others(tokens: &mut Vec<Token>, id: u32)
     ensures { tokens.new.items ≡ without id tokens.old.items }
 {
@@ -147,6 +151,7 @@ fn first_on<'a>(tokens: &'a [Token], key: &str) -> Option<&'a Token>
     tokens.iter().find(|token| token.key.as_str() == key)
 }
 
+/// Counts a token in a view under the name that its key stands for, if it stands for one.
 fn count_token(token: &Token, view: &mut View) -> Result<(), AllocError>
     ensures { OnOk result (view.new ≡ raised_in (name_in (encode_utf8_all token.now.key)) view.old) }
 {

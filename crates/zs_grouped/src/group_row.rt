@@ -1,3 +1,4 @@
+//! One group: its number and its members.
 use std::collections::BTreeSet;
 
 /// The entities that share a declaration, and the number that it was declared with.

@@ -106,6 +106,7 @@ fn is_alone(row: &GroupRow, id: u32) -> bool
     row.members.iter().all(|member| *member == id)
 }
 
+/// Takes a member out of a row, if it is in it. The row keeps its number, also where the one that gave it leaves.
 fn leave_row(row: &mut GroupRow, id: u32)
     ensures { HasLeft id row.old row.new }
 {

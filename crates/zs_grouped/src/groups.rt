@@ -1,3 +1,4 @@
+//! The groups of a session, kind by kind.
 ghost use Rattle.std.specs.Prelude.{◌≡◌, [], not, length, IfOk, OnOk, OnErr};
 ghost use Rattle.std.specs.List.{list_any};
 ghost use Rattle.zs_grouped.specs.Groups.{groups_of, with_groups, has_text, number_of_group, members_of, joined, left, number_left};

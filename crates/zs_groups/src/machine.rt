@@ -41,6 +41,7 @@ impl Sides {
         }
     }
 
+    /// The row `ab` or `ba`: all messages that wait at that side are delivered. It is a line, whatever waits.
     fn take_move(&mut self, from: LinkSide, number: u64) -> Result<bool, AllocError>
         ensures known { IfOk result (λ taken. taken ≡ true) }
         ensures took { OnOk result (Becomes (λ s t. with_line s number (Move from) t) self.old self.new) }
@@ -130,10 +131,12 @@ impl LineMachine for Sides {
 
     ghost closed = { λ sides r h. Unit {0} };
 
+    /// Takes a line for a side, or a delivery. What it prints goes onto the transcript when all of it is done.
     fn take(&mut self, line: &Line, transcript: &mut Transcript) -> Result<bool, AllocError> {
         self.take_line(&line.bytes, line.number, transcript)
     }
 
+    /// At the end of input both sessions close, and nothing is printed of it.
     fn end(&mut self, _number: u64, _transcript: &mut Transcript) -> Result<(), AllocError> {
         self.close()
     }

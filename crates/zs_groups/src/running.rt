@@ -1,3 +1,4 @@
+//! A whole run of the program over a source and sinks, up to its exit status.
 ghost use Rattle.std.specs.Prelude.{◌≡◌, ◌≢◌, ◌≤◌, ℕ, List, [], IsTrue};
 ghost use Rattle.zs_keys.specs.Stream.{PutsOn};
 ghost use Rattle.zs_core.specs.Settings.{is_valid, default_settings};

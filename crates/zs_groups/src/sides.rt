@@ -107,6 +107,7 @@ impl Sides {
         }
     }
 
+    /// Each side declares its liveliness subscriber, the first side before the second.
     fn declare_all(&mut self) -> Result<(), AllocError>
         ensures { OnOk result ((s : Settings) → AreBehind self.old s [] → AreBehind self.new s first_links) }
     {
@@ -141,6 +142,7 @@ impl Sides {
         }
     }
 
+    /// The membership of a side notes what an event of its application came to, by its turn.
     fn note(&mut self, side: LinkSide, event: &Event, turn: &Turn) -> Result<(), AllocError>
         ensures { OnOk result (self.new ≡ noted_in side event.now turn.now self.old) }
     {
@@ -164,6 +166,7 @@ impl Sides {
         }
     }
 
+    /// A side's membership hears of a message that its session took. One that was dropped says nothing of the group.
     fn hear_delivered(&mut self, side: LinkSide, delivered: &Delivered) -> Result<(), AllocError>
         ensures { OnOk result (self.new ≡ heard_delivered side delivered.now self.old) }
     {
@@ -174,6 +177,7 @@ impl Sides {
         }
     }
 
+    /// The membership of a side hears what effects hand to its liveliness subscriber.
     fn hear(&mut self, side: LinkSide, effects: &Effects) -> Result<(), AllocError>
         ensures { OnOk result (self.new ≡ heard_in side effects.now self.old) }
     {
@@ -244,6 +248,7 @@ impl Sides {
         }
     }
 
+    /// A side undeclares its token of that number, and the answer is printed.
     fn end_token(&mut self, number: u64, side: LinkSide, id: u32) -> Result<(), AllocError>
         ensures { OnOk result (Becomes (λ s t. with_taken s number side (leaving id) t) self.old self.new) }
     {
@@ -253,6 +258,7 @@ impl Sides {
         told
     }
 
+    /// The line is refused as `NotMember`: its side holds no token on the key.
     fn refuse(&mut self, number: u64) -> Result<(), AllocError>
         ensures { OnOk result (Becomes (λ s t. with_text (not_member number) t) self.old self.new) }
     {
@@ -279,6 +285,7 @@ impl Sides {
         shown
     }
 
+    /// Prints that the line was taken, and then each name of the view with its count.
     fn show_view(&mut self, number: u64, side: LinkSide, view: &View) -> Result<(), AllocError>
         ensures { OnOk result (Becomes (λ s t. with_text (view_text number (letter side) view.now) (with_text (line number (codes "ok" ∷ [])) t)) self.old self.new) }
     {
@@ -286,6 +293,7 @@ impl Sides {
         append_view(&mut self.printed, number, letter(side), view)
     }
 
+    /// The oldest message of a side is delivered, of which nothing is printed.
     fn deliver_oldest(&mut self, from: LinkSide) -> Result<(), AllocError>
         ensures { OnOk result (Becomes (λ s t. with_link (Deliver from) t) self.old self.new) }
     {
@@ -294,6 +302,7 @@ impl Sides {
         Ok(())
     }
 
+    /// So many messages of a side are delivered, in the order in which they were sent.
     fn deliver_many(&mut self, from: LinkSide, count: usize) -> Result<(), AllocError>
         ensures { OnOk result (Becomes (λ s t. with_many from count t) self.old self.new) }
     {
@@ -340,6 +349,7 @@ impl Sides {
         closed
     }
 
+    /// Each session takes that event, and what comes of it is let go: no membership notes it.
     fn close_both(&mut self, close: &Event) -> Result<(), AllocError>
         requires { is_net close.now ≡ false }
     {

@@ -67,6 +67,7 @@ impl FifoChannel {
 }
 
 impl Default for FifoChannel {
+    /// A channel for at most 256 unread items.
     fn default() -> FifoChannel
         ensures { result ≡ DEFAULT_CAPACITY }
     {
@@ -94,6 +95,7 @@ impl RingChannel {
 }
 
 impl Default for RingChannel {
+    /// A channel for at most 256 unread items.
     fn default() -> RingChannel
         ensures { result ≡ DEFAULT_CAPACITY }
     {

@@ -44,10 +44,12 @@ impl<T: Drop> Iterator for Drain<'_, T> {
 
     ghost remaining = { λ s. at_most (length s) };
 
+    /// The first of the items that are left. It never waits.
     fn next(&mut self) -> Option<T> {
         self.buffer.pop_front()
     }
 
+    /// How many items are left, exactly: none comes in any more.
     fn size_hint(&self) -> (usize, Option<usize>)
         ensures lower { IsWithinCount result.0 (at_most (length self.now)) }
         ensures upper { IfSome result.1 (UpTo (at_most (length self.now))) }
@@ -59,12 +61,14 @@ impl<T: Drop> Iterator for Drain<'_, T> {
 }
 
 impl<T: Drop> ExactSizeIterator for Drain<'_, T> {
+    /// How many items are left.
     fn len(&self) -> usize {
         self.buffer.len()
     }
 }
 
 impl<T: Drop> Drop for Drain<'_, T> {
+    /// Drops the items that are left, and gives their buffer back for the next drain.
     fn drop(self) {
         let Drain { mut buffer, shared } = self;
         buffer.clear();

@@ -21,6 +21,7 @@ pub struct Disconnected;
 pub struct RingDeleted;
 
 impl fmt::Display for ChannelError {
+    /// Says in English why no channel was made.
     fn fmt<W: fmt::Write>(&self, f: &mut fmt::Formatter<W>) -> fmt::Result {
         f.write_str(match self {
             ChannelError::ZeroCapacity => "a channel needs room for an item",
@@ -37,12 +38,14 @@ impl From<AllocError> for ChannelError {
 
     ghost from_gives = { λ _ why. why ≡ NoMemory };
 
+    /// Want of memory is `NoMemory`, so that `?` hands it on.
     fn from(_error: AllocError) -> ChannelError {
         ChannelError::NoMemory
     }
 }
 
 impl fmt::Display for Disconnected {
+    /// Says in English that the callback has ended and all items are gone.
     fn fmt<W: fmt::Write>(&self, f: &mut fmt::Formatter<W>) -> fmt::Result {
         f.write_str("the callback has ended, and no item is left")
     }
@@ -51,6 +54,7 @@ impl fmt::Display for Disconnected {
 impl Error for Disconnected {}
 
 impl fmt::Display for RingDeleted {
+    /// Says in English that the callback has ended. Of unread items it says nothing.
     fn fmt<W: fmt::Write>(&self, f: &mut fmt::Formatter<W>) -> fmt::Result {
         f.write_str("the callback of the ring has ended")
     }

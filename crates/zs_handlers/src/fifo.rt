@@ -47,6 +47,7 @@ pub struct FifoChannelHandler<T: Drop> {
 }
 
 impl<T: Drop> FifoShared<T> {
+    // The state behind its lock, with a source of its own and no one who waits.
     fn new(state: FifoState<T>, capacity: usize) -> FifoShared<T>
         requires { state.queue.capacity ≡ capacity }
         ensures { result.capacity ≡ capacity }
@@ -61,6 +62,7 @@ impl<T: Drop> FifoShared<T> {
         }
     }
 
+    // The first item, `None` where there is none yet. An item that is taken wakes one who waits for room.
     fn try_recv<R: Wait>(&self, rt: &R) -> Result<Option<T>, Disconnected> {
         let taken = self.state.lock(rt).take()?;
         if taken.is_some() {
@@ -69,6 +71,7 @@ impl<T: Drop> FifoShared<T> {
         Ok(taken)
     }
 
+    // Waits for the first item, and wakes one who waits for room. It fails once the fifo is empty and has ended.
     fn recv<R: Wait>(&self, rt: &R) -> Result<T, Disconnected> {
         let mut state = self.state.lock(rt);
         for _ in rt.forever() {

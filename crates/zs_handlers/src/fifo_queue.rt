@@ -126,6 +126,7 @@ impl<T> FifoQueue<T> {
 }
 
 impl<T: Drop> Drop for FifoQueue<T> {
+    /// Drops the items that are left, and their buffer.
     fn drop(self) {
         let FifoQueue {
             buffer: _,

@@ -26,6 +26,7 @@ pub(crate) struct FifoState<T: Drop> {
 impl<T: Drop> FifoState<T> {
     ghost use Rattle.zs_handlers.specs.Polled.{IsLeftIn};
 
+    // A fifo for which no task waits, and that no one drains: the second buffer is there.
     pub(crate) fn new(queue: FifoQueue<T>, spare: HeapCircularBuffer<T, Global>) -> Self
         requires { spare ≡ buffer [] queue.capacity }
         ensures { result.queue ≡ queue }
@@ -48,6 +49,7 @@ impl<T: Drop> FifoState<T> {
         Ok(self.waker.take())
     }
 
+    // Takes the first item, `None` where there is none yet. It leaves the waker as it is.
     pub(crate) fn take(&mut self) -> Result<Option<T>, Disconnected>
         ensures items { self.new.queue ≡ record self.old.queue { items = drop 1 self.old.queue.items } }
         ensures ok { IfOk result (λ first. first ≡ slice_get self.old.queue.items 0) }

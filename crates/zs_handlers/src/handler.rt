@@ -19,6 +19,7 @@ pub enum Handled<T, D> {
 pub struct Took(());
 
 impl Took {
+    // The word of a sender of this crate that it was called.
     pub(crate) fn new() -> Took {
         Took(())
     }

@@ -63,6 +63,7 @@ impl<T: Drop, R: Wait> Iterator for Iter<'_, T, R> {
 
     ghost remaining = { λ s. at_most (forever_left s.turns) };
 
+    /// Waits for the next item. `None` once the callback has ended and no item is left.
     fn next(&mut self) -> Option<T> {
         self.turns.next();
         self.handler.recv(self.rt).ok()
@@ -74,6 +75,7 @@ impl<T: Drop, R: Wait> Iterator for TryIter<'_, T, R> {
 
     ghost remaining = { λ s. at_most (forever_left s.turns) };
 
+    /// The next item, without waiting. `None` where there is none now: one may come later.
     fn next(&mut self) -> Option<T> {
         self.turns.next();
         self.handler.try_recv(self.rt).ok().flatten()
@@ -85,6 +87,7 @@ impl<T: Drop, R: Wait> Iterator for IntoIter<'_, T, R> {
 
     ghost remaining = { λ s. at_most (forever_left s.turns) };
 
+    /// Waits for the next item. `None` once the callback has ended and no item is left.
     fn next(&mut self) -> Option<T> {
         self.turns.next();
         self.handler.recv(self.rt).ok()

@@ -12,6 +12,7 @@ pub(crate) enum Place<'a, T: Drop> {
 }
 
 impl<T: Drop> Place<'_, T> {
+    // The receiver, whoever owns it.
     pub(crate) fn handler(&self) -> &FifoChannelHandler<T>
         ensures source { source_of result.now ≡ source_at self.now }
         ensures capacity { capacity_of result.now ≡ capacity_at self.now }

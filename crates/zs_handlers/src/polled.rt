@@ -72,6 +72,7 @@ impl<T: Drop, R: Wait + Drop> Future for RecvFut<'_, T, R> {
 
     ghost needs = { λ receive source. source ≡ future_source receive };
 
+    /// Takes the first item, or tells the end. While there is neither, the waker of the task is left.
     fn poll(&mut self, cx: &mut Context<'_>) -> Poll<Result<T, Disconnected>> {
         self.place.handler().shared.poll(&self.rt, cx)
     }
@@ -82,6 +83,7 @@ impl<T: Drop, R: Wait + Drop> Stream for RecvStream<'_, T, R> {
 
     ghost needs = { λ stream source. source ≡ stream_source stream };
 
+    /// Takes the first item; `None` at the end. While there is neither, the waker of the task is left.
     fn poll_next(&mut self, cx: &mut Context<'_>) -> Poll<Option<T>> {
         match self.place.handler().shared.poll(&self.rt, cx) {
             Poll::Ready(Ok(item)) => Poll::Ready(Some(item)),

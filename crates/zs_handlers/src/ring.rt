@@ -31,6 +31,7 @@ pub struct RingChannelHandler<T: Drop> {
 }
 
 impl<T: Drop> RingShared<T> {
+    // The ring behind its lock, with no one who waits.
     fn new(queue: RingQueue<T>) -> RingShared<T> {
         RingShared {
             queue: Mutex::new(queue),
@@ -38,6 +39,7 @@ impl<T: Drop> RingShared<T> {
         }
     }
 
+    // The oldest item, once there is one. It fails once the ring has ended, whatever it still holds.
     fn recv<R: Wait>(&self, rt: &R) -> Result<T, RingDeleted> {
         let mut queue = self.queue.lock(rt);
         for _ in rt.forever() {

@@ -120,6 +120,7 @@ impl<T> RingQueue<T> {
 }
 
 impl<T: Drop> Drop for RingQueue<T> {
+    /// Drops the items that are left, and their buffer.
     fn drop(self) {
         let RingQueue {
             buffer: _,

@@ -285,6 +285,7 @@ fn push_heard(
     Ok(())
 }
 
+/// A listener whose status changes hears the new one: whether its count is above 0. One whose doesn't hears nothing.
 fn push_one(one: &Recount, effects: &mut Effects) -> Result<(), AllocError>
     ensures { OnOk result (effects.new ≡ effects.old ++ map heard_effect (filter is_heard (one.now ∷ []))) }
 {

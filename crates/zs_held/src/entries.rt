@@ -21,6 +21,7 @@ impl Model for Entries {
     ghost view = { λ e. e.items.items };
 }
 
+/// The same event and turn, in places that both entries share.
 fn copy_entry(entry: &Entry) -> Result<Entry, AllocError>
     ensures { IfOk result (λ copy. copy ≡ entry.now) }
 {

@@ -48,6 +48,7 @@ pub struct Held<H, B: Books> {
 }
 
 impl<H: Drop, B: Books> Drop for Held<H, B> {
+    /// Lets go of the session, and then of the books that counted it.
     fn drop(self) {
         let Held { cell, accounts } = self;
         drop(cell);

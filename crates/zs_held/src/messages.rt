@@ -9,6 +9,7 @@ use zs_events::{Effect, Turn};
 use zs_shared::Shared;
 use zs_wire::Message;
 
+/// How many messages an effect sends: one or none.
 fn count_sent(effect: &Effect) -> u64
     ensures { result ≡ length (sent_by effect.now) }
 {
@@ -18,6 +19,7 @@ fn count_sent(effect: &Effect) -> u64
     }
 }
 
+/// How many messages effects send together.
 fn count_all(effects: &[Effect]) -> u64
     ensures { result ≡ length (flat_map sent_by effects.now) }
 {

@@ -36,6 +36,7 @@ pub fn answers_to(
     Ok(events)
 }
 
+/// Adds the events that answer an effect: where it hands nothing over there are none.
 fn push_answers(
     alloc: Global,
     events: &mut Vec<Event>,
@@ -51,6 +52,7 @@ fn push_answers(
     }
 }
 
+/// Adds the events that answer an item: where it is no query for the queryable of that number there are none.
 fn push_item_answers(
     alloc: Global,
     events: &mut Vec<Event>,
@@ -97,6 +99,7 @@ fn push_all(
     Ok(())
 }
 
+/// Adds a reply for each stored key that meets the query's, in the order of the store.
 fn push_replies(
     alloc: Global,
     events: &mut Vec<Event>,
@@ -149,6 +152,7 @@ fn reply(alloc: Global, value: u32, key: &str, entry: &Entry) -> Result<Event, A
     })
 }
 
+/// What a reply says of an entry: its body and its moment, without a source and an attachment.
 fn shared_update(alloc: Global, entry: &Entry) -> Result<Shared<Update>, AllocError>
     ensures { IfOk result (λ update. update ≡ update_of (seen entry.now)) }
 {
@@ -162,6 +166,7 @@ fn shared_update(alloc: Global, entry: &Entry) -> Result<Shared<Update>, AllocEr
     Shared::new(alloc, update)
 }
 
+/// What stands at a key, as a reply says it: the payload in one slice without an encoding, or that it is deleted.
 fn body(alloc: Global, entry: &Entry) -> Result<PushBody, AllocError>
     ensures { IfOk result (λ body. body ≡ body_of (seen entry.now)) }
 {

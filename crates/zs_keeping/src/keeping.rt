@@ -28,6 +28,7 @@ pub fn take_effects(
     Ok(())
 }
 
+/// Has a store take what an effect hands to the subscriber of that number, if it hands anything over.
 fn take_effect(alloc: Global, store: &mut Store, id: u32, effect: &Effect) -> Result<(), AllocError>
     ensures { OnOk result (store.new ≡ with_effect id effect.now store.old) }
 {
@@ -37,6 +38,7 @@ fn take_effect(alloc: Global, store: &mut Store, id: u32, effect: &Effect) -> Re
     }
 }
 
+/// Has a store take an item that is handed over, if it is a sample for the subscriber of that number.
 fn take_item(alloc: Global, store: &mut Store, id: u32, item: &HandOver) -> Result<(), AllocError>
     ensures { OnOk result (store.new ≡ with_item id item.now store.old) }
 {
@@ -50,6 +52,7 @@ fn take_item(alloc: Global, store: &mut Store, id: u32, item: &HandOver) -> Resu
     }
 }
 
+/// Has a store take a sample that is handed to `number` of that kind, where that is the subscriber `id`.
 fn take_numbered(
     alloc: Global,
     store: &mut Store,

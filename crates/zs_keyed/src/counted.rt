@@ -1,3 +1,4 @@
+//! Rows that carry a count beside their number and key.
 ghost use Rattle.std.specs.Prelude.{◌≡◌, ℕ};
 
 use crate::keyed::Keyed;

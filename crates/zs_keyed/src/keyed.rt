@@ -1,3 +1,4 @@
+//! What a row needs to stand in a table: a number and a key.
 ghost use Rattle.std.specs.Prelude.{◌≡◌, ℕ, List};
 
 use zs_keys::KeyExpr;

@@ -20,6 +20,7 @@ impl<'a> PartialEq for KeyExpr<'a> {
 
     ghost laws = { on_per (λ (k : Key). k.text) (Cmp.partial_equiv_from_equiv nat_list_eq_equiv) };
 
+    /// Whether the texts are the same. How the keys were declared makes no difference.
     fn eq(&self, other: &Self) -> bool {
         self.as_str() == other.as_str()
     }
@@ -34,6 +35,7 @@ impl<'a> PartialOrd for KeyExpr<'a> {
 
     ghost laws = { on_po (λ (k : Key). k.text) texts_po };
 
+    /// The order of the texts, which is total, so there is always an answer.
     fn partial_cmp(&self, other: &Self) -> Option<Ordering> {
         Some(self.cmp(other))
     }
@@ -48,6 +50,7 @@ impl<'a> Ord for KeyExpr<'a> {
 
     ghost matches_eq = { λ k l. texts_ties k.text l.text };
 
+    /// The order of the texts, byte by byte. A text comes before those that go on behind it.
     fn cmp(&self, other: &Self) -> Ordering {
         self.as_str().cmp(other.as_str())
     }
@@ -58,6 +61,7 @@ impl<'a> Hash for KeyExpr<'a> {
 
     ghost respects_eq = { Prim.search (hashing, rules) };
 
+    /// Feeds the text alone, so that equal key expressions hash alike.
     fn hash<H: Hasher>(&self, state: &mut H) {
         self.as_str().hash(state);
     }
@@ -66,12 +70,14 @@ impl<'a> Hash for KeyExpr<'a> {
 impl<'a> fmt::Display for KeyExpr<'a> {
     ghost output = { λ k. Some k.text };
 
+    /// Writes the text, with the width and precision that the formatter asks for.
     fn fmt<W: fmt::Write>(&self, f: &mut fmt::Formatter<W>) -> fmt::Result {
         f.pad(self.as_str())
     }
 }
 
 impl<'a> fmt::Debug for KeyExpr<'a> {
+    /// Shows the text in quotes, with its escapes, as Debug of a `str` does.
     fn fmt<W: fmt::Write>(&self, f: &mut fmt::Formatter<W>) -> fmt::Result {
         fmt::Debug::fmt(&self.as_str(), f)
     }

@@ -34,23 +34,27 @@ impl<'a> Pattern for PlainUnits<'a> {
 
     ghost same = { λ a b. a == b };
 
+    /// The next unit of the chunk, with `$` for each `$*`, and the walk behind it.
     fn split_first(self) -> Option<(u8, PlainUnits<'a>)> {
         let (unit, units) = self.units.next_unit()?;
         Some((unit, PlainUnits { units }))
     }
 
+    /// Whether the unit is `$`, as a `$*` is read: it stands for any characters of the other chunk.
     fn is_wild(unit: u8) -> bool
         ensures { result ≡ is_any unit }
     {
         unit == b'$'
     }
 
+    /// No unit of the included chunk is wild: its `$*` fits only where the other chunk has one.
     fn is_wild_right(_unit: u8) -> bool
         ensures { result ≡ false }
     {
         false
     }
 
+    /// Whether the units are the same byte.
     fn is_same(left: u8, right: u8) -> bool
         ensures { result ≡ (left == right) }
     {
@@ -107,23 +111,27 @@ impl<'a> Pattern for PlainSegment<'a> {
 
     ghost same = { chunk_includes };
 
+    /// The next chunk, and the walk behind it. It ends before a verbatim chunk.
     fn split_first(self) -> Option<(&'a str, PlainSegment<'a>)> {
         let (chunk, segment) = self.segment.next_free()?;
         Some((chunk, PlainSegment { segment }))
     }
 
+    /// Whether the chunk stands for any number of chunks of the other key expression.
     fn is_wild(chunk: &'a str) -> bool
         ensures { result ≡ is_double_star chunk.now }
     {
         chunk == "**"
     }
 
+    /// No chunk of the included key expression is wild: its `**` fits only where the other has one.
     fn is_wild_right(_chunk: &'a str) -> bool
         ensures { result ≡ false }
     {
         false
     }
 
+    /// Whether the left chunk includes the right one. They need not be the same text.
     fn is_same(left: &'a str, right: &'a str) -> bool
         ensures { result ≡ chunk_includes left.now right.now }
     {

@@ -22,12 +22,14 @@ impl From<AllocError> for KeyError {
 
     ghost from_gives = { λ _ error. error ≡ NoMemory };
 
+    /// Want of memory is `NoMemory`, so that `?` hands it on.
     fn from(_: AllocError) -> KeyError {
         KeyError::NoMemory
     }
 }
 
 impl fmt::Display for KeyError {
+    /// Says in English what was wrong, without the text that was refused.
     fn fmt<W: fmt::Write>(&self, f: &mut fmt::Formatter<W>) -> fmt::Result {
         f.write_str(match self {
             KeyError::BadKeyExpr => "not a canonical key expression",

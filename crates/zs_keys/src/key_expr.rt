@@ -30,6 +30,7 @@ pub struct KeyExpr<'a> {
 }
 
 impl Drop for KeyExpr<'_> {
+    /// Gives up the text, where it is owned. What was declared is not taken back.
     fn drop(self) {
         let KeyExpr {
             text,

@@ -28,22 +28,26 @@ impl<'a> Pattern for Units<'a> {
 
     ghost same = { λ a b. a == b };
 
+    /// The next unit of the chunk, with `$` for each `$*`, and the walk behind it.
     fn split_first(self) -> Option<(u8, Units<'a>)> {
         self.next_unit()
     }
 
+    /// Whether the unit is `$`, as a `$*` is read: it stands for any characters.
     fn is_wild(unit: u8) -> bool
         ensures { result ≡ is_any unit }
     {
         unit == b'$'
     }
 
+    /// The same on the right: the two sides are treated alike.
     fn is_wild_right(unit: u8) -> bool
         ensures { result ≡ is_any unit }
     {
         Self::is_wild(unit)
     }
 
+    /// Whether the units are the same byte.
     fn is_same(left: u8, right: u8) -> bool
         ensures { result ≡ (left == right) }
     {
@@ -81,22 +85,26 @@ impl<'a> Pattern for Segment<'a> {
 
     ghost same = { chunk_meets };
 
+    /// The next chunk, and the walk behind it. It ends before a verbatim chunk.
     fn split_first(self) -> Option<(&'a str, Segment<'a>)> {
         self.next_free()
     }
 
+    /// Whether the chunk stands for any number of chunks.
     fn is_wild(chunk: &'a str) -> bool
         ensures { result ≡ is_double_star chunk.now }
     {
         chunk == "**"
     }
 
+    /// The same on the right: the two sides are treated alike.
     fn is_wild_right(chunk: &'a str) -> bool
         ensures { result ≡ is_double_star chunk.now }
     {
         Self::is_wild(chunk)
     }
 
+    /// Whether the two chunks have a chunk in common. They need not be the same text.
     fn is_same(left: &'a str, right: &'a str) -> bool
         ensures { result ≡ chunk_meets left.now right.now }
     {

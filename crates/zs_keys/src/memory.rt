@@ -73,6 +73,7 @@ impl Source for SteadySource {
 
     ghost faults = { λ _. 0 };
 
+    /// Copies as many of the bytes that are left as fit. 0 is their end, or a buffer without room.
     fn read(&mut self, into: &mut [u8]) -> Result<usize, Failed>
         ensures steady { IsOk result }
         ensures within { IfOk result (λ count. count ≤ length into.new) }
@@ -148,6 +149,7 @@ impl Source for MemorySource {
 
     ghost faults = { λ s. s.faults };
 
+    /// Copies at most `cut` of the bytes that are left. A read that is listed in `fail` fails and takes none.
     fn read(&mut self, into: &mut [u8]) -> Result<usize, Failed>
         ensures within { IfOk result (λ count. (count ≤ length into.new) × (count ≤ self.old.cut)) }
         ensures taken { IfOk result (λ count. self.old.left ≡ take count into.new ++ self.new.left) }
@@ -253,6 +255,7 @@ impl Sink for MemorySink {
 
     ghost faults = { λ s. s.faults };
 
+    /// Takes at most `cut` bytes. It fails where it was told to or has no memory, and a write in `stuck` takes none.
     fn write(&mut self, piece: &[u8]) -> Result<usize, Failed>
         ensures within { IfOk result (λ count. (count ≤ length piece.now) × (count ≤ self.old.cut)) }
         ensures taken { IfOk result (λ count. PutsOn (Some self.old.written) (take count piece.now) (Some self.new.written)) }

@@ -25,6 +25,7 @@ impl Model for KeptText {
 }
 
 impl KeptText {
+    /// No bytes wait. It takes its memory from `alloc`.
     pub(crate) fn new(alloc: Global) -> KeptText
         ensures { result ≡ [] }
     {
@@ -34,6 +35,7 @@ impl KeptText {
         }
     }
 
+    /// How many bytes wait to be read.
     pub(crate) fn len(&self) -> usize
         ensures { result ≡ length self.now }
     {

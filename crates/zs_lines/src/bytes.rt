@@ -1,3 +1,4 @@
+//! Slices of bytes: where a byte first is in one, and what stands behind a place.
 ghost use Rattle.std.specs.Prelude.{◌≡◌, ◌≤◌, ◌==◌, length, drop};
 ghost use Rattle.std.specs.List.{position};
 

@@ -38,6 +38,7 @@ impl Model for Held {
 }
 
 impl Held {
+    /// Nothing is held yet. Memory is asked for by the first read.
     pub(crate) fn new(alloc: Global) -> Held
         ensures { result ≡ [] }
     {
@@ -48,6 +49,7 @@ impl Held {
         }
     }
 
+    /// How many bytes were read and not taken yet.
     pub(crate) fn len(&self) -> usize
         ensures { result ≡ length self.now }
     {

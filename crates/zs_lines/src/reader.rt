@@ -1,3 +1,4 @@
+//! The reader that cuts what a source gives into lines, the lines, and why there is no next one.
 ghost use Rattle.std.specs.Prelude.{◌≡◌, ℕ, ◌≢◌, ◌+◌, ◌-◌, ◌<◌, ◌≤◌, ◌==◌, false, true, List, [], ◌++◌, length, take, drop, Some, None, is_some, IfOk, IfErr, OnOk, OnErr, IfSome, IfNone, OnSome};
 ghost use Rattle.std.specs.List.{position};
 ghost use Rattle.zs_keys.specs.Stream.{HasRisen, TakesOff, count_after};
@@ -35,6 +36,7 @@ impl From<AllocError> for LineError {
 
     ghost from_gives = { λ _ e. e ≡ LineError.NoMemory };
 
+    /// Want of memory, as why there is no next line.
     fn from(_error: AllocError) -> LineError {
         LineError::NoMemory
     }
@@ -82,12 +84,14 @@ impl LineReader {
         }
     }
 
+    /// How many bytes were read and not given yet.
     fn held_len(&self) -> usize
         ensures { result ≡ length self.now.held }
     {
         self.held.len()
     }
 
+    /// Where the next line ends, if a line feed is held. What was searched in vain isn't searched again.
     fn find_line_feed(&mut self) -> Option<usize>
         ensures place { result ≡ position (λ b. b == 10) self.old.held }
         ensures same { self.new ≡ self.old }

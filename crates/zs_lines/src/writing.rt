@@ -1,3 +1,4 @@
+//! The write of a whole piece, to a sink that may take less than all of it at once.
 ghost use Rattle.std.specs.Prelude.{◌≡◌, ◌≤◌, OnOk, OnErr};
 ghost use Rattle.zs_keys.specs.Stream.{HasRisen, PutsOn};
 ghost use Rattle.zs_lines.specs.Writing.{PutsFrontOn};

@@ -215,10 +215,12 @@ impl LineMachine for LinkMachine {
 
     ghost closed = { λ machine r h. Unit {0} };
 
+    /// Takes a line for one of the sessions, or a delivery between them. What comes of it goes onto the transcript.
     fn take(&mut self, line: &Line, transcript: &mut Transcript) -> Result<bool, AllocError> {
         self.take_row(&line.bytes, line.number, transcript)
     }
 
+    /// At the end of input both sessions close. What they make of it goes onto the transcript.
     fn end(&mut self, number: u64, transcript: &mut Transcript) -> Result<(), AllocError> {
         self.close(number, transcript)
     }

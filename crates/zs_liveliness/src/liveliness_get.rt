@@ -1,3 +1,4 @@
+//! What is kept of an open liveliness get.
 use zs_keys::KeyExpr;
 
 /// A liveliness get that is open.
@@ -12,6 +13,7 @@ pub struct LivelinessGet {
 }
 
 impl Drop for LivelinessGet {
+    /// Lets go of the memory of its key.
     fn drop(self) {
         let LivelinessGet {
             number: _,

@@ -1,3 +1,4 @@
+//! The open liveliness gets, which end by their number, at their deadline or by a cancellation token.
 ghost use Rattle.std.specs.Prelude.{◌≡◌, [], map, IfOk, OnOk, OnErr};
 ghost use Rattle.zs_liveliness.specs.LivelinessGets.{is_asking, with_liveliness_get, without_liveliness_get, over_at, waiting_at, numbers_with, without_cancellation_token};
 
@@ -80,7 +81,7 @@ impl LivelinessGets {
         }
     }
 
-    /// The numbers of those that have a cancellation token, ascending.
+    /// The numbers of those that have this cancellation token, ascending.
     ///
     /// # Errors
     ///
@@ -95,7 +96,7 @@ impl LivelinessGets {
         self.gets.numbers_with(alloc, cancellation_token)
     }
 
-    /// Ends those that have a cancellation token.
+    /// Ends those that have this cancellation token.
     pub fn end_cancelled_by(&mut self, cancellation_token: u32)
         ensures { self.new ≡ without_cancellation_token cancellation_token self.old }
     {

@@ -1,3 +1,4 @@
+//! What is kept of a subscriber to liveliness.
 use zs_keyed::Keyed;
 use zs_keys::KeyExpr;
 
@@ -11,6 +12,7 @@ pub struct LivelinessSub {
 }
 
 impl Drop for LivelinessSub {
+    /// Lets go of the memory of its key.
     fn drop(self) {
         let LivelinessSub {
             id: _,
@@ -26,10 +28,12 @@ impl Keyed for LivelinessSub {
 
     ghost text = { λ row. row.key.text };
 
+    /// Its entity number, by which the rows ascend.
     fn number(&self) -> u32 {
         self.id
     }
 
+    /// The key that it was declared on, by which the tree finds it.
     fn key(&self) -> &KeyExpr<'static> {
         &self.key
     }

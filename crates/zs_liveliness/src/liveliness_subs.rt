@@ -1,3 +1,4 @@
+//! The live subscribers to liveliness, and which of them hear of a token.
 ghost use Rattle.std.specs.Prelude.{◌≡◌, ℕ, ◌==◌, [], length, map, not, filter, OnOk, OnErr};
 ghost use Rattle.std.specs.List.{list_any};
 ghost use Rattle.std.specs.Map.Iter.{ShowsInOrder, deref_pair};

@@ -1,3 +1,4 @@
+//! What is kept of a liveliness token of the other side.
 use zs_keyed::Keyed;
 use zs_keys::KeyExpr;
 
@@ -9,6 +10,7 @@ pub struct RemoteToken {
 }
 
 impl Drop for RemoteToken {
+    /// Lets go of the memory of its key.
     fn drop(self) {
         let RemoteToken { number: _, key } = self;
         drop(key);
@@ -20,10 +22,12 @@ impl Keyed for RemoteToken {
 
     ghost text = { λ row. row.key.text };
 
+    /// The other side's number for it, by which the rows ascend.
     fn number(&self) -> u32 {
         self.number
     }
 
+    /// The key that the other side declared it on, by which the tree finds it.
     fn key(&self) -> &KeyExpr<'static> {
         &self.key
     }

@@ -1,3 +1,4 @@
+//! The liveliness tokens of the other side, and the keys of those that a key meets.
 ghost use Rattle.std.specs.Prelude.{◌≡◌, ◌==◌, ◌++◌, [], not, filter, IfOk, OnOk, OnErr};
 ghost use Rattle.std.specs.List.{find, list_any};
 ghost use Rattle.std.specs.Option.{option_copied};

@@ -60,6 +60,7 @@ fn mode_of(question: Question<'_>) -> ConsolidationMode
     mode_by(question.settings.consolidation, given.contains_key("_time"))
 }
 
+/// As Zenoh's `get` resolves `Auto`: all replies where the parameters name a time range (`_time`), else the latest.
 fn mode_by(mode: ConsolidationMode, timed: bool) -> ConsolidationMode
     ensures { result ≡ mode_by mode timed }
 {

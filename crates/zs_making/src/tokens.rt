@@ -74,6 +74,7 @@ pub fn token_sample(alloc: Global, kind: SampleKind, key: KeyExpr<'_>) -> Result
     sample_of(alloc, key, token_content(kind))
 }
 
+/// An empty body with the default encoding, and the protocol's default quality of service: priority 5 is `Data`.
 fn token_content(kind: SampleKind) -> Content
     ensures { result ≡ token_content kind }
 {

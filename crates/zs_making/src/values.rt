@@ -46,6 +46,7 @@ pub fn network_request(
     })
 }
 
+/// A copy of the value that a request carries, if it carries one.
 fn clone_value(alloc: Global, value: &Option<Value>) -> Result<Option<Value>, AllocError>
     ensures { IfOk result (λ copy. copy ≡ value.now) }
 {

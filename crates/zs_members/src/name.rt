@@ -14,12 +14,14 @@ pub fn is_name(text: &str) -> bool
     !text.is_empty() && text.len() <= NAME_MAX && are_name_bytes(text.as_bytes())
 }
 
+/// Whether each byte may stand in a name. How many there are is not looked at.
 fn are_name_bytes(bytes: &[u8]) -> bool
     ensures { result ≡ list_all is_name_byte bytes.now }
 {
     bytes.iter().all(|byte| is_name_byte(*byte))
 }
 
+/// Whether a byte is one of the letters `a` to `z` or a digit, in ASCII.
 fn is_name_byte(byte: u8) -> bool
     ensures { result ≡ is_name_byte byte }
 {
@@ -36,6 +38,7 @@ pub fn name_in(key: &str) -> Option<&str>
     if is_name(name) { Some(name) } else { None }
 }
 
+/// What a text has behind a front; nothing where it does not begin with it.
 fn behind<'a>(text: &'a str, front: &str) -> Option<&'a str>
     ensures { option_map (λ rest. rest.now) result ≡ behind front.now text.now }
 {

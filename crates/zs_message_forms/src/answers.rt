@@ -19,6 +19,7 @@ pub struct AnswerForm {
     pub number: u32,
 }
 
+/// The number of a refusal, from 1, as `AnswerForm` lists them: 0 stands for none.
 fn refusal_number(refusal: Refusal) -> u8
     ensures { result ≡ refusal_number refusal }
 {

@@ -47,12 +47,14 @@ pub fn message_parts(message: &Message) -> Parts<'_>
     }
 }
 
+/// What a key has: its text, or what stands behind its declared number. All else is empty.
 fn wire_parts(wire: &WireExpr) -> Parts<'_>
     ensures { result ≡ wire_parts wire.now }
 {
     Parts::of_key(wire.suffix.as_str())
 }
 
+/// The same of a key that may be left out.
 fn named_parts(wire: &Option<WireExpr>) -> Parts<'_>
     ensures { result ≡ named_parts wire.now }
 {
@@ -62,6 +64,7 @@ fn named_parts(wire: &Option<WireExpr>) -> Parts<'_>
     }
 }
 
+/// The texts and bytes of what is put or deleted on a key.
 fn body_parts<'a>(wire: &'a WireExpr, body: &'a Body) -> Parts<'a>
     ensures { result ≡ body_parts wire.now body.now }
 {
@@ -74,6 +77,7 @@ fn body_parts<'a>(wire: &'a WireExpr, body: &'a Body) -> Parts<'a>
     }
 }
 
+/// The texts and bytes of a query that is sent. Without a value it has no payload, and the empty encoding.
 fn request_parts(request: &Request) -> Parts<'_>
     ensures { result ≡ value_parts request.now request.now.value }
 {
@@ -98,6 +102,7 @@ fn request_parts(request: &Request) -> Parts<'_>
     }
 }
 
+/// The texts and bytes of a response: of its data, or of an error, which has no attachment.
 fn answered_parts<'a>(wire: &'a WireExpr, answered: &'a Answered) -> Parts<'a>
     ensures { result ≡ answered_parts wire.now answered.now }
 {
@@ -124,6 +129,7 @@ fn hand_parts(item: &HandOver) -> Parts<'_>
     }
 }
 
+/// The texts and bytes of a sample, whose key is whole.
 fn sample_parts(sample: &Sample) -> Parts<'_>
     ensures { result ≡ sample_parts sample.now }
 {
@@ -136,6 +142,7 @@ fn sample_parts(sample: &Sample) -> Parts<'_>
     }
 }
 
+/// The texts and bytes of a reply: of its sample, or of an error, which has neither key nor attachment.
 fn reply_parts(reply: &Reply) -> Parts<'_>
     ensures { result ≡ reply_parts reply.now.result }
 {
@@ -151,6 +158,7 @@ fn reply_parts(reply: &Reply) -> Parts<'_>
     }
 }
 
+/// The texts and bytes of a query that a queryable is handed.
 fn query_parts(query: &QueryData) -> Parts<'_>
     ensures { result ≡ query_parts query.now }
 {
@@ -163,6 +171,7 @@ fn query_parts(query: &QueryData) -> Parts<'_>
     }
 }
 
+/// The name of an encoding: the empty text where there is none.
 fn encoding_text(encoding: Option<&Encoding>) -> &str
     ensures { result.now ≡ text_bytes (option_copied encoding.entry) }
 {

@@ -8,6 +8,7 @@ use crate::wires::{interest, named, wire};
 use std::alloc::{AllocError, Global};
 use zs_wire::{InterestMode, InterestWhat, Message};
 
+/// The declaration of a key under a number, if its text is UTF-8.
 pub(crate) fn key(
     alloc: Global,
     form: &MessageForm,
@@ -24,6 +25,7 @@ pub(crate) fn key(
     }))
 }
 
+/// The declaration of a subscriber, if the text of its key is UTF-8.
 pub(crate) fn subscriber(
     alloc: Global,
     form: &MessageForm,
@@ -37,6 +39,7 @@ pub(crate) fn subscriber(
     Ok(Some(Message::DeclareSubscriber { id: form.id, wire }))
 }
 
+/// The declaration of a queryable, if the text of its key is UTF-8.
 pub(crate) fn queryable(
     alloc: Global,
     form: &MessageForm,
@@ -54,6 +57,7 @@ pub(crate) fn queryable(
     }))
 }
 
+/// The declaration of a liveliness token, with the interest that it answers. There is none where its key is no UTF-8.
 pub(crate) fn token(
     alloc: Global,
     form: &MessageForm,
@@ -71,6 +75,7 @@ pub(crate) fn token(
     }))
 }
 
+/// The end of a liveliness token, which needn't name a key. There is none where it names one that is no UTF-8.
 pub(crate) fn ended_token(
     alloc: Global,
     form: &MessageForm,
@@ -88,6 +93,7 @@ pub(crate) fn ended_token(
     }))
 }
 
+/// Which declarations an interest asks for, by the number of its form; a number above 3 says nothing.
 fn mode(number: u8) -> Option<InterestMode>
     ensures { result ≡ mode_of number }
 {
@@ -100,6 +106,7 @@ fn mode(number: u8) -> Option<InterestMode>
     }
 }
 
+/// What an interest asks for, by the number of its form; a number above 3 says nothing.
 fn what(number: u8) -> Option<InterestWhat>
     ensures { result ≡ what_of number }
 {
@@ -112,6 +119,7 @@ fn what(number: u8) -> Option<InterestWhat>
     }
 }
 
+/// An interest, which needn't name a key. There is none where a number says nothing, or the key is no UTF-8.
 pub(crate) fn asked(
     alloc: Global,
     form: &MessageForm,

@@ -11,6 +11,7 @@ use zs_forms::{entity_form, kind_number, source_form, timestamp_form};
 use zs_query::QueryData;
 use zs_sample::{Reliability, Reply, Sample};
 
+/// Whether it may not be lost on the way.
 fn is_reliable(reliability: Reliability) -> bool
     ensures { result ≡ is_reliable reliability }
 {
@@ -20,6 +21,7 @@ fn is_reliable(reliability: Reliability) -> bool
     }
 }
 
+/// The numbers of a sample.
 fn sample_form(sample: &Sample) -> MessageForm
     ensures { result ≡ sample_form sample.now }
 {
@@ -36,6 +38,7 @@ fn sample_form(sample: &Sample) -> MessageForm
     }
 }
 
+/// The numbers of a reply: those of its sample, or that it is an error, and who replied.
 fn reply_form(reply: &Reply) -> MessageForm
     ensures { result ≡ reply_form reply.now }
 {
@@ -52,6 +55,7 @@ fn reply_form(reply: &Reply) -> MessageForm
     }
 }
 
+/// The numbers of a query that a queryable is handed.
 fn query_form(query: &QueryData) -> MessageForm
     ensures { result ≡ query_form query.now }
 {
@@ -81,6 +85,7 @@ fn told(kind: u8, entity: u8, id: u32, message: MessageForm, effect: &Effect) ->
     }
 }
 
+/// The numbers of what is handed over. A query has beside them the number under which it is answered.
 fn hand_form(item: &HandOver, effect: &Effect) -> EffectForm
     ensures { result ≡ hand_form item.now effect.now }
 {

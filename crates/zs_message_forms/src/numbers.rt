@@ -55,6 +55,7 @@ impl MessageForm {
         }
     }
 
+    /// The same with this key: the declared number that it begins with, and who declared that.
     fn keyed(self, wire: &WireExpr) -> MessageForm
         ensures { result ≡ keyed self wire.now }
     {
@@ -65,6 +66,7 @@ impl MessageForm {
         }
     }
 
+    /// The same with a key that may be left out, and whether it is there.
     fn named(self, wire: &Option<WireExpr>) -> MessageForm
         ensures { result ≡ named self wire.now }
     {
@@ -77,6 +79,7 @@ impl MessageForm {
         }
     }
 
+    /// The same with the interest that it answers, if it answers one.
     fn of_interest(self, interest: Option<u32>) -> MessageForm
         ensures { result ≡ of_interest self interest }
     {
@@ -90,6 +93,7 @@ impl MessageForm {
         }
     }
 
+    /// The same with this quality of service.
     fn of_quality(self, qos: QoSType) -> MessageForm
         ensures { result ≡ of_quality self qos }
     {
@@ -101,6 +105,7 @@ impl MessageForm {
         }
     }
 
+    /// The same with what is put or deleted, but for payload and encoding.
     fn of_body(self, body: &Body) -> MessageForm
         ensures { result ≡ of_body self body.now }
     {
@@ -114,6 +119,7 @@ impl MessageForm {
     }
 }
 
+/// Whether the receiver declared the number that a key begins with.
 fn is_receiver(mapping: Mapping) -> bool
     ensures { result ≡ is_receiver mapping }
 {
@@ -123,6 +129,7 @@ fn is_receiver(mapping: Mapping) -> bool
     }
 }
 
+/// Whether the sender waits where a queue is full.
 pub(crate) fn is_block(congestion: CongestionControl) -> bool
     ensures { result ≡ is_block congestion }
 {
@@ -132,6 +139,7 @@ pub(crate) fn is_block(congestion: CongestionControl) -> bool
     }
 }
 
+/// Whether it deletes: else it puts.
 pub(crate) fn is_delete(kind: SampleKind) -> bool
     ensures { result ≡ is_delete kind }
 {
@@ -141,6 +149,7 @@ pub(crate) fn is_delete(kind: SampleKind) -> bool
     }
 }
 
+/// The number of which declarations an interest asks for.
 fn mode_number(mode: InterestMode) -> u8
     ensures { result ≡ mode_number mode }
 {
@@ -152,6 +161,7 @@ fn mode_number(mode: InterestMode) -> u8
     }
 }
 
+/// The number of what an interest asks for.
 fn what_number(what: InterestWhat) -> u8
     ensures { result ≡ what_number what }
 {
@@ -163,6 +173,7 @@ fn what_number(what: InterestWhat) -> u8
     }
 }
 
+/// The number of which queryables a query is for.
 fn target_number(target: QueryTarget) -> u8
     ensures { result ≡ target_number target }
 {
@@ -173,6 +184,7 @@ fn target_number(target: QueryTarget) -> u8
     }
 }
 
+/// The number of which replies an asker takes.
 fn consolidation_number(mode: ConsolidationMode) -> u8
     ensures { result ≡ consolidation_number mode }
 {
@@ -184,6 +196,7 @@ fn consolidation_number(mode: ConsolidationMode) -> u8
     }
 }
 
+/// The numbers of a publication.
 fn push_form(push: &Push) -> MessageForm
     ensures { result ≡ push_form push.now }
 {
@@ -194,6 +207,7 @@ fn push_form(push: &Push) -> MessageForm
     }
 }
 
+/// The numbers of a query.
 fn request_form(request: &Request) -> MessageForm
     ensures { result ≡ request_form request.now }
 {
@@ -209,6 +223,7 @@ fn request_form(request: &Request) -> MessageForm
     }
 }
 
+/// The same with what a response brings: its data, or that it is an error.
 fn answered_form(form: MessageForm, answered: &Answered) -> MessageForm
     ensures { result ≡ answered_form form answered.now }
 {
@@ -221,6 +236,7 @@ fn answered_form(form: MessageForm, answered: &Answered) -> MessageForm
     }
 }
 
+/// The numbers of a response, and who replied.
 fn response_form(response: &Response) -> MessageForm
     ensures { result ≡ response_form response.now }
 {

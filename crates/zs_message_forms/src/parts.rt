@@ -91,6 +91,7 @@ impl<'a> Parts<'a> {
     }
 }
 
+/// How many bytes they are: 0 where there are none.
 fn byte_count(bytes: Option<&ZBytes>) -> usize
     ensures { result ≡ length (bytes_in (option_copied bytes.entry)) }
 {
@@ -100,6 +101,7 @@ fn byte_count(bytes: Option<&ZBytes>) -> usize
     }
 }
 
+/// Copies as much of a text as fits to the front of `out`, and returns how many bytes.
 fn copy_text(text: &str, out: &mut [u8]) -> usize
     ensures count { result ≡ min (length out.old) (length text.now) }
     ensures written { out.new ≡ take result text.now ++ drop result out.old }
@@ -110,6 +112,7 @@ fn copy_text(text: &str, out: &mut [u8]) -> usize
     count
 }
 
+/// The same of bytes, if there are any.
 fn copy_bytes(bytes: Option<&ZBytes>, out: &mut [u8]) -> usize
     ensures count { result ≡ min (length out.old) (length (bytes_in (option_copied bytes.entry))) }
     ensures written { out.new ≡ take result (bytes_in (option_copied bytes.entry)) ++ drop result out.old }

@@ -9,6 +9,7 @@ use std::alloc::{AllocError, Global};
 use zs_forms::{attachment_in, consolidation, target, text_in, told, value};
 use zs_wire::{Answered, Message, Push, Request, Response};
 
+/// A publication. There is none where the key or the encoding is no UTF-8.
 pub(crate) fn push(
     alloc: Global,
     form: &MessageForm,
@@ -30,6 +31,7 @@ pub(crate) fn push(
     })))
 }
 
+/// A query. There is none where a number says nothing, or a text of it is no UTF-8.
 pub(crate) fn request(
     alloc: Global,
     form: &MessageForm,
@@ -87,6 +89,7 @@ fn answered(
     Ok(Some(Answered::Reply(body)))
 }
 
+/// A response to the query of that number. There is none where the key or the encoding is no UTF-8.
 pub(crate) fn response(
     alloc: Global,
     form: &MessageForm,

@@ -27,6 +27,7 @@ pub(crate) fn wire(
     }))
 }
 
+/// Who declared the number that a key begins with.
 fn mapping(by_receiver: bool) -> Mapping
     ensures { result ≡ mapping_of by_receiver }
 {
@@ -65,6 +66,7 @@ pub(crate) fn interest(form: &MessageForm) -> Option<u32>
     }
 }
 
+/// Whether it is a deletion or a put.
 fn sample_kind(deletes: bool) -> SampleKind
     ensures { result ≡ kind_of deletes }
 {

@@ -110,6 +110,7 @@ impl PartialEq for KeyList {
 
     ghost laws = { partial_equiv_from_equiv (lists_equiv (on_equiv (λ (k : Key). k.text) nat_list_eq_equiv)) };
 
+    /// The same texts in the same order. How a session declared the keys makes no difference.
     fn eq(&self, other: &Self) -> bool {
         self.as_slice() == other.as_slice()
     }
@@ -120,6 +121,7 @@ impl Eq for KeyList {
 }
 
 impl fmt::Debug for KeyList {
+    /// Prints the list as a slice of its keys: `[]` where there are none.
     fn fmt<W: fmt::Write>(&self, f: &mut fmt::Formatter<W>) -> fmt::Result {
         fmt::Debug::fmt(&self.as_slice(), f)
     }

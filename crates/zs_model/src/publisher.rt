@@ -22,6 +22,7 @@ pub struct PubRow {
 }
 
 impl Drop for PubRow {
+    /// Lets go of the memory of its key and of its share of the settings.
     fn drop(self) {
         let PubRow {
             id: _,

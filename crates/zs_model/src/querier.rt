@@ -15,6 +15,7 @@ pub struct QuerierRow {
 }
 
 impl Drop for QuerierRow {
+    /// Lets go of the memory of its key; its settings hold none.
     fn drop(self) {
         let QuerierRow {
             id: _,

@@ -75,6 +75,8 @@ impl Default for Settings {
 
     ghost is_default = { λ s. s ≡ default_settings };
 
+    /// Numbers begin at 1, and those of gets at 0; nothing is aggregated. A get ends after 10 seconds, which is the
+    /// default of Zenoh too.
     fn default() -> Settings {
         Settings {
             zid: 1,

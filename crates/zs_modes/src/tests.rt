@@ -181,6 +181,7 @@ fn runs_as<R: Wait + Threads + Sync>(
     )
 }
 
+/// Each mode ends with its status and writes what it must, also where words are bad or a write fails.
 #[test]
 fn each_mode_prints_what_its_words_ask(rt: HostRuntime) -> Result<(), Fail> {
     for wanted in &RUNS {

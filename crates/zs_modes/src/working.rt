@@ -87,6 +87,7 @@ fn write_report<K: Sink>(report: String, sink: &mut K) -> Result<(), DriveError>
     Ok(())
 }
 
+/// The report of a run: a line for each of its three counts.
 fn worked_text(alloc: Global, worked: Worked) -> Result<String, AllocError>
     ensures { IfOk result (λ text. string_bytes text ≡ worked_text worked) }
 {

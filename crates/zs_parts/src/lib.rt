@@ -10,5 +10,6 @@ mod channels;
 mod numbers;
 mod options;
 mod parts;
+mod publication_parts;
 mod query_parts;
 mod symbols;

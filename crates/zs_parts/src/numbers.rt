@@ -18,6 +18,8 @@ pub fn parse_number(max: u64, field: &[u8]) -> Option<u64>
     }
 }
 
+/// The number that digits write, zeros in front or not. There is none where a byte is no digit, or the number is above
+/// `max`.
 fn parse_digits(max: u64, digits: &[u8]) -> Option<u64>
     ensures number { result ≡ number_from max 0 digits.now }
     ensures small { IfSome result (λ n. n ≤ max) }
@@ -48,6 +50,7 @@ pub fn parse_hex(field: &[u8]) -> Option<u128>
     }
 }
 
+/// The number that hexadecimal digits write, of which none is lost. There is none where a byte is no digit.
 fn parse_hex_digits(digits: &[u8]) -> Option<u128>
     requires { length digits.now ≤ 32 }
     ensures { result ≡ hex_from 0 digits.now }

@@ -1,27 +1,21 @@
 //! The parts that the forms of lines are made of, each read off the front of a line's fields.
 
-ghost use Rattle.std.specs.Prelude.{◌≡◌, [], Some, IfOk, option_map, codes};
-ghost use Rattle.zs_parts.specs.Options.{encoding_text_of, priority_of, congestion_of, flag_of};
-ghost use Rattle.zs_parts.specs.Symbols.{u16_max, u32_max, u64_max, payload_of};
-ghost use Rattle.zs_parts.specs.Parts.{first_of, behind, named_in, option_in, maybe_in, named_encoding_in, body_in, unnamed, number, locality, background_kind, parent, complete, history, key, selector, wire, payload, push_body, own_body, encoding, timestamp, qos, reliable, quality, source, attachment, channel_kind, read, form};
+ghost use Rattle.std.specs.Prelude.{◌≡◌, [], IfOk, option_map};
+ghost use Rattle.zs_parts.specs.Symbols.{u16_max, u32_max, u64_max};
+ghost use Rattle.zs_parts.specs.Parts.{first_of, behind, named_in, body_in, unnamed, number, locality, background_kind, parent, complete, history, key, selector, wire, payload, push_body, own_body, channel_kind, read, form};
 
 use crate::channels::parse_channel_kind;
 use crate::numbers::parse_number;
-use crate::options::{
-    other_encoding, parse_congestion, parse_encoding, parse_flag, parse_priority, parse_source,
-    parse_timestamp,
-};
+use crate::options::other_encoding;
 use crate::symbols::{
     after_prefix, parse_background_kind, parse_complete, parse_history, parse_id, parse_key,
     parse_key_number, parse_locality, parse_parent, parse_payload, parse_selector, parse_wire,
 };
 use std::alloc::{AllocError, Global};
 use std::marker::Model;
-use zs_events::{
-    BackgroundKind, KeyArg, Kind, ParentKind, PublicationQuality, PushBody, default_encoding,
-};
+use zs_events::{BackgroundKind, KeyArg, Kind, ParentKind, PushBody};
 use zs_sample::{Locality, SampleKind, Text, ZBytes};
-use zs_wire::{CongestionControl, QoSType, SourceInfo, Timestamp, WireExpr};
+use zs_wire::WireExpr;
 
 /// The fields of a line that are left: each call takes what it reads off their front. Contracts see their texts.
 #[derive(Drop)]
@@ -60,6 +54,7 @@ impl<'a> Fields<'a> {
         Some(*first)
     }
 
+    /// The first field, which stays.
     pub(crate) fn first(&self) -> Option<&'a str>
         ensures { option_map (λ field. field.now) result ≡ first_of self.now }
     {
@@ -280,143 +275,5 @@ fn unnamed(body: PushBody) -> PushBody
             encoding: other_encoding(encoding),
         },
         PushBody::Delete => PushBody::Delete,
-    }
-}
-
-/// Options: one that is absent, or whose value is out of form, is not taken.
-impl<'a> Fields<'a> {
-    /// The option `enc`: an encoding. Its absence and the empty text are the default one.
-    #[tactic(auto, unfolding(crate::specs::Parts::read))]
-    pub fn encoding(&mut self, alloc: Global) -> Result<Text, AllocError>
-        ensures { IfOk result (λ value. read encoding self.old ≡ Some (value, self.new)) }
-    {
-        let Some(text) = self.named("enc=") else {
-            return Ok(default_encoding());
-        };
-        let found = parse_encoding(alloc, text)?;
-        self.skip();
-        Ok(found)
-    }
-
-    /// An encoding, if one is named.
-    pub(crate) fn encoding_if(&mut self, alloc: Global) -> Result<Option<Text>, AllocError>
-        ensures { IfOk result (λ value. named_encoding_in self.old ≡ (value, self.new)) }
-    {
-        let Some(text) = self.named("enc=") else {
-            return Ok(None);
-        };
-        let found = parse_encoding(alloc, text)?;
-        self.skip();
-        Ok(Some(found))
-    }
-
-    /// The option `ts`: a time, and who took it.
-    #[tactic(auto, unfolding(crate::specs::Parts::read))]
-    pub fn timestamp(&mut self) -> Option<Timestamp>
-        ensures { read timestamp self.old ≡ Some (result, self.new) }
-    {
-        let found = parse_timestamp(self.named("ts=")?)?;
-        self.skip();
-        Some(found)
-    }
-
-    /// Quality of service: three options. The priority is `least` at least.
-    #[tactic(auto, unfolding(crate::specs::Parts::read))]
-    pub fn qos(&mut self, least: u8, absent: CongestionControl) -> QoSType
-        ensures { read (qos least absent) self.old ≡ Some (result, self.new) }
-    {
-        QoSType {
-            priority: self.priority(least),
-            congestion: self.congestion(absent),
-            express: self.flag("express=", false),
-        }
-    }
-
-    fn priority(&mut self, least: u8) -> u8
-        ensures { option_in (codes "prio=") (priority_of least) 5 self.old ≡ (result, self.new) }
-    {
-        let Some(text) = self.named("prio=") else {
-            return 5;
-        };
-        let Some(found) = parse_priority(least, text) else {
-            return 5;
-        };
-        self.skip();
-        found
-    }
-
-    fn congestion(&mut self, absent: CongestionControl) -> CongestionControl
-        ensures { option_in (codes "cc=") congestion_of absent self.old ≡ (result, self.new) }
-    {
-        let Some(text) = self.named("cc=") else {
-            return absent;
-        };
-        let Some(found) = parse_congestion(text) else {
-            return absent;
-        };
-        self.skip();
-        found
-    }
-
-    fn flag(&mut self, name: &str, absent: bool) -> bool
-        ensures { option_in name.now flag_of absent self.old ≡ (result, self.new) }
-    {
-        let Some(text) = self.named(name) else {
-            return absent;
-        };
-        let Some(found) = parse_flag(text) else {
-            return absent;
-        };
-        self.skip();
-        found
-    }
-
-    /// The option `rel`. Without it a message may not be lost.
-    #[tactic(auto, unfolding(crate::specs::Parts::read))]
-    pub fn reliable(&mut self) -> bool
-        ensures { read reliable self.old ≡ Some (result, self.new) }
-    {
-        self.flag("rel=", true)
-    }
-
-    /// Quality of service of a publication: four options.
-    #[tactic(auto, unfolding(crate::specs::Parts::read))]
-    pub fn quality(&mut self) -> PublicationQuality
-        ensures { read quality self.old ≡ Some (result, self.new) }
-    {
-        let qos = self.qos(1, CongestionControl::Drop);
-        let reliable = self.reliable();
-        PublicationQuality { qos, reliable }
-    }
-
-    /// The option `src`: where data comes from.
-    #[tactic(auto, unfolding(crate::specs::Parts::read))]
-    pub fn source(&mut self) -> Option<SourceInfo>
-        ensures { read source self.old ≡ Some (result, self.new) }
-    {
-        let found = parse_source(self.named("src=")?)?;
-        self.skip();
-        Some(found)
-    }
-
-    /// The option `att`: bytes that are sent along.
-    #[tactic(auto, unfolding(crate::specs::Parts::read))]
-    pub fn attachment(&mut self, alloc: Global) -> Result<Option<ZBytes>, AllocError>
-        ensures { IfOk result (λ value. read attachment self.old ≡ Some (value, self.new)) }
-    {
-        self.bytes(alloc, "att=")
-    }
-
-    pub(crate) fn bytes(&mut self, alloc: Global, name: &str) -> Result<Option<ZBytes>, AllocError>
-        ensures { IfOk result (λ value. maybe_in name.now payload_of self.old ≡ (value, self.new)) }
-    {
-        let Some(text) = self.named(name) else {
-            return Ok(None);
-        };
-        let Some(found) = parse_payload(alloc, text)? else {
-            return Ok(None);
-        };
-        self.skip();
-        Ok(Some(found))
     }
 }

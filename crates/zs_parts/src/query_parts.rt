@@ -97,6 +97,7 @@ impl<'a> Fields<'a> {
         }
     }
 
+    /// The option `prio` of a reply, from 1 to 7.
     fn own_priority(&mut self) -> Option<u8>
         ensures { maybe_in (codes "prio=") (priority_of 1) self.old ≡ (result, self.new) }
     {
@@ -105,6 +106,7 @@ impl<'a> Fields<'a> {
         Some(found)
     }
 
+    /// The option `cc` of a reply: what happens to it where a queue is full.
     fn own_congestion(&mut self) -> Option<CongestionControl>
         ensures { maybe_in (codes "cc=") congestion_of self.old ≡ (result, self.new) }
     {
@@ -113,6 +115,7 @@ impl<'a> Fields<'a> {
         Some(found)
     }
 
+    /// The option `express` of a reply: whether it goes out at once, and isn't batched with others.
     fn own_express(&mut self) -> Option<bool>
         ensures { maybe_in (codes "express=") flag_of self.old ≡ (result, self.new) }
     {

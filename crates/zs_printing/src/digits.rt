@@ -15,6 +15,7 @@ pub fn append_hex(out: &mut String, number: u128) -> Result<(), AllocError>
     append_hex_digits(out, 32, number)
 }
 
+/// The last `places` digits of a number, without zeros before its first one. No `u128` has more than 32.
 #[tactic(auto, using(crate::proofs::HexDigits::digit_steps))]
 fn append_hex_digits(out: &mut String, places: u32, number: u128) -> Result<(), AllocError>
     ensures { OnOk result (string_bytes out.new ≡ string_bytes out.old ++ hex_digits places number) }
@@ -42,6 +43,7 @@ pub fn append_bytes(out: &mut String, bytes: &ZBytes) -> Result<(), AllocError>
     Ok(())
 }
 
+/// Two digits for each byte of a slice, with nothing between them.
 fn append_slice(out: &mut String, bytes: &[u8]) -> Result<(), AllocError>
     ensures { OnOk result (string_bytes out.new ≡ string_bytes out.old ++ flat_map byte_digits bytes.now) }
 {
@@ -51,6 +53,7 @@ fn append_slice(out: &mut String, bytes: &[u8]) -> Result<(), AllocError>
     Ok(())
 }
 
+/// The two digits of a byte, the higher one first.
 fn append_byte(out: &mut String, byte: u8) -> Result<(), AllocError>
     ensures { OnOk result (string_bytes out.new ≡ string_bytes out.old ++ byte_digits byte) }
 {

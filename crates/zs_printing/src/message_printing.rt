@@ -60,6 +60,7 @@ pub(crate) fn append_message(out: &mut String, message: &Message) -> Result<(), 
     }
 }
 
+/// The word of a message, and its number.
 #[tactic(auto, using(crate::proofs::Joining::joining))]
 fn append_numbered(out: &mut String, name: &str, id: u32) -> Result<(), AllocError>
     ensures { OnOk result (string_bytes out.new ≡ string_bytes out.old ++ pieces_text (word name.now ∷ number id ∷ [])) }
@@ -68,6 +69,7 @@ fn append_numbered(out: &mut String, name: &str, id: u32) -> Result<(), AllocErr
     append_number(out, id)
 }
 
+/// The word of a message, its number, and the wire expression that it is about.
 #[tactic(auto, using(crate::proofs::Joining::joining))]
 fn append_keyed(out: &mut String, name: &str, id: u32, key: &WireExpr) -> Result<(), AllocError>
     ensures { OnOk result (string_bytes out.new ≡ string_bytes out.old ++ pieces_text (word name.now ∷ number id ∷ wire key.now ∷ [])) }
@@ -77,6 +79,7 @@ fn append_keyed(out: &mut String, name: &str, id: u32, key: &WireExpr) -> Result
     append_wire(out, key)
 }
 
+/// The declaration of a queryable, with `complete` or `partial` before its key.
 #[tactic(auto, using(crate::proofs::Joining::joining))]
 fn append_queryable(
     out: &mut String,
@@ -93,6 +96,7 @@ fn append_queryable(
     append_wire(out, key)
 }
 
+/// The declaration of a token, with the interest that it answers, if it answers one.
 #[tactic(auto, using(crate::proofs::Joining::joining))]
 fn append_token(
     out: &mut String,
@@ -118,6 +122,7 @@ fn naming(key: &Option<WireExpr>) -> Option<&WireExpr>
     Some(key)
 }
 
+/// The end of a token, with its key where the message names one, and the interest, if there is one.
 #[tactic(auto, using(crate::proofs::Joining::joining))]
 fn append_untoken(
     out: &mut String,
@@ -133,6 +138,7 @@ fn append_untoken(
     append_interest(out, asked)
 }
 
+/// The word of a message, and the interest that it answers, if it answers one.
 #[tactic(auto, using(crate::proofs::Joining::joining))]
 fn append_asked(out: &mut String, name: &str, id: Option<u32>) -> Result<(), AllocError>
     ensures { OnOk result (string_bytes out.new ≡ string_bytes out.old ++ pieces_text (word name.now ∷ interest id ∷ [])) }
@@ -141,6 +147,7 @@ fn append_asked(out: &mut String, name: &str, id: Option<u32>) -> Result<(), All
     append_interest(out, id)
 }
 
+/// An interest: its number, mode and subject, and its key, if it has one.
 #[tactic(auto, using(crate::proofs::Joining::joining))]
 fn append_interest_message(
     out: &mut String,
@@ -196,6 +203,7 @@ fn append_origin(out: &mut String, body: &Body) -> Result<(), AllocError>
     append_attachment(out, body.attachment.as_ref())
 }
 
+/// A push: its key, what it does there, and its options.
 #[tactic(auto, using(crate::proofs::Joining::joining))]
 fn append_push(out: &mut String, push: &Push) -> Result<(), AllocError>
     ensures { OnOk result (string_bytes out.new ≡ string_bytes out.old ++ pieces_text (push_pieces push.now)) }
@@ -206,6 +214,7 @@ fn append_push(out: &mut String, push: &Push) -> Result<(), AllocError>
     append_push_options(out, push)
 }
 
+/// The timestamp, qualities, source and attachment of a push, in the order of the script's options.
 #[tactic(auto, using(crate::proofs::Joining::joining))]
 fn append_push_options(out: &mut String, push: &Push) -> Result<(), AllocError>
     ensures { OnOk result (string_bytes out.new ≡ string_bytes out.old ++ pieces_text (push_options push.now)) }
@@ -216,6 +225,7 @@ fn append_push_options(out: &mut String, push: &Push) -> Result<(), AllocError>
     append_origin(out, &push.body)
 }
 
+/// A request: its number and key, what it asks, and what it carries.
 #[tactic(auto, using(crate::proofs::Joining::joining))]
 fn append_request(out: &mut String, request: &Request) -> Result<(), AllocError>
     ensures { OnOk result (string_bytes out.new ≡ string_bytes out.old ++ pieces_text (request_pieces request.now)) }
@@ -225,6 +235,7 @@ fn append_request(out: &mut String, request: &Request) -> Result<(), AllocError>
     append_query_options(out, request)
 }
 
+/// The parameters of a request, and how it is to be answered: by whom, how consolidated, and within what time.
 #[tactic(auto, using(crate::proofs::Joining::joining))]
 fn append_query(out: &mut String, request: &Request) -> Result<(), AllocError>
     ensures { OnOk result (string_bytes out.new ≡ string_bytes out.old ++ pieces_text (query_pieces request.now)) }
@@ -235,6 +246,7 @@ fn append_query(out: &mut String, request: &Request) -> Result<(), AllocError>
     append_timeout(out, request.timeout)
 }
 
+/// What a request carries: its value, qualities, source and attachment.
 #[tactic(auto, using(crate::proofs::Joining::joining))]
 fn append_query_options(out: &mut String, request: &Request) -> Result<(), AllocError>
     ensures { OnOk result (string_bytes out.new ≡ string_bytes out.old ++ pieces_text (query_options request.now)) }
@@ -245,6 +257,7 @@ fn append_query_options(out: &mut String, request: &Request) -> Result<(), Alloc
     append_attachment(out, request.attachment.as_ref())
 }
 
+/// A response: the request that it answers, its key, what it brings, and who answers, where that is known.
 #[tactic(auto, using(crate::proofs::Joining::joining))]
 fn append_response(out: &mut String, response: &Response) -> Result<(), AllocError>
     ensures { OnOk result (string_bytes out.new ≡ string_bytes out.old ++ pieces_text (response_pieces response.now)) }
@@ -254,6 +267,7 @@ fn append_response(out: &mut String, response: &Response) -> Result<(), AllocErr
     append_responder(out, response.responder)
 }
 
+/// What a response brings: a reply, or an error. The quality of service is the response's.
 #[tactic(auto, using(crate::proofs::Joining::joining))]
 fn append_answered(
     out: &mut String,
@@ -268,6 +282,7 @@ fn append_answered(
     }
 }
 
+/// A reply: a put or a deletion, with the options of a push but for the reliability.
 #[tactic(auto, using(crate::proofs::Joining::joining))]
 fn append_reply(out: &mut String, body: &Body, quality: QoSType) -> Result<(), AllocError>
     ensures { OnOk result (string_bytes out.new ≡ string_bytes out.old ++ pieces_text (reply_pieces body.now quality)) }
@@ -278,6 +293,7 @@ fn append_reply(out: &mut String, body: &Body, quality: QoSType) -> Result<(), A
     append_origin(out, body)
 }
 
+/// An error: its payload and encoding, and the quality of service. It has no other option.
 #[tactic(auto, using(crate::proofs::Joining::joining))]
 fn append_reply_error(out: &mut String, value: &Value, quality: QoSType) -> Result<(), AllocError>
     ensures { OnOk result (string_bytes out.new ≡ string_bytes out.old ++ pieces_text (reply_error_pieces value.now quality)) }

@@ -85,6 +85,7 @@ pub fn append_parameters(out: &mut String, text: &str) -> Result<(), AllocError>
     write!(out, "\tparams={text}")
 }
 
+/// Puts the option `target` behind a text: which queryables a request is for.
 #[tactic(auto, unfolding(crate::specs::Pieces::written, crate::specs::Pieces::piece_text))]
 pub(crate) fn append_target(out: &mut String, whom: QueryTarget) -> Result<(), AllocError>
     ensures { OnOk result (string_bytes out.new ≡ string_bytes out.old ++ piece_text (target whom)) }
@@ -93,6 +94,7 @@ pub(crate) fn append_target(out: &mut String, whom: QueryTarget) -> Result<(), A
     write!(out, "\ttarget={text}")
 }
 
+/// Puts the option `cons` behind a text: how the replies of a request are consolidated.
 #[tactic(auto, unfolding(crate::specs::Pieces::written, crate::specs::Pieces::piece_text))]
 pub(crate) fn append_consolidation(
     out: &mut String,
@@ -104,6 +106,7 @@ pub(crate) fn append_consolidation(
     write!(out, "\tcons={text}")
 }
 
+/// Puts the option `timeout` behind a text, in milliseconds.
 #[tactic(auto, unfolding(crate::specs::Pieces::written, crate::specs::Pieces::piece_text))]
 pub(crate) fn append_timeout(out: &mut String, time: u64) -> Result<(), AllocError>
     ensures { OnOk result (string_bytes out.new ≡ string_bytes out.old ++ piece_text (timeout time)) }
@@ -111,6 +114,7 @@ pub(crate) fn append_timeout(out: &mut String, time: u64) -> Result<(), AllocErr
     write!(out, "\ttimeout={time}")
 }
 
+/// Puts the options `payload` and `enc` behind a text, if there is a value.
 #[tactic(auto, using(crate::proofs::Joining::joining), unfolding(crate::specs::Pieces::written, crate::specs::Pieces::piece_text))]
 pub(crate) fn append_value(out: &mut String, given: &Option<Value>) -> Result<(), AllocError>
     ensures { OnOk result (string_bytes out.new ≡ string_bytes out.old ++ piece_text (value given.now)) }
@@ -124,6 +128,7 @@ pub(crate) fn append_value(out: &mut String, given: &Option<Value>) -> Result<()
     write!(out, "\tenc={text}")
 }
 
+/// Puts the option `enc` behind a text, also where the encoding is empty.
 #[tactic(auto, using(crate::proofs::Joining::joining), unfolding(crate::specs::Pieces::written, crate::specs::Pieces::piece_text))]
 pub(crate) fn append_encoding(out: &mut String, text: &Text) -> Result<(), AllocError>
     ensures { OnOk result (string_bytes out.new ≡ string_bytes out.old ++ piece_text (encoding text.now)) }
@@ -180,6 +185,7 @@ pub fn append_timestamp(out: &mut String, time: Option<Timestamp>) -> Result<(),
     append_hex(out, id)
 }
 
+/// Puts the options `prio`, `cc` and `express` behind a text, also where they are the defaults.
 #[tactic(auto, using(crate::proofs::Joining::joining), unfolding(crate::specs::Pieces::written, crate::specs::Pieces::piece_text))]
 pub(crate) fn append_qos(out: &mut String, quality: QoSType) -> Result<(), AllocError>
     ensures { OnOk result (string_bytes out.new ≡ string_bytes out.old ++ piece_text (qos quality)) }
@@ -191,6 +197,7 @@ pub(crate) fn append_qos(out: &mut String, quality: QoSType) -> Result<(), Alloc
     out.push_str(flag_digit(quality.express))
 }
 
+/// Puts the option `rel` behind a text: `1` for reliable, and `0` for best effort.
 #[tactic(auto, using(crate::proofs::Joining::joining), unfolding(crate::specs::Pieces::written, crate::specs::Pieces::piece_text))]
 pub(crate) fn append_reliable(out: &mut String, flag: bool) -> Result<(), AllocError>
     ensures { OnOk result (string_bytes out.new ≡ string_bytes out.old ++ piece_text (reliable flag)) }

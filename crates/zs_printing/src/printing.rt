@@ -93,6 +93,7 @@ pub fn append_received(
     out.push('\n')
 }
 
+/// What a read came to: an item, or the word for why there is none.
 #[tactic(auto, using(crate::proofs::Joining::joining))]
 fn append_received_pieces(out: &mut String, received: &Received<HandOver>) -> Result<(), AllocError>
     ensures { OnOk result (string_bytes out.new ≡ string_bytes out.old ++ pieces_text (received_pieces received.now)) }
@@ -118,6 +119,7 @@ fn append_item(out: &mut String, item: &HandOver) -> Result<(), AllocError>
     }
 }
 
+/// The line of the answer: `ok`, with the number that was drawn, if one was, or `refused` and why.
 #[tactic(auto, using(crate::proofs::Joining::joining))]
 fn append_answer(out: &mut String, margin: Margin<'_>, answer: &Answer) -> Result<(), AllocError>
     ensures { OnOk result (string_bytes out.new
@@ -134,6 +136,7 @@ fn append_answer(out: &mut String, margin: Margin<'_>, answer: &Answer) -> Resul
     }
 }
 
+/// The line of each effect. The text of a sample is kept for further effects that hand over the same.
 fn append_effects(
     out: &mut String,
     margin: Margin<'_>,
@@ -167,6 +170,7 @@ fn append_effect<'a>(
     out.push('\n')
 }
 
+/// What an effect is: a message, something handed over, an end, or a change that a listener is told.
 #[tactic(auto, using(crate::proofs::Joining::joining))]
 fn append_effect_pieces<'a>(
     out: &mut String,
@@ -183,6 +187,7 @@ fn append_effect_pieces<'a>(
     }
 }
 
+/// What is handed over, and to whom: a sample, a reply or a query.
 fn append_hand_over<'a>(
     out: &mut String,
     hand: &'a HandOver,
@@ -197,6 +202,7 @@ fn append_hand_over<'a>(
     }
 }
 
+/// A message that goes out to the network.
 #[tactic(auto, using(crate::proofs::Joining::joining))]
 fn append_sent(out: &mut String, message: &Message) -> Result<(), AllocError>
     ensures { OnOk result (string_bytes out.new ≡ string_bytes out.old ++ pieces_text (effect_pieces (Send message.now))) }
@@ -227,6 +233,7 @@ fn append_matching(out: &mut String, id: u32, matching: bool) -> Result<(), Allo
     append_word(out, truth_word(matching))
 }
 
+/// A sample that a subscriber, or one of liveliness, is handed.
 #[tactic(auto, using(crate::proofs::Joining::joining), unfolding(crate::specs::Printing::hand_pieces))]
 fn append_hand<'a>(
     out: &mut String,
@@ -265,6 +272,7 @@ fn append_reply_item(out: &mut String, reply: &Reply) -> Result<(), AllocError>
     append_responder(out, reply.replier_id())
 }
 
+/// The error that a reply brings: its payload, and the encoding of that.
 #[tactic(auto, using(crate::proofs::Joining::joining))]
 fn append_error(out: &mut String, error: &ReplyError) -> Result<(), AllocError>
     ensures { OnOk result (string_bytes out.new ≡ string_bytes out.old ++ pieces_text (error_pieces error.now)) }
@@ -274,6 +282,7 @@ fn append_error(out: &mut String, error: &ReplyError) -> Result<(), AllocError>
     append_sample_encoding(out, error.encoding())
 }
 
+/// Puts a sample behind a text, with no word of who is handed it.
 #[tactic(auto, using(crate::proofs::Joining::joining))]
 pub(crate) fn append_sample(out: &mut String, sample: &Sample) -> Result<(), AllocError>
     ensures { OnOk result (string_bytes out.new ≡ string_bytes out.old ++ pieces_text (sample_pieces sample.now)) }
@@ -282,6 +291,7 @@ pub(crate) fn append_sample(out: &mut String, sample: &Sample) -> Result<(), All
     append_sample_options(out, sample)
 }
 
+/// Whether a sample is a put or a deletion, its key, its payload, and the encoding of that.
 #[tactic(auto, using(crate::proofs::Joining::joining))]
 fn append_sample_head(out: &mut String, sample: &Sample) -> Result<(), AllocError>
     ensures { OnOk result (string_bytes out.new ≡ string_bytes out.old ++ pieces_text (sample_head sample.now)) }
@@ -292,6 +302,7 @@ fn append_sample_head(out: &mut String, sample: &Sample) -> Result<(), AllocErro
     append_sample_encoding(out, sample.encoding())
 }
 
+/// The timestamp, qualities, source and attachment of a sample.
 #[tactic(auto, using(crate::proofs::Joining::joining))]
 fn append_sample_options(out: &mut String, sample: &Sample) -> Result<(), AllocError>
     ensures { OnOk result (string_bytes out.new ≡ string_bytes out.old ++ pieces_text (sample_options sample.now)) }
@@ -330,6 +341,7 @@ fn append_queried(
     append_asked(out, query)
 }
 
+/// What a query asks, with no word of who is handed it.
 #[tactic(auto, using(crate::proofs::Joining::joining))]
 fn append_asked(out: &mut String, query: &QueryData) -> Result<(), AllocError>
     ensures { OnOk result (string_bytes out.new ≡ string_bytes out.old ++ pieces_text (asked_pieces query.now)) }
@@ -338,6 +350,7 @@ fn append_asked(out: &mut String, query: &QueryData) -> Result<(), AllocError>
     append_asked_options(out, query)
 }
 
+/// The key and the parameters of a query, and its payload and encoding, if it has them.
 #[tactic(auto, using(crate::proofs::Joining::joining))]
 fn append_asked_head(out: &mut String, query: &QueryData) -> Result<(), AllocError>
     ensures { OnOk result (string_bytes out.new ≡ string_bytes out.old ++ pieces_text (asked_head query.now)) }
@@ -348,6 +361,7 @@ fn append_asked_head(out: &mut String, query: &QueryData) -> Result<(), AllocErr
     append_encoding_if(out, query.encoding())
 }
 
+/// The qualities, source and attachment of a query.
 #[tactic(auto, using(crate::proofs::Joining::joining))]
 fn append_asked_options(out: &mut String, query: &QueryData) -> Result<(), AllocError>
     ensures { OnOk result (string_bytes out.new ≡ string_bytes out.old ++ pieces_text (asked_options query.now)) }

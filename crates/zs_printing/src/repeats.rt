@@ -20,6 +20,7 @@ pub(crate) struct Printed<'a> {
 }
 
 impl<'a> Printed<'a> {
+    /// Prints a sample into a text of its own. An error is want of memory alone.
     fn of(alloc: Global, sample: &'a Sample) -> Result<Printed<'a>, AllocError>
         ensures { IfOk result (λ printed. printed.sample.now ≡ sample.now) }
     {
@@ -80,6 +81,7 @@ fn is_like(left: &Sample, right: &Sample) -> bool
     has_head_of(left, right) && has_options_of(left, right)
 }
 
+/// Whether two samples have one kind, key, payload and encoding.
 fn has_head_of(left: &Sample, right: &Sample) -> bool
     ensures { OnTrue result (pieces_text (sample_head left.now) ≡ pieces_text (sample_head right.now)) }
 {
@@ -89,6 +91,7 @@ fn has_head_of(left: &Sample, right: &Sample) -> bool
         && is_encoding(left.encoding(), right.encoding())
 }
 
+/// Whether two samples have one timestamp, quality of service, reliability, source and attachment.
 fn has_options_of(left: &Sample, right: &Sample) -> bool
     ensures { OnTrue result (pieces_text (sample_options left.now) ≡ pieces_text (sample_options right.now)) }
 {
@@ -99,6 +102,7 @@ fn has_options_of(left: &Sample, right: &Sample) -> bool
         && is_attachment(left.attachment(), right.attachment())
 }
 
+/// Whether two payloads have the same bytes.
 #[tactic(auto, unfolding(crate::specs::Pieces::written, crate::specs::Pieces::piece_text))]
 fn is_payload(left: &ZBytes, right: &ZBytes) -> bool
     ensures { OnTrue result (piece_text (payload left.now) ≡ piece_text (payload right.now)) }
@@ -106,6 +110,7 @@ fn is_payload(left: &ZBytes, right: &ZBytes) -> bool
     left == right
 }
 
+/// Whether two encodings have the same text.
 #[tactic(auto, unfolding(crate::specs::Pieces::written, crate::specs::Pieces::piece_text))]
 fn is_encoding(left: &Encoding, right: &Encoding) -> bool
     ensures { OnTrue result (piece_text (encoding left.now) ≡ piece_text (encoding right.now)) }
@@ -113,18 +118,21 @@ fn is_encoding(left: &Encoding, right: &Encoding) -> bool
     left.as_str() == right.as_str()
 }
 
+/// Whether both timestamps are the same, or both are missing.
 fn is_time(left: Option<Timestamp>, right: Option<Timestamp>) -> bool
     ensures { OnTrue result (left ≡ right) }
 {
     left == right
 }
 
+/// Whether both sources are the same, or both are missing.
 fn is_source(left: Option<SourceInfo>, right: Option<SourceInfo>) -> bool
     ensures { OnTrue result (left ≡ right) }
 {
     left == right
 }
 
+/// Whether both attachments have the same bytes, or both are missing.
 #[tactic(auto, unfolding(crate::specs::Pieces::written, crate::specs::Pieces::piece_text))]
 fn is_attachment(left: Option<&ZBytes>, right: Option<&ZBytes>) -> bool
     ensures { OnTrue result (piece_text (attachment (option_copied left.entry)) ≡ piece_text (attachment (option_copied right.entry))) }

@@ -1,3 +1,4 @@
+//! Gets that end at one moment, each with the replies that are handed out then.
 ghost use Rattle.std.specs.Prelude.{◌≡◌, ◌==◌, map, IfOk, length, slice_get};
 ghost use Rattle.std.specs.Option.{option_copied};
 
@@ -64,6 +65,7 @@ impl Ends {
     }
 }
 
+/// The numbers of these ends, in their order. An error is want of memory alone.
 fn numbers_of(alloc: Global, ends: &[(u32, Replies)]) -> Result<Vec<u32>, AllocError>
     ensures { IfOk result (λ numbers. numbers.items ≡ map (λ end. end.0) ends.now) }
 {

@@ -1,3 +1,4 @@
+//! What a get asked, apart from the replies that it has had.
 ghost use Rattle.std.specs.Prelude.{◌≡◌};
 ghost use Rattle.zs_query.specs.Gets.{wants, less, takes_key};
 ghost use Rattle.zs_query.specs.GetRows.{keys_of};
@@ -29,6 +30,7 @@ pub struct GetRow {
 }
 
 impl Drop for GetRow {
+    /// Frees the key. The other fields are plain values.
     fn drop(self) {
         let GetRow {
             number: _,

@@ -206,6 +206,7 @@ impl GetRows {
     }
 }
 
+/// The numbers that the gets are filed under, ascending. An error is want of memory alone.
 fn numbers_of(alloc: Global, rows: &Rows<OpenGet>) -> Result<Vec<u32>, AllocError>
     ensures { IfOk result (λ numbers. numbers.items ≡ numbers_of rows.now) }
 {

@@ -1,3 +1,4 @@
+//! The open gets of a session, which it numbers itself, and the moment that their deadlines are measured by.
 ghost use Rattle.std.specs.Prelude.{◌≡◌, ◌≢◌, ◌+◌, ◌<◌, ◌≤◌, [], length, true, IsOk, OnOk, OnErr};
 ghost use Rattle.zs_wire.specs.declared.request.ConsolidationMode.{ConsolidationMode};
 ghost use Rattle.zs_query.specs.Asked.{waits};

@@ -1,3 +1,4 @@
+//! The open gets: how replies, finals, deadlines, cancellation tokens and queriers reach and end them.
 ghost use Rattle.std.specs.Prelude.{◌≡◌, ◌≢◌, [], ◌∷◌, ◌||◌, true, false, not, filter, map, length, slice_get, IsOk, IfOk, OnOk, OnErr};
 ghost use Rattle.std.specs.Option.{is_some, option_copied};
 ghost use Rattle.zs_wire.specs.declared.request.ConsolidationMode.{ConsolidationMode};

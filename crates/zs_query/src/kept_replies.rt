@@ -1,3 +1,4 @@
+//! The replies that a get in mode `Latest` keeps for its end.
 ghost use Rattle.std.specs.Prelude.{◌≡◌, ◌≤◌, [], length, map, slice_get, vec_capacity, IfOk, OnOk, OnErr, IsOk};
 ghost use Rattle.std.specs.Option.{option_copied};
 ghost use Rattle.zs_query.specs.Marks.{mark_of, key_of, passes};

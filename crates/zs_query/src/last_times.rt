@@ -1,3 +1,4 @@
+//! What a get in mode `Monotonic` remembers of the samples that it handed out.
 ghost use Rattle.std.specs.Prelude.{◌≡◌, [], OnOk, OnErr};
 ghost use Rattle.zs_query.specs.Marks.{passes};
 ghost use Rattle.zs_query.specs.Kept.{put};

@@ -1,3 +1,4 @@
+//! One open get: what it makes of a reply in each consolidation mode, and of a final.
 ghost use Rattle.std.specs.Prelude.{◌≡◌, Some, IfOk, OnOk, OnErr, IsOk, if◌then◌else◌};
 ghost use Rattle.zs_query.specs.Gets.{fresh, peek_by, peek_get, named, after_reply, replied, final_outcome, less_final};
 
@@ -124,12 +125,14 @@ impl OpenGet {
     }
 }
 
+/// What mode `Monotonic` makes of a sample: it is handed out at once, unless a newer one of its key was.
 fn handed_if(passes: bool) -> Peek
     ensures { result ≡ (if passes then Peek.Handed else Peek.Dropped) }
 {
     if passes { Peek::Handed } else { Peek::Dropped }
 }
 
+/// What mode `Latest` makes of a sample: it is kept for the end, unless a newer one of its key is.
 fn kept_if(passes: bool) -> Peek
     ensures { result ≡ (if passes then Peek.Kept else Peek.Dropped) }
 {

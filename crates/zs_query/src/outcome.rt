@@ -1,3 +1,4 @@
+//! What gets make of replies, errors and finals.
 ghost use Rattle.std.specs.Prelude.{◌≡◌};
 ghost use Rattle.zs_query.specs.Gets.{named};
 

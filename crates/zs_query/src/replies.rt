@@ -1,3 +1,4 @@
+//! Replies that are handed out together, at the end of a get.
 ghost use Rattle.std.specs.Prelude.{◌≡◌, ◌==◌, length, slice_get};
 ghost use Rattle.std.specs.Option.{option_copied};
 

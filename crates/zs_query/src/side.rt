@@ -1,3 +1,4 @@
+//! The two sides whose finals a get waits for.
 ghost use Rattle.std.specs.Prelude.{◌≡◌};
 ghost use Rattle.zs_query.specs.Gets.{other_side};
 

@@ -53,6 +53,7 @@ fn last_replies(alloc: Global, get: &OpenGet) -> Result<Replies, AllocError>
     Ok(Replies::of(replies))
 }
 
+/// The error that Zenoh hands out at a deadline: the text `Timeout`, from no replier.
 fn timeout_error(alloc: Global) -> Result<Reply, AllocError>
     ensures { IfOk result (λ error. error ≡ timeout_error) }
 {

@@ -17,6 +17,7 @@ pub(crate) fn is_below(a: Option<&Timestamp>, b: Option<&Timestamp>) -> bool
     }
 }
 
+/// Whether a timestamp is below another: by the time, and at one time by the id of the clock.
 fn is_earlier(a: &Timestamp, b: &Timestamp) -> bool
     ensures { result ≡ is_earlier a.now b.now }
 {

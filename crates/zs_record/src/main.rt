@@ -86,6 +86,7 @@ fn status(rt: &HostRuntime, alloc: Global) -> u8 {
     }
 }
 
+/// Runs the program on the host. It exits with what `status` answers.
 fn main(rt: HostRuntime) -> ExitCode {
     ExitCode::from(status(&rt, rt.alloc()))
 }

@@ -17,6 +17,7 @@ struct Run {
     status: u8,
 }
 
+/// A run by its fields in order, so that a table has it in one line.
 const fn case(
     input: &'static str,
     more: &'static str,
@@ -106,6 +107,7 @@ fn assert_runs(
     Ok(())
 }
 
+/// A recording that is the same is told so with its count, another one with the first turn that differs.
 #[test]
 fn replays(rt: HostRuntime) -> Result<(), Fail> {
     let table = [
@@ -135,6 +137,7 @@ fn replays(rt: HostRuntime) -> Result<(), Fail> {
     Ok(())
 }
 
+/// A script's events are recorded with their turns, a refused one too, and a close behind them.
 #[test]
 fn records(rt: HostRuntime) -> Result<(), Fail> {
     let table = [
@@ -152,6 +155,7 @@ fn records(rt: HostRuntime) -> Result<(), Fail> {
     Ok(())
 }
 
+/// A replay stops at a line that is out of form or too long, tells its number, and writes nothing.
 #[test]
 fn replays_stop(rt: HostRuntime) -> Result<(), Fail> {
     let table = [
@@ -173,6 +177,7 @@ fn replays_stop(rt: HostRuntime) -> Result<(), Fail> {
     Ok(())
 }
 
+/// A recording stops at a line that is out of form or too long, behind what it recorded of the lines before.
 #[test]
 fn records_stop(rt: HostRuntime) -> Result<(), Fail> {
     let table = [
@@ -188,6 +193,7 @@ fn records_stop(rt: HostRuntime) -> Result<(), Fail> {
     Ok(())
 }
 
+/// A word other than `record` and `replay` is refused with status 2, and nothing is written.
 #[test]
 fn other_words(rt: HostRuntime) -> Result<(), Fail> {
     let table = [case(SCRIPT, "", "", "bad words\n", 2)];

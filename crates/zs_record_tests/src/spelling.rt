@@ -44,6 +44,7 @@ pub fn spell(bytes: &mut Vec<u8>, text: &str) -> Result<(), AllocError> {
     Ok(())
 }
 
+/// Puts the most bytes that a line holds behind a mark and a tab.
 fn fill(bytes: &mut Vec<u8>) -> Result<(), AllocError> {
     for _ in 0..LONGEST {
         bytes.push(b'a')?;

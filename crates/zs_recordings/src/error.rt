@@ -1,3 +1,4 @@
+//! Why recording fails.
 ghost use Rattle.std.specs.Prelude.{◌≡◌};
 
 use std::alloc::AllocError;
@@ -19,6 +20,7 @@ impl From<AllocError> for RecordError {
 
     ghost from_gives = { λ _ error. error ≡ RecordError.NoMemory };
 
+    /// Want of memory, as recording tells it.
     fn from(_error: AllocError) -> RecordError {
         RecordError::NoMemory
     }
@@ -29,6 +31,7 @@ impl From<WriteFault> for RecordError {
 
     ghost from_gives = { λ _ error. error ≡ RecordError.WriteFault };
 
+    /// A fault of the sink, as recording tells it.
     fn from(_error: WriteFault) -> RecordError {
         RecordError::WriteFault
     }

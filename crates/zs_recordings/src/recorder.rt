@@ -159,6 +159,8 @@ impl LineMachine for Recorder {
 
     ghost closed = { λ machine r h. AllAreTexts r h };
 
+    /// Takes the event that a line of a script says, and adds what is recorded of it. False says that the line is none
+    /// of a script, or a read of a channel: that is not recorded.
     #[tactic(auto, using(crate::proofs::Recorded::owed))]
     fn take(&mut self, line: &Line, transcript: &mut Transcript) -> Result<bool, AllocError> {
         let Some(said) = parse_event(self.alloc, line)? else {
@@ -167,6 +169,7 @@ impl LineMachine for Recorder {
         self.take_said(said, line.number, transcript)
     }
 
+    /// Takes the end of input, which closes the session. The close is recorded too.
     #[tactic(auto, using(crate::proofs::Recorded::owed))]
     fn end(&mut self, number: u64, transcript: &mut Transcript) -> Result<(), AllocError> {
         self.close(number, transcript)

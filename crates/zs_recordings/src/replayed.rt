@@ -1,3 +1,5 @@
+//! What playing a recording again comes to.
+
 /// What a recording was found to be when it was played again.
 #[derive(Clone, Copy, Debug, PartialEq, Eq)]
 pub enum Replayed {

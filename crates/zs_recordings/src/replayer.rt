@@ -204,11 +204,14 @@ impl LineMachine for Replayer {
 
     ghost closed = { HasPlayed };
 
+    /// Takes a line of a recording, of an event or of what came of one. Nothing is added before the end.
     #[tactic(auto, using(crate::proofs::Played::owed))]
     fn take(&mut self, line: &Line, _transcript: &mut Transcript) -> Result<bool, AllocError> {
         self.take_row(&line.bytes, line.number)
     }
 
+    /// Adds whether the recording says what comes of each event, or where it first differs. Nothing is added where a
+    /// line of a turn stood before all events.
     #[tactic(auto, using(crate::proofs::Played::owed))]
     fn end(&mut self, _number: u64, transcript: &mut Transcript) -> Result<(), AllocError> {
         if self.is_headless() {

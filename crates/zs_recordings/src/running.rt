@@ -75,6 +75,7 @@ fn mode_of(words: &[String]) -> Option<Mode>
     }
 }
 
+/// The mode of a word: `record` and `replay` name one.
 fn mode_named(word: &str) -> Option<Mode>
     ensures { result ≡ mode_named word.now }
 {

@@ -108,6 +108,7 @@ impl Sides {
         }
     }
 
+    /// Each side declares its subscriber and its queryable, the first side before the second.
     fn declare_all(&mut self) -> Result<(), AllocError>
         ensures { OnOk result ((s : Settings) → AreBehind self.old s [] → AreBehind self.new s first_links) }
     {
@@ -171,6 +172,7 @@ impl Sides {
         }
     }
 
+    /// A side's store takes what a delivered message hands to its subscriber. One that was dropped hands nothing.
     fn keep_delivered(&mut self, side: LinkSide, delivered: &Delivered) -> Result<(), AllocError>
         ensures { OnOk result (self.new ≡ kept_delivered side delivered.now self.old) }
     {
@@ -204,6 +206,7 @@ impl Sides {
         told
     }
 
+    /// A side takes events in order, and what its gets got of each is printed. It stops at want of memory.
     fn take_all(&mut self, number: u64, side: LinkSide, events: &[Event]) -> Result<(), AllocError>
         requires { AllByRecursion (λ event. is_net event ≡ false) events.now }
         ensures { OnOk result (Becomes (λ s t. with_all s number side events.now t) self.old self.new) }
@@ -266,6 +269,7 @@ impl Sides {
         told
     }
 
+    /// What came of a delivery is told at the side that took the message. One that was dropped is not told.
     fn tell_delivered(
         &mut self,
         number: u64,
@@ -291,6 +295,7 @@ impl Sides {
         told
     }
 
+    /// So many messages of a side are delivered, in the order in which they were sent.
     fn deliver_many(&mut self, number: u64, from: LinkSide, count: usize) -> Result<(), AllocError>
         ensures { OnOk result (Becomes (λ s t. with_many s number from count t) self.old self.new) }
     {
@@ -355,6 +360,7 @@ impl Sides {
         closed
     }
 
+    /// Each session takes that event, and what comes of it is let go: no store takes it, and no end is told.
     fn close_both(&mut self, close: &Event) -> Result<(), AllocError>
         requires { is_net close.now ≡ false }
     {

@@ -71,6 +71,7 @@ fn split_fields(alloc: Global, line: &str) -> Result<Vec<&str>, AllocError>
     line.split('\t').collect(alloc)
 }
 
+/// How many fields there are decides what a line can be: one field for a dump, two for a get, and so on up to a put.
 fn parse_fields(alloc: Global, fields: &[&str]) -> Result<Option<ReplicaLine>, AllocError>
     ensures { IfOk result (λ found. found ≡ line_of (texts fields.now)) }
 {
@@ -84,6 +85,7 @@ fn parse_fields(alloc: Global, fields: &[&str]) -> Result<Option<ReplicaLine>, A
     }
 }
 
+/// A line of one field, which has to be the word `dump`.
 fn parse_dump(word: &str) -> Option<ReplicaLine>
     ensures { result ≡ line_of_one word.now }
 {
@@ -93,6 +95,7 @@ fn parse_dump(word: &str) -> Option<ReplicaLine>
     }
 }
 
+/// A line of two fields: a get, if the word says so. A bad key makes it a refused get.
 fn parse_get(alloc: Global, word: &str, key: &str) -> Result<Option<ReplicaLine>, AllocError>
     ensures { IfOk result (λ found. found ≡ line_of_two word.now key.now) }
 {
@@ -105,6 +108,7 @@ fn parse_get(alloc: Global, word: &str, key: &str) -> Result<Option<ReplicaLine>
     }
 }
 
+/// A line of three fields: a deletion, if the word says so.
 fn parse_delete(
     alloc: Global,
     word: &str,
@@ -119,6 +123,7 @@ fn parse_delete(
     }
 }
 
+/// A deletion at a key, or its refusal. Nothing where the moment is no timestamp, whatever the key is.
 fn delete_line(alloc: Global, key: &str, time: &str) -> Result<Option<ReplicaLine>, AllocError>
     ensures { IfOk result (λ found. found ≡ delete_of key.now (timestamp_of time.now)) }
 {
@@ -129,6 +134,7 @@ fn delete_line(alloc: Global, key: &str, time: &str) -> Result<Option<ReplicaLin
     Ok(Some(line))
 }
 
+/// A line of four fields: a put, if the word says so.
 fn parse_put(
     alloc: Global,
     word: &str,
@@ -144,6 +150,7 @@ fn parse_put(
     }
 }
 
+/// A put at a key, or its refusal. Nothing where the moment or the bytes can't be read, whatever the key is.
 fn put_line(
     alloc: Global,
     key: &str,
@@ -215,6 +222,7 @@ fn replicates(key: &KeyExpr<'_>) -> bool
     all.includes(key)
 }
 
+/// Whether a text has a `*`. Each wild card of Zenoh's key expressions has one: `*`, `**` and `$*`.
 fn has_star(text: &str) -> bool
     ensures { result ≡ has_star text.now }
 {
@@ -255,6 +263,7 @@ fn publication(
     })
 }
 
+/// The quality of service of whoever asks for none, with that congestion control. Priority 5 is Zenoh's `Data`.
 fn plain_qos(congestion: CongestionControl) -> QoSType
     ensures { result ≡ record { priority = 5; congestion = congestion; express = false } }
 {
@@ -312,6 +321,7 @@ fn question(alloc: Global, key: &str) -> Result<Event, AllocError>
     })
 }
 
+/// What a get asks that has nothing but a key and can't be cancelled.
 fn plain_inquiry() -> Inquiry
     ensures { result ≡ plain_inquiry }
 {
@@ -324,6 +334,7 @@ fn plain_inquiry() -> Inquiry
     }
 }
 
+/// The parameters of a selector that has no `?`.
 fn empty_text() -> Text
     ensures { result ≡ [] }
 {

@@ -33,6 +33,7 @@ pub fn append_store(
     Ok(())
 }
 
+/// Puts the line of one key of a store behind a text.
 #[tactic(auto, using(crate::proofs::Joining::joining))]
 fn append_write(
     out: &mut String,
@@ -83,6 +84,7 @@ fn append_time(out: &mut String, time: Option<Timestamp>) -> Result<(), AllocErr
     }
 }
 
+/// A tab, the time as a number, a colon, and who took it in hexadecimal digits.
 #[tactic(auto, using(crate::proofs::Joining::joining))]
 fn append_timestamp(out: &mut String, stamp: Timestamp) -> Result<(), AllocError>
     ensures { OnOk result (string_bytes out.new ≡ string_bytes out.old ++ 9 ∷ timestamp_text stamp) }
@@ -109,6 +111,7 @@ pub fn append_ends(
     Ok(())
 }
 
+/// Puts the line of an effect behind a text, if it hands a get a reply with a sample or ends a get. Others have none.
 fn append_effect(
     out: &mut String,
     number: u64,
@@ -124,6 +127,7 @@ fn append_effect(
     }
 }
 
+/// The line of a reply that is handed over. Samples and queries have none.
 fn append_item(out: &mut String, number: u64, side: &str, item: &HandOver) -> Result<(), AllocError>
     ensures { OnOk result (string_bytes out.new ≡ string_bytes out.old ++ item_text number side.now item.now) }
 {
@@ -135,6 +139,7 @@ fn append_item(out: &mut String, number: u64, side: &str, item: &HandOver) -> Re
     }
 }
 
+/// The line of a reply for a get. Replies for a get of liveliness tokens have none.
 fn append_replied(
     out: &mut String,
     number: u64,
@@ -151,6 +156,7 @@ fn append_replied(
     }
 }
 
+/// The line of a reply that has a sample. An error has none.
 fn append_got(
     out: &mut String,
     number: u64,
@@ -166,6 +172,7 @@ fn append_got(
     }
 }
 
+/// Puts the line of a sample that a get is handed behind a text.
 #[tactic(auto, using(crate::proofs::Joining::joining))]
 fn append_sample(
     out: &mut String,
@@ -186,6 +193,7 @@ fn append_sample(
     )
 }
 
+/// The line of a get that ends. An end of anything else has none.
 fn append_ended(
     out: &mut String,
     number: u64,

@@ -1,3 +1,4 @@
+//! The query that a queryable is handed: its selector, and what else the asker sent.
 ghost use Rattle.std.specs.Prelude.{◌≡◌, IfOk, encode_utf8_all, if◌then◌else◌};
 ghost use Rattle.std.specs.Option.{option_copied, option_copied_mut, option_map};
 ghost use Rattle.zs_wire.specs.Parameters.{trimmed_text, contains_name, any_key_name};
@@ -28,6 +29,7 @@ pub struct QueryData {
 }
 
 impl Drop for QueryData {
+    /// Frees what owns memory. The qualities and the source are plain values.
     fn drop(self) {
         let QueryData {
             key_expr,
@@ -205,12 +207,14 @@ impl QueryData {
     }
 }
 
+/// The parameters of a request in a text of their own, without the `;`, `=` and `|` at its end.
 fn parameters_of(alloc: Global, text: &Text) -> Result<Parameters<'static>, AllocError>
     ensures { IfOk result (λ parameters. parameters ≡ trimmed_text (encode_utf8_all text.now)) }
 {
     Parameters::of(text.as_str()).into_owned(alloc)
 }
 
+/// The payload that a request carries, if it carries a value. It shares the memory of that one.
 fn payload_of(alloc: Global, value: &Option<Value>) -> Result<Option<ZBytes>, AllocError>
     ensures { IfOk result (λ payload. payload ≡ option_map (λ v. v.payload) value.now) }
 {
@@ -220,6 +224,7 @@ fn payload_of(alloc: Global, value: &Option<Value>) -> Result<Option<ZBytes>, Al
     }
 }
 
+/// The encoding of the value that a request carries, if it carries one.
 fn encoding_of(alloc: Global, value: &Option<Value>) -> Result<Option<Encoding>, AllocError>
     ensures { IfOk result (λ encoding. encoding ≡ option_map (λ v. encoding_of v.encoding) value.now) }
 {
@@ -229,6 +234,7 @@ fn encoding_of(alloc: Global, value: &Option<Value>) -> Result<Option<Encoding>,
     }
 }
 
+/// The same encoding where there is one. An error is want of memory alone.
 fn clone_encoding(
     encoding: &Option<Encoding>,
     alloc: Global,

@@ -1,3 +1,4 @@
+//! A query value as it is kept: whom it was handed to, and its request.
 use crate::request_row::RequestRow;
 
 /// A query value: a query as one queryable was handed it, or a share of one.

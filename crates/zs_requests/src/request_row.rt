@@ -1,3 +1,4 @@
+//! A request, as each query value that was handed out for it remembers it.
 ghost use Rattle.std.specs.Prelude.{◌≡◌, IfOk};
 
 use std::alloc::{AllocError, Global};
@@ -23,6 +24,7 @@ pub struct RequestRow {
 }
 
 impl Drop for RequestRow {
+    /// Frees what owns memory. The numbers, the qualities and the source are plain values.
     fn drop(self) {
         let RequestRow {
             local: _,
@@ -73,6 +75,7 @@ pub fn clone_key(key: &KeyExpr<'static>, alloc: Global) -> Result<KeyExpr<'stati
     }
 }
 
+/// The same value, if there is one. It shares the memory of the payload.
 fn clone_value(value: &Option<Value>, alloc: Global) -> Result<Option<Value>, AllocError>
     ensures { IfOk result (λ copy. copy ≡ value.now) }
 {
@@ -82,6 +85,7 @@ fn clone_value(value: &Option<Value>, alloc: Global) -> Result<Option<Value>, Al
     }
 }
 
+/// The same bytes, if there are any. They share their memory.
 pub(crate) fn clone_attachment(
     attachment: &Option<ZBytes>,
     alloc: Global,

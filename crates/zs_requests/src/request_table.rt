@@ -1,3 +1,4 @@
+//! The unfinished query values of a session, which it numbers itself.
 ghost use Rattle.std.specs.Prelude.{◌≡◌, ◌+◌, ◌<◌, ◌≤◌, [], length, OnOk, OnErr};
 ghost use Rattle.zs_requests.specs.Unfinished.{value_at, finished, finished_as, of_same_request, IsFound};
 ghost use Rattle.zs_requests.specs.RequestTable.{with_handed, with_shared, with_finished};

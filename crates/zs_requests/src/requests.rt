@@ -1,3 +1,4 @@
+//! The unfinished query values, filed under their numbers and under their requests.
 ghost use Rattle.std.specs.Prelude.{◌≡◌, ◌≢◌, ◌+◌, ◌<◌, ◌≤◌, [], length, false, IfOk, OnOk, OnErr, if◌then◌else◌};
 ghost use Rattle.std.specs.Option.{is_some};
 ghost use Rattle.zs_requests.specs.Unfinished.{value_at, are_used, with_request, shared, finished, finished_as, without_value, of_same_request, IsFound, AreInOrder};
@@ -176,6 +177,7 @@ impl Requests {
     }
 }
 
+/// What the end of this value comes to. The request is handed back with its last value alone.
 fn finished_of(ended: QueryValue, more_left: bool) -> Finished
     ensures { result ≡ (if more_left then Finished.MoreLeft else Finished.Last ended.row) }
 {
@@ -186,6 +188,7 @@ fn finished_of(ended: QueryValue, more_left: bool) -> Finished
     }
 }
 
+/// What the end of this value would come to. The value and its request stay where they are.
 fn finishing_of(value: &QueryValue, more_left: bool) -> Finishing<'_>
     ensures { finished_as result ≡ (if more_left then Finished.MoreLeft else Finished.Last value.now.row) }
 {

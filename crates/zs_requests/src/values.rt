@@ -93,6 +93,7 @@ pub(crate) fn count_of(values: &Rows<QueryValue>, request: u64) -> u32
     number_of(values, request) as u32
 }
 
+/// The same count as a `usize`. It fits into a `u32`, as the numbers of values ascend.
 fn number_of(values: &Rows<QueryValue>, request: u64) -> usize
     ensures count { result ≡ length (filter (λ e. e.1.request == request) values.now) }
     ensures ascending { Ascend (λ e. e.0) values.now }

@@ -1,3 +1,4 @@
+//! Numbers under keys: a key may have several, and they are found in ascending order.
 ghost use Rattle.std.specs.Prelude.{◌≡◌, ◌<◌, ◌≤◌, ◌||◌, nat_lt, filter, ◌==◌, nat_le, Some, None, if◌then◌else◌, ℕ, [], true, false, length, OnOk, OnErr, IfOk, IfSome, MatchOption};
 ghost use Rattle.std.specs.List.{list_any};
 ghost use Rattle.zs_rows.specs.Index.{is_marked, is_marked_up_to, under, Notes, Forgets};
@@ -140,6 +141,7 @@ impl Index {
     }
 }
 
+/// The mark's number, if it stands under that key.
 fn number_if(mark: &Mark, key: u64) -> Option<u32>
     ensures { result ≡ (if mark.now.key == key then Some mark.now.number else None) }
 {
@@ -150,12 +152,14 @@ fn number_if(mark: &Mark, key: u64) -> Option<u32>
     }
 }
 
+/// The mark, if its key is at most `end`.
 fn mark_if(mark: &Mark, end: u64) -> Option<Mark>
     ensures { result ≡ (if nat_le mark.now.key end then Some mark.now else None) }
 {
     if mark.key <= end { Some(*mark) } else { None }
 }
 
+/// The numbers under the keys up to `end`. Marks ascend by key, so it ends at the first one above.
 fn numbers_up_to(alloc: Global, marks: &BTreeSet<Mark>, end: u64) -> Result<Numbers, AllocError>
     ensures { IfOk result (λ numbers. (n : ℕ) → is_in n numbers ≡ is_marked_up_to end n marks.now.keys) }
 {

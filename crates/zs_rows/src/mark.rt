@@ -1,3 +1,4 @@
+//! One entry of an index: a number under a key.
 /// That a number stands under a key.
 #[derive(Debug, Clone, Copy, PartialEq, Eq, PartialOrd, Ord, Drop)]
 pub struct Mark {

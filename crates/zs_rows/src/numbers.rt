@@ -1,3 +1,4 @@
+//! Sets of numbers in ascending order.
 ghost use Rattle.std.specs.Prelude.{◌≡◌, ℕ, ◌==◌, ◌&&◌, ◌||◌, [], not, length, filter, OnOk, OnErr, IfOk};
 ghost use Rattle.std.specs.Map.Iter.{ShowsInOrder, deref};
 ghost use Rattle.zs_rows.specs.Ascending.{Ascend};

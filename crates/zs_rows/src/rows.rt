@@ -1,3 +1,4 @@
+//! Rows in ascending number, each found by its number.
 ghost use Rattle.std.specs.Prelude.{◌≡◌, ℕ, true, false, ◌==◌, [], ◌∷◌, filter, map, length, is_some, Some, None, OnOk, OnErr, IfOk, MatchOption, IfSome};
 ghost use Rattle.std.specs.Option.{option_copied, option_copied_mut, option_map};
 ghost use Rattle.std.specs.Map.Iter.{ShowsInOrder, deref_pair};

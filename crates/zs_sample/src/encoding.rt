@@ -1,3 +1,4 @@
+//! Encodings, which say what a payload is: Zenoh's `Encoding` as a text.
 ghost use Rattle.std.specs.Prelude.{◌≡◌, ◌==◌, codes, IfOk, encode_utf8_all};
 ghost use Rattle.std.specs.List.{before_first};
 ghost use Rattle.std.specs.Str.{chars};
@@ -25,6 +26,7 @@ pub struct Encoding {
 }
 
 impl Drop for Encoding {
+    /// Gives up the name. Memory that its copies share stays.
     fn drop(self) {
         let Encoding { name } = self;
         drop(name);
@@ -43,6 +45,7 @@ impl Model for Encoding {
 impl Default for Encoding {
     ghost is_default = { λ e. e ≡ codes "zenoh/bytes" };
 
+    /// `zenoh/bytes`, Zenoh's default.
     fn default() -> Encoding {
         Encoding::ZENOH_BYTES
     }

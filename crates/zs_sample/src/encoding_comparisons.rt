@@ -17,6 +17,7 @@ impl PartialEq for Encoding {
 
     ghost laws = { on_per encode_utf8_all (Cmp.partial_equiv_from_equiv nat_list_eq_equiv) };
 
+    /// Whether the names are the same text, schema and all, whether known or the application's own.
     fn eq(&self, other: &Self) -> bool {
         self.as_str() == other.as_str()
     }
@@ -31,6 +32,7 @@ impl Hash for Encoding {
 
     ghost respects_eq = { Prim.search (hashing, rules) };
 
+    /// Feeds the name alone, so that equal encodings hash alike.
     fn hash<H: Hasher>(&self, state: &mut H) {
         self.as_str().hash(state);
     }
@@ -39,12 +41,14 @@ impl Hash for Encoding {
 impl fmt::Display for Encoding {
     ghost output = { λ e. Some (encode_utf8_all e) };
 
+    /// Writes the name, with the width and precision that the formatter asks for.
     fn fmt<W: fmt::Write>(&self, f: &mut fmt::Formatter<W>) -> fmt::Result {
         f.pad(self.as_str())
     }
 }
 
 impl fmt::Debug for Encoding {
+    /// Shows the name in quotes, with its escapes, as Debug of a `str` does.
     fn fmt<W: fmt::Write>(&self, f: &mut fmt::Formatter<W>) -> fmt::Result {
         fmt::Debug::fmt(&self.as_str(), f)
     }

@@ -1,3 +1,4 @@
+//! Where publications may come from and go to.
 /// Whose publications a subscriber takes, and whom a publication may reach: this session, the network, or both.
 /// It is Zenoh's `Locality`: `allowed_origin` of a subscriber and `allowed_destination` of a publication.
 #[derive(Clone, Copy, Debug, PartialEq, Eq, Hash)]
@@ -13,6 +14,7 @@ impl Default for Locality {
 
     ghost is_default = { λ l. l ≡ Locality.Any };
 
+    /// Both this session and the network, Zenoh's default.
     fn default() -> Locality {
         Locality::Any
     }

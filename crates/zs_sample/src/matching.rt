@@ -1,3 +1,4 @@
+//! The answer to whether anyone is at the other end of a publisher or a querier.
 use std::marker::Model;
 
 /// Whether anyone listens to a publisher, or answers a querier. Contracts see the answer.

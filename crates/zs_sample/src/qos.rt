@@ -1,3 +1,4 @@
+//! The quality of service of a message, and its builder.
 ghost use Rattle.std.specs.Prelude.{◌≡◌};
 ghost use Rattle.zs_sample.specs.Quality.{number_of, priority_of};
 
@@ -47,6 +48,7 @@ impl QoS {
 impl From<QoSType> for QoS {
     ghost from_gives = { λ inner made. made ≡ inner };
 
+    /// The quality that stands in a message, as it is: a priority outside 1 to 7 is kept.
     fn from(inner: QoSType) -> QoS {
         QoS { inner }
     }
@@ -55,6 +57,7 @@ impl From<QoSType> for QoS {
 impl From<QoS> for QoSType {
     ghost from_gives = { λ qos inner. inner ≡ qos };
 
+    /// The quality as a message carries it, with all that was put in.
     fn from(qos: QoS) -> QoSType {
         qos.inner
     }
@@ -120,6 +123,7 @@ impl QoSBuilder {
 impl From<QoS> for QoSBuilder {
     ghost from_gives = { λ qos made. made ≡ qos };
 
+    /// A builder that begins with this quality.
     fn from(qos: QoS) -> QoSBuilder {
         QoSBuilder { inner: qos.inner }
     }
@@ -128,6 +132,7 @@ impl From<QoS> for QoSBuilder {
 impl From<QoSBuilder> for QoS {
     ghost from_gives = { λ builder made. made ≡ builder };
 
+    /// The quality as far as it is made.
     fn from(builder: QoSBuilder) -> QoS {
         QoS {
             inner: builder.inner,

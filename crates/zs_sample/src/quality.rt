@@ -1,3 +1,4 @@
+//! Reliability and priority of messages.
 ghost use Rattle.std.specs.Prelude.{◌≡◌, if◌then◌else◌};
 ghost use Rattle.zs_sample.specs.Quality.{number_of, priority_of};
 
@@ -13,6 +14,7 @@ impl Default for Reliability {
 
     ghost is_default = { λ r. r ≡ Reliability.Reliable };
 
+    /// `Reliable`, Zenoh's default.
     fn default() -> Reliability {
         Reliability::Reliable
     }
@@ -87,6 +89,7 @@ impl Default for Priority {
 
     ghost is_default = { λ p. p ≡ Priority.Data };
 
+    /// `Data`, Zenoh's default.
     fn default() -> Priority {
         Priority::DEFAULT
     }
@@ -99,6 +102,7 @@ impl TryFrom<u8> for Priority {
 
     ghost try_from_gives = { IsPriorityOf };
 
+    /// The priority of this number in the Zenoh protocol. 0, its own `Control`, and what is above 7 are refused.
     fn try_from(number: u8) -> Result<Priority, BadPriority> {
         match number {
             1 => Ok(Priority::RealTime),

@@ -1,3 +1,4 @@
+//! What a query says of the replies that it takes.
 use std::marker::Model;
 use zs_wire::ConsolidationMode;
 
@@ -14,6 +15,7 @@ impl Default for ReplyKeyExpr {
 
     ghost is_default = { λ r. r ≡ ReplyKeyExpr.MatchingQuery };
 
+    /// Only replies on keys that the query's own key meets, Zenoh's default.
     fn default() -> ReplyKeyExpr {
         ReplyKeyExpr::MatchingQuery
     }
@@ -66,6 +68,7 @@ impl Default for QueryConsolidation {
 
     ghost is_default = { λ c. c ≡ ConsolidationMode.Auto };
 
+    /// The session chooses, as in Zenoh.
     fn default() -> QueryConsolidation {
         QueryConsolidation::DEFAULT
     }

@@ -1,3 +1,4 @@
+//! What a query is answered with: a sample or an error, and who sent it.
 ghost use Rattle.std.specs.Prelude.{◌≡◌, IfOk, Ok, Err, MatchResult};
 ghost use Rattle.std.specs.Result.{result_copied_mut};
 
@@ -15,6 +16,7 @@ pub struct Reply {
 }
 
 impl Drop for Reply {
+    /// Gives up what it brings. Bytes that copies share stay.
     fn drop(self) {
         let Reply { result, replier: _ } = self;
         drop(result);

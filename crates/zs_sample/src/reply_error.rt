@@ -1,3 +1,4 @@
+//! The error that a queryable answers with.
 ghost use Rattle.std.specs.Prelude.{◌≡◌, [], codes, IfOk};
 
 use crate::encoding::Encoding;
@@ -14,6 +15,7 @@ pub struct ReplyError {
 }
 
 impl Drop for ReplyError {
+    /// Gives up the payload and the encoding. Bytes that copies share stay.
     fn drop(self) {
         let ReplyError { payload, encoding } = self;
         drop(payload);
@@ -90,6 +92,7 @@ impl fmt::Display for ReplyError {
 
     ghost output = { λ e. Some (error_text e) };
 
+    /// Tells how many bytes the payload has and of what encoding it is. The bytes themselves are not shown.
     fn fmt<W: fmt::Write>(&self, f: &mut fmt::Formatter<W>) -> fmt::Result {
         write!(
             f,

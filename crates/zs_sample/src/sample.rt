@@ -1,3 +1,4 @@
+//! Samples, which subscribers are handed and replies bring.
 ghost use Rattle.std.specs.Prelude.{◌≡◌, IfOk};
 ghost use Rattle.std.specs.Option.{option_copied, option_copied_mut};
 
@@ -17,6 +18,7 @@ pub struct Sample {
 }
 
 impl Drop for Sample {
+    /// Gives up the fields. Bytes that copies share stay.
     fn drop(self) {
         let Sample { fields } = self;
         drop(fields);
@@ -50,7 +52,7 @@ impl Sample {
         fields
     }
 
-    /// The same sample. It shares the memory of its texts and bytes.
+    /// The same sample. It shares the memory of its texts and bytes; only a key that owns its text is copied.
     pub fn try_clone(&self, alloc: Global) -> Result<Sample, AllocError>
         ensures { IfOk result (λ copy. copy ≡ self.now) }
     {

@@ -1,3 +1,4 @@
+//! What a sample is made of, open to be read and moved.
 ghost use Rattle.std.specs.Prelude.{◌≡◌, IfOk};
 
 use crate::encoding::Encoding;

@@ -1,3 +1,4 @@
+//! Selectors: a key with parameters, as a query is given them.
 ghost use Rattle.std.specs.Prelude.{◌≡◌, ◌↔◌, IsTrue, IsOk, IfOk, IfErr};
 ghost use Rattle.zs_keys.specs.Key.{undeclared};
 ghost use Rattle.zs_keys.specs.Text.{is_canonical};

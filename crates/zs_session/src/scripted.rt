@@ -163,6 +163,7 @@ impl LineMachine for ScriptedSession {
 
     ghost closed = { λ run r h. Unit {0} };
 
+    /// Takes a line of a script, and adds what comes of it. False says that the line is none of a script.
     fn take(&mut self, line: &Line, transcript: &mut Transcript) -> Result<bool, AllocError> {
         let Some(event) = parse_event(self.alloc, line)? else {
             return Ok(false);
@@ -171,6 +172,7 @@ impl LineMachine for ScriptedSession {
         Ok(true)
     }
 
+    /// Takes the end of input, which closes the session, and adds what comes of that.
     fn end(&mut self, number: u64, transcript: &mut Transcript) -> Result<(), AllocError> {
         self.take_event(end_of_input(), number, transcript)
     }

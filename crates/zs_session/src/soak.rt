@@ -92,6 +92,7 @@ fn report(alloc: Global, soak: Soak) -> Result<String, AllocError>
     tally_text(alloc, tally)
 }
 
+/// The report of a run: a line for each of its four counts.
 fn tally_text(alloc: Global, tally: Tally) -> Result<String, AllocError>
     ensures { IfOk result (λ text. string_bytes text ≡ tally_text tally) }
 {

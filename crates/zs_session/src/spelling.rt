@@ -19,6 +19,7 @@ pub(crate) fn spell_aggregates(settings: &Settings)
     spell_keys(&settings.aggregated_publishers);
 }
 
+/// Looks at the text of each key of a list. All that comes of it is that these are known to be UTF-8.
 fn spell_keys(keys: &KeyList)
     ensures { AllByRecursion (λ key. IsUtf8 key.text) keys.now }
 {

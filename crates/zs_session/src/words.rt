@@ -160,12 +160,14 @@ fn is_setting(word: &str) -> bool
     gives_number(word) || gives_aggregate(word)
 }
 
+/// Whether a word begins with the name of a setting that is a number, and `=`.
 fn gives_number(word: &str) -> bool
     ensures { result ≡ gives_number word.now }
 {
     gives_start(word) || gives_limit(word)
 }
 
+/// Whether a word begins with the name of an identifier, a tag or the first number of a kind, and `=`.
 fn gives_start(word: &str) -> bool
     ensures { result ≡ gives_start word.now }
 {
@@ -176,6 +178,7 @@ fn gives_start(word: &str) -> bool
         || after_prefix(word, "query=").is_some()
 }
 
+/// Whether a word begins with the name of a limit and `=`: of how long a get or a line is, or of how many reads.
 fn gives_limit(word: &str) -> bool
     ensures { result ≡ gives_limit word.now }
 {
@@ -184,6 +187,7 @@ fn gives_limit(word: &str) -> bool
         || after_prefix(word, "turns=").is_some()
 }
 
+/// Whether a word begins with the name of an aggregate, of subscribers or of publishers, and `=`.
 fn gives_aggregate(word: &str) -> bool
     ensures { result ≡ gives_aggregate word.now }
 {

@@ -15,10 +15,12 @@ impl Handler<Item> for NoHandler {
 
     ghost evicts = { false };
 
+    /// Drops the item, and so takes it: none is ever given up.
     fn on<R: Wait>(&self, _rt: &R, _inside: &Inside, item: Item) -> Handled<Item, ()> {
         drop(item);
         Handled::Taken(())
     }
 
+    /// Does nothing at the end of the callback: it has kept no item.
     fn ended<R: Wait>(&self, _rt: &R, _drained: &Drained) {}
 }

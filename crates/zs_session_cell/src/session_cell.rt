@@ -36,6 +36,7 @@ pub struct SessionCell<H> {
 }
 
 impl<H: Drop> Drop for SessionCell<H> {
+    /// Lets go of what the session holds, the journal last.
     fn drop(self) {
         let SessionCell {
             settings,

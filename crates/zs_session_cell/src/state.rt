@@ -34,6 +34,7 @@ pub struct CellState<H> {
 }
 
 impl<H: Drop> Drop for CellState<H> {
+    /// Lets go of the core, and then of the handlers, gates and messages of the exchange.
     fn drop(self) {
         let CellState {
             alloc: _,

@@ -1,3 +1,4 @@
+//! A value that several hold at once, in one place in memory with a count of its holders.
 ghost use Rattle.std.specs.Prelude.{◌≡◌, IfOk};
 
 use std::alloc::{AllocError, Global};
@@ -12,6 +13,7 @@ pub struct Shared<T> {
 }
 
 impl<T: Drop> Drop for Shared<T> {
+    /// Gives up this holder. The value goes with the last one.
     fn drop(self) {
         let Shared { held } = self;
         drop(held);
@@ -62,6 +64,7 @@ impl<T: Drop> Shared<T> {
 }
 
 impl<T: fmt::Debug> fmt::Debug for Shared<T> {
+    /// Shows the value alone: nothing tells that it is shared.
     fn fmt<W: fmt::Write>(&self, f: &mut fmt::Formatter<W>) -> fmt::Result {
         let value: &T = &self.held;
         value.fmt(f)

@@ -9,6 +9,7 @@ use zs_events::KeyArg;
 use zs_sample::Text;
 use zs_wire::WireExpr;
 
+/// Looks at a text as UTF-8. Nothing comes of it but that it is known to be spelled with characters.
 fn spell_text(text: &Text)
     ensures { all_scalars text.now ≡ true }
 {

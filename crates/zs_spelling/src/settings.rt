@@ -14,6 +14,7 @@ pub fn spell_settings(settings: &Settings)
     spell_keys(&settings.aggregated_publishers);
 }
 
+/// Looks at each key of a list, whose text is then known to be UTF-8.
 fn spell_keys(keys: &KeyList)
     ensures { AllByRecursion (λ key. IsUtf8 key.text) keys.now }
 {

@@ -1,3 +1,4 @@
+//! What a store keeps at a key.
 use zs_bytes::ZBytes;
 use zs_wire::{SampleKind, Timestamp};
 

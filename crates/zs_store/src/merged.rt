@@ -1,3 +1,5 @@
+//! What a store answers to a write that is merged into it.
+
 /// What merging a write into a store did.
 #[derive(Clone, Copy, Debug, PartialEq, Eq)]
 pub enum Merged {

@@ -21,6 +21,8 @@ pub(crate) fn is_below(old: &Entry, new: &Entry, alloc: Global) -> Result<bool, 
     Ok(order.is_lt())
 }
 
+/// The order of two entries: by timestamp, then by kind, and last by the bytes of their payloads, which are looked at
+/// only where the others are the same.
 fn order(old: &Entry, new: &Entry, alloc: Global) -> Result<Ordering, AllocError>
     ensures { IfOk result (λ order. order ≡ entry_order (seen old.now) (seen new.now)) }
 {
@@ -38,6 +40,7 @@ fn order(old: &Entry, new: &Entry, alloc: Global) -> Result<Ordering, AllocError
     }
 }
 
+/// The order of two timestamps: by time, and of one time by the identifier of who gave it.
 fn time_order(old: &Timestamp, new: &Timestamp) -> Ordering
     ensures { result ≡ ordering_then (nat_cmp old.now.time new.now.time) (nat_cmp old.now.id new.now.id) }
 {
@@ -48,6 +51,7 @@ fn time_order(old: &Timestamp, new: &Timestamp) -> Ordering
     }
 }
 
+/// A put is below a deletion: of two writes with one timestamp the deletion stays.
 fn kind_order(old: SampleKind, new: SampleKind) -> Ordering
     ensures { result ≡ nat_cmp (kind_rank old) (kind_rank new) }
 {
@@ -59,6 +63,7 @@ fn kind_order(old: SampleKind, new: SampleKind) -> Ordering
     }
 }
 
+/// The order of two payloads by their bytes. One in more than one piece is joined first, which wants memory.
 fn payload_order(old: &ZBytes, new: &ZBytes, alloc: Global) -> Result<Ordering, AllocError>
     ensures { IfOk result (λ order. order ≡ slice_cmp nat_cmp (bytes_of old.now) (bytes_of new.now)) }
 {

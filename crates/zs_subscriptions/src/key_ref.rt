@@ -1,3 +1,4 @@
+//! How a publication names its key: by a declared number, or by its text.
 use zs_keys::KeyExpr;
 use zs_wire::Mapping;
 

@@ -41,6 +41,7 @@ fn reserve_at(rows: &mut Rows<NumberRow>, number: u32) -> Result<(), AllocError>
     reserve_one(row)
 }
 
+/// Makes room for one more id in a row's list. Where there is no memory for it, the list is as it was.
 fn reserve_one(row: &mut NumberRow) -> Result<(), AllocError>
     ensures same { shown row.new ≡ shown row.old }
     ensures room { OnOk result (HasRoom row.new) }
@@ -75,6 +76,7 @@ fn note_at(rows: &mut Rows<NumberRow>, number: u32, id: u32)
     note_one(row, id);
 }
 
+/// Puts an id at the end of a row's list. There is room for it, so that this can't fail.
 fn note_one(row: &mut NumberRow, id: u32)
     requires { HasRoom row.old }
     ensures { shown row.new ≡ joined id (shown row.old) }
@@ -109,6 +111,7 @@ fn forget_at(rows: &mut Rows<NumberRow>, number: u32, id: u32)
     forget_one(row, id);
 }
 
+/// Takes an id out of a row's list, if it is there.
 fn forget_one(row: &mut NumberRow, id: u32)
     requires { IsAscending row.old }
     ensures { shown row.new ≡ forgotten id (shown row.old) }
@@ -116,6 +119,7 @@ fn forget_one(row: &mut NumberRow, id: u32)
     leave_out(&mut row.matches, id);
 }
 
+/// Takes an id out of an ascending list, if it is there. The others stay in their order.
 fn leave_out(ids: &mut Vec<u32>, id: u32)
     requires { Ascend (λ id. id) ids.old.items }
     ensures { ids.new.items ≡ filter (λ other. not (other == id)) ids.old.items }
@@ -151,6 +155,7 @@ fn empty_at(rows: &mut Rows<NumberRow>, number: u32)
     empty(row);
 }
 
+/// Empties a row's list. Its number goes on standing for its key.
 fn empty(row: &mut NumberRow)
     ensures { shown row.new ≡ emptied (shown row.old) }
 {

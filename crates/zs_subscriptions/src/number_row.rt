@@ -1,3 +1,4 @@
+//! What is kept of a declared number.
 use zs_keys::KeyExpr;
 
 /// A declared number with its key, and the ids of all subscribers whose key has a key in common with it.

@@ -1,3 +1,4 @@
+//! What is kept of a subscriber.
 use zs_keyed::Keyed;
 use zs_keys::KeyExpr;
 use zs_sample::Locality;
@@ -12,6 +13,7 @@ pub struct SubRow {
 }
 
 impl Drop for SubRow {
+    /// Lets go of the memory of its key.
     fn drop(self) {
         let SubRow {
             id: _,
@@ -27,10 +29,12 @@ impl Keyed for SubRow {
 
     ghost text = { λ row. row.key.text };
 
+    /// Its entity number, by which the rows ascend.
     fn number(&self) -> u32 {
         self.id
     }
 
+    /// The key that it was declared on, by which the tree finds it.
     fn key(&self) -> &KeyExpr<'static> {
         &self.key
     }

@@ -1,3 +1,4 @@
+//! The tables of subscribers and of declared numbers, with the lists of subscribers that the numbers keep.
 ghost use Rattle.std.specs.Prelude.{◌≡◌, ℕ, ◌+◌, ◌<◌, ◌==◌, ◌++◌, [], ◌∷◌, true, All, MatchBool, nat_lt, length, map, not, filter, IsSome, OnOk, OnErr};
 ghost use Rattle.std.specs.List.{find, list_any};
 ghost use Rattle.std.specs.Map.Iter.{ShowsInOrder, deref_pair};

@@ -40,6 +40,7 @@ pub(crate) fn join_text(
     Ok(())
 }
 
+/// A list of one number, for a text that none stood for.
 fn one_number(alloc: Global, number: u16) -> Result<Vec<u16>, AllocError>
     ensures { IfOk result (λ numbers. numbers.items ≡ number ∷ []) }
 {
@@ -48,6 +49,7 @@ fn one_number(alloc: Global, number: u16) -> Result<Vec<u16>, AllocError>
     Ok(numbers)
 }
 
+/// Puts a number into an ascending list, where it belongs. If it is there already, nothing changes.
 fn put_number(numbers: &mut Vec<u16>, number: u16) -> Result<(), AllocError>
     requires { Ascend (λ n. n) numbers.old.items }
     ensures ok { OnOk result (numbers.new.items ≡ placed_by (λ n. n) number numbers.old.items) }
@@ -82,6 +84,7 @@ fn take_from(texts: &mut Texts, text: &str, number: u16) -> bool
     numbers.is_empty()
 }
 
+/// Takes a number out of an ascending list, if it is there.
 fn take_number(numbers: &mut Vec<u16>, number: u16)
     requires { Ascend (λ n. n) numbers.old.items }
     ensures { numbers.new.items ≡ filter (λ other. not (other == number)) numbers.old.items }

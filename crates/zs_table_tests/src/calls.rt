@@ -59,12 +59,14 @@ fn holds(alloc: Global, case: &Case, wild: KeyExpr<'static>, key: KeyExpr<'stati
     }
 }
 
+/// Whether a case holds by `a/*` and `a/b`.
 fn works(alloc: Global, case: &Case) -> Result<bool, KeyError> {
     let wild = KeyExpr::new("a/*")?;
     let key = KeyExpr::new("a/b")?;
     Ok(holds(alloc, case, wild, key))
 }
 
+/// The worked case of each table holds while memory is there.
 #[test]
 fn calls_succeed(rt: HostRuntime) {
     for (case, name) in &CASES {

@@ -31,6 +31,7 @@ pub fn row(key: KeyExpr<'static>, mode: ConsolidationMode) -> GetRow
     }
 }
 
+/// A put on that key as a reply, with a timestamp, and without the id of who replies.
 fn reply(key_expr: KeyExpr<'static>) -> Reply
     ensures { IsOk result.result }
 {
@@ -80,6 +81,7 @@ pub fn end(alloc: Global, wild: KeyExpr<'static>, key: KeyExpr<'static>) -> bool
     opened && kept == '+' && fails_and_ends(&mut gets)
 }
 
+/// Whether get 0 alone was found, and there was memory for the list.
 fn is_number(found: Result<Vec<u32>, AllocError>) -> bool {
     match found {
         Ok(found) => found.as_slice() == [0].as_slice(),

@@ -29,6 +29,7 @@ fn get(key: KeyExpr<'static>, token: u32, deadline: u64) -> LivelinessGet {
     }
 }
 
+/// Whether get 7 alone was found, and there was memory for the list.
 fn is_seven(found: Result<Vec<u32>, AllocError>) -> bool {
     match found {
         Ok(found) => found.as_slice() == [7].as_slice(),
@@ -48,6 +49,7 @@ pub fn ask(alloc: Global, wild: KeyExpr<'static>, key: KeyExpr<'static>) -> bool
         && is_seven(gets.over_at(alloc, 9))
 }
 
+/// Whether one token alone has a key that meets this one.
 fn is_met(tokens: &RemoteTokens, key: &KeyExpr<'_>) -> bool {
     match tokens.met_keys(key) {
         Ok(keys) => keys.len() == 1,

@@ -19,6 +19,7 @@ pub fn declare(alloc: Global, wild: KeyExpr<'static>, key: KeyExpr<'static>) -> 
     first.is_ok() && second.is_ok() && told.sub_count() == 1
 }
 
+/// Listener 3 to the matching of publisher or querier 2, wherever those that it seeks are.
 fn listener(sought: Sought, key: KeyExpr<'static>) -> ListenerRow {
     ListenerRow {
         id: 3,
@@ -41,6 +42,7 @@ fn is_counted(alloc: Global, told: &RemoteTable, row: &ListenerRow) -> bool {
     present.count(alloc, row) == Ok(1)
 }
 
+/// Whether a subscriber that the other side declared counts for a publisher's listener.
 pub fn count_subscribers(alloc: Global, wild: KeyExpr<'static>, key: KeyExpr<'static>) -> bool {
     let mut told = RemoteTable::new(alloc);
     let set = told.set_sub(RemoteSubscriber {
@@ -51,6 +53,7 @@ pub fn count_subscribers(alloc: Global, wild: KeyExpr<'static>, key: KeyExpr<'st
     set.is_ok() && is_counted(alloc, &told, &row)
 }
 
+/// Whether a complete queryable that the other side declared counts for a querier that wants complete ones.
 pub fn count_queryables(alloc: Global, wild: KeyExpr<'static>, key: KeyExpr<'static>) -> bool {
     let mut told = RemoteTable::new(alloc);
     let set = told.set_queryable(RemoteQueryable {
@@ -70,6 +73,7 @@ fn hears(table: &ListenerTable, row: &SubRow) -> bool {
     }
 }
 
+/// Whether a new listener that nobody matches hears of the first subscriber that does.
 pub fn hear(alloc: Global, wild: KeyExpr<'static>, key: KeyExpr<'static>) -> bool {
     let mut table = ListenerTable::new(alloc);
     let added = table.add(listener(Sought::Subscribers, wild), 0).is_ok();

@@ -18,6 +18,7 @@ static SAMPLES: [(SampleKind, &str); 7] = [
     (SampleKind::Put, "a1"),
 ];
 
+/// A sample of that kind on that key, with no payload and all else by default.
 fn sample(kind: SampleKind, key_expr: KeyExpr<'static>) -> Sample {
     Sample::from_fields(SampleFields {
         key_expr,
@@ -34,12 +35,14 @@ fn sample(kind: SampleKind, key_expr: KeyExpr<'static>) -> Sample {
     })
 }
 
+/// Shows a view a sample of that kind; an error is a text that is no key, or want of memory.
 fn take(view: &mut View, kind: SampleKind, text: &'static str) -> Result<(), KeyError> {
     let key = KeyExpr::new(text)?;
     let sample = sample(kind, key);
     Ok(view.take(&sample)?)
 }
 
+/// Shows a view all samples, up to the first that it has no memory for.
 fn take_all(view: &mut View) -> Result<(), KeyError> {
     for (kind, text) in &SAMPLES {
         take(view, *kind, text)?;
@@ -63,11 +66,13 @@ fn copies(view: &View) -> Result<bool, AllocError> {
     Ok(shows(&copy, 2) && shows(view, 1))
 }
 
+/// Whether one name alone is there once after all samples, and a copy goes its own way.
 fn names_are_right(alloc: Global) -> bool {
     let mut view = View::new(alloc);
     take_all(&mut view).is_ok() && copies(&view) == Ok(true)
 }
 
+/// A count stops at none where a name leaves too often, and keys that are no names aren't counted.
 #[test]
 fn names_are_counted(rt: HostRuntime) {
     assert!(rt; names_are_right(rt.alloc()));

@@ -43,6 +43,7 @@ pub fn hand(alloc: Global, wild: KeyExpr<'static>, key: KeyExpr<'static>) -> boo
     asked.is_ok() && is_shared(&mut requests)
 }
 
+/// Whether a query can be copied while memory is there.
 fn is_copied(alloc: Global, query: &QueryData) -> bool {
     match query.try_clone(alloc) {
         Ok(copy) => {

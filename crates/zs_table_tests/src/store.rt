@@ -16,6 +16,7 @@ static WRITES: [(SampleKind, &[u8], u64, Merged); 6] = [
     (SampleKind::Put, b"c", 4, Merged::Kept),
 ];
 
+/// Merges what is written at a key: whether that does what it is said to do.
 fn merge(
     alloc: Global,
     store: &mut Store,
@@ -42,6 +43,7 @@ fn first_wrong(alloc: Global, store: &mut Store) -> Result<Option<usize>, KeyErr
     Ok(None)
 }
 
+/// An older entry changes nothing; of one timestamp the greater payload stands, and a deletion over a put.
 #[test]
 fn newest_entries_stand(rt: HostRuntime) {
     let mut store = Store::new(rt.alloc());

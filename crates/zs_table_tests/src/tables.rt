@@ -30,6 +30,7 @@ fn reaches<L: Ledger>(
     by_key.is_ok() && by_number.is_ok() && found.as_slice() == [2].as_slice()
 }
 
+/// Whether subscriber 2 is reached by number 7 of the other side, and by the key that it stands for.
 fn reaches_by_number(alloc: Global, tables: &Tables) -> bool {
     let mut found = Vec::new(alloc);
     match tables.key_of(Mapping::Sender, 7) {
@@ -41,6 +42,7 @@ fn reaches_by_number(alloc: Global, tables: &Tables) -> bool {
 /// Numbers of this session: two of one text, and then another text for the first one.
 static NUMBERS: [(u16, &str); 3] = [(5, "a/b"), (6, "a/b"), (5, "a/c")];
 
+/// Declares the numbers of this session in turn; an error is a text that is no key, or want of memory.
 fn declare(tables: &mut Tables) -> Result<(), KeyError> {
     for (number, text) in &NUMBERS {
         let key = KeyExpr::new(text)?;

@@ -54,6 +54,7 @@ fn are_those(table: &QueryableTable, asked: &KeyExpr<'_>, found: &[u32]) -> bool
     true
 }
 
+/// Whether the table finds those queryables that a test of each key by itself finds.
 fn finds_the_same(
     alloc: Global,
     table: &QueryableTable,
@@ -76,6 +77,7 @@ fn wrong_of_fifty(alloc: Global, table: &QueryableTable, seed: &mut u32) -> Resu
     Ok(wrong)
 }
 
+/// How many of fifty keys a table of 600 queryables on random keys answers wrongly; the seed is fixed.
 fn wrong(alloc: Global) -> Result<u32, KeyError> {
     let mut seed = 1;
     let mut table = QueryableTable::new(alloc);
@@ -83,6 +85,7 @@ fn wrong(alloc: Global) -> Result<u32, KeyError> {
     wrong_of_fifty(alloc, &table, &mut seed)
 }
 
+/// The tree finds for each random key what a test of each row's key finds.
 #[test]
 fn random_keys_meet_by_the_tree_as_by_themselves(rt: HostRuntime) {
     assert!(rt; wrong(rt.alloc()) == Ok(0));

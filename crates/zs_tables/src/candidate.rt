@@ -1,3 +1,4 @@
+//! Whom a listener may listen for, and whether it does.
 ghost use Rattle.std.specs.Prelude.{◌≡◌};
 ghost use Rattle.zs_tables.specs.Matching.{own_sub, own_queryable, remote_subscriber, remote_queryable, seen, is_sought, suits};
 

@@ -1,3 +1,4 @@
+//! Listeners to matching: what each listens for, and how many match it.
 use zs_keyed::{Counted, Keyed};
 use zs_keys::KeyExpr;
 use zs_sample::Locality;
@@ -27,6 +28,7 @@ pub struct ListenerRow {
 }
 
 impl Drop for ListenerRow {
+    /// Lets go of the memory of its key.
     fn drop(self) {
         let ListenerRow {
             id: _,
@@ -51,10 +53,12 @@ impl Keyed for Listener {
 
     ghost text = { λ l. l.row.key.text };
 
+    /// Its entity number, by which the rows ascend.
     fn number(&self) -> u32 {
         self.row.id
     }
 
+    /// The key of its publisher or querier, by which the tree finds it.
     fn key(&self) -> &KeyExpr<'static> {
         &self.row.key
     }
@@ -63,6 +67,7 @@ impl Keyed for Listener {
 impl Counted for Listener {
     ghost counted = { λ n l. record l { count = n } };
 
+    /// Sets how many match it.
     fn set_count(&mut self, count: usize) {
         self.count = count;
     }

@@ -1,3 +1,4 @@
+//! The table of the live listeners, and what becomes of their counts where someone comes or goes.
 ghost use Rattle.std.specs.Prelude.{◌≡◌, ℕ, ◌<◌, ◌==◌, ◌&&◌, ◌+◌, ◌-◌, ◌++◌, [], ◌∷◌, true, false, All, map, not, filter, length, Some, MatchOption, IfSome, IfOk, OnOk, OnErr, if◌then◌else◌};
 ghost use Rattle.std.specs.List.{find, list_any};
 ghost use Rattle.std.specs.Map.Iter.{ShowsInOrder, deref_pair};

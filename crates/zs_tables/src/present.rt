@@ -1,3 +1,4 @@
+//! All whom a listener may listen for at a moment, and how many of them match one.
 ghost use Rattle.std.specs.Prelude.{◌≡◌, ◌<◌, length, IfOk, OnOk};
 ghost use Rattle.zs_tables.specs.Matching.{candidates, count_of};
 ghost use Rattle.zs_tables.specs.Present.{own_count, remote_count, own_sought, remote_sought};

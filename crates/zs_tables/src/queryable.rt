@@ -1,3 +1,4 @@
+//! What is kept of a queryable of this session.
 use zs_keyed::Keyed;
 use zs_keys::KeyExpr;
 use zs_sample::Locality;
@@ -14,6 +15,7 @@ pub struct QueryableRow {
 }
 
 impl Drop for QueryableRow {
+    /// Lets go of the memory of its key.
     fn drop(self) {
         let QueryableRow {
             id: _,
@@ -30,10 +32,12 @@ impl Keyed for QueryableRow {
 
     ghost text = { λ row. row.key.text };
 
+    /// Its entity number, by which the rows ascend.
     fn number(&self) -> u32 {
         self.id
     }
 
+    /// The key that it was declared on, by which the tree finds it.
     fn key(&self) -> &KeyExpr<'static> {
         &self.key
     }

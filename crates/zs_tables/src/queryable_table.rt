@@ -1,3 +1,4 @@
+//! The table of this session's live queryables, and which of them answer for a key.
 ghost use Rattle.std.specs.Prelude.{◌≡◌, ℕ, ◌<◌, ◌==◌, ◌++◌, [], ◌∷◌, true, All, MatchBool, nat_lt, length, map, not, filter, OnOk, OnErr};
 ghost use Rattle.std.specs.List.{find, list_any};
 ghost use Rattle.std.specs.Map.Iter.{ShowsInOrder, deref_pair};

@@ -1,3 +1,4 @@
+//! The change of the count of a listener.
 ghost use Rattle.std.specs.Prelude.{◌≡◌};
 ghost use Rattle.zs_tables.specs.Matching.{is_heard};
 

@@ -1,3 +1,4 @@
+//! What is kept of the subscribers and queryables that the other side declared.
 use zs_keyed::Keyed;
 use zs_keys::KeyExpr;
 
@@ -9,6 +10,7 @@ pub struct RemoteSubscriber {
 }
 
 impl Drop for RemoteSubscriber {
+    /// Lets go of the memory of its key.
     fn drop(self) {
         let RemoteSubscriber { number: _, key } = self;
         drop(key);
@@ -25,6 +27,7 @@ pub struct RemoteQueryable {
 }
 
 impl Drop for RemoteQueryable {
+    /// Lets go of the memory of its key.
     fn drop(self) {
         let RemoteQueryable {
             number: _,
@@ -40,10 +43,12 @@ impl Keyed for RemoteSubscriber {
 
     ghost text = { λ row. row.key.text };
 
+    /// The number that the other side gave it, by which the rows ascend.
     fn number(&self) -> u32 {
         self.number
     }
 
+    /// The key that the other side declared it on, by which the tree finds it.
     fn key(&self) -> &KeyExpr<'static> {
         &self.key
     }
@@ -54,10 +59,12 @@ impl Keyed for RemoteQueryable {
 
     ghost text = { λ row. row.key.text };
 
+    /// The number that the other side gave it, by which the rows ascend.
     fn number(&self) -> u32 {
         self.number
     }
 
+    /// The key that the other side declared it on, by which the tree finds it.
     fn key(&self) -> &KeyExpr<'static> {
         &self.key
     }

@@ -1,3 +1,4 @@
+//! The table of the subscribers and queryables that the other side declared.
 ghost use Rattle.std.specs.Prelude.{◌≡◌, ◌==◌, [], length, map, not, filter, OnOk, OnErr};
 ghost use Rattle.std.specs.List.{find, list_any};
 ghost use Rattle.std.specs.Option.{option_copied};

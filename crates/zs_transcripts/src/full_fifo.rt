@@ -101,6 +101,7 @@ fn loses_nothing(alloc: Global) -> Result<bool, AllocError> {
     Ok(stop.is_none() && is_all(alloc, sink.bytes())?)
 }
 
+/// All 301 items that a full fifo was handed are read behind the subscriber's end, in their order.
 #[test]
 fn full_fifo_loses_nothing(rt: HostRuntime) -> Result<(), Fail> {
     assert!(rt; loses_nothing(rt.alloc())?);

@@ -49,6 +49,7 @@ fn stops_at(alloc: Global, line: &[u8], before: u64, printed: &str) -> Result<bo
     Ok(is_told && stop == Some(DriveError::BadLine(before.saturating_add(1))))
 }
 
+/// Each hostile line ends a run as a bad line, by its number, behind 0, 1 and 2 good ones.
 #[test]
 fn hostile_lines(rt: HostRuntime) -> Result<(), Fail> {
     for line in &HOSTILE {

@@ -11,6 +11,8 @@ mod hostile;
 #[cfg(test)]
 mod lines;
 #[cfg(test)]
+mod pieces;
+#[cfg(test)]
 mod session;
 #[cfg(test)]
 mod spelling;

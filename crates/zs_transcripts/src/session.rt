@@ -12,6 +12,7 @@ use zs_session::{DriveError, KeyList, Settings, StdSink, StdSource, settings_of}
 struct Once(bool);
 
 impl Read for Once {
+    /// Gives a line feed once, where there is room for it, and an error else.
     fn read(&mut self, into: &mut [u8]) -> io::Result<usize> {
         if self.0 || into.is_empty() {
             return Err(io::Error::from(io::ErrorKind::Other));
@@ -23,6 +24,7 @@ impl Read for Once {
 }
 
 impl Write for Once {
+    /// Takes one byte once, of a piece that has any, and fails else.
     fn write(&mut self, piece: &[u8]) -> io::Result<usize> {
         if self.0 || piece.is_empty() {
             return Err(io::Error::from(io::ErrorKind::Other));
@@ -31,6 +33,7 @@ impl Write for Once {
         Ok(1)
     }
 
+    /// Nothing is held back, so that nothing fails here.
     fn flush(&mut self) -> io::Result<()> {
         Ok(())
     }
@@ -50,6 +53,7 @@ fn writes_once() -> bool {
     sink.write(b"ab").ok() == Some(1) && sink.write(b"b").is_err()
 }
 
+/// A source and a sink over `std` streams pass what came before an error, and then the error.
 #[test]
 fn std_readers_and_writers_fail_in_mid_stream(rt: HostRuntime) -> Result<(), Fail> {
     assert!(rt; reads_once(), "of a reader");
@@ -63,6 +67,7 @@ fn is_named(alloc: Global, error: DriveError, name: &str) -> Result<bool, AllocE
     Ok(text.as_str() == name)
 }
 
+/// Each error is displayed by its name, with the number of the line that it is of, if any.
 #[test]
 fn errors_are_named_as_in_the_complaints(rt: HostRuntime) -> Result<(), Fail> {
     let names = [
@@ -129,6 +134,7 @@ fn are_defaults(alloc: Global, line: &str) -> Result<bool, AllocError> {
     are_given(alloc, line, &settings)
 }
 
+/// The word `drive` alone gives the default settings, and so do no words.
 #[test]
 fn settings_are_the_default_ones(rt: HostRuntime) -> Result<(), Fail> {
     assert!(rt; are_defaults(rt.alloc(), "drive")?);
@@ -136,6 +142,7 @@ fn settings_are_the_default_ones(rt: HostRuntime) -> Result<(), Fail> {
     Ok(())
 }
 
+/// The greatest value of each setting that is a number is taken.
 #[test]
 fn settings_are_the_greatest(rt: HostRuntime) -> Result<(), Fail> {
     let line = "drive turns=18446744073709551615 key=65535 zid=ffffffffffffffffffffffffffffffff \
@@ -173,6 +180,7 @@ fn ordered(alloc: Global) -> Result<Settings, Fail> {
     Ok(aggregating(subscribers, publishers))
 }
 
+/// Aggregates keep their order and their doubles, and digits of an id may be in upper case.
 #[test]
 fn settings_keep_the_order_of_aggregates(rt: HostRuntime) -> Result<(), Fail> {
     let line = "drive aggsub=a/** zid=aB aggpub=** aggsub=a aggsub=a/**";

@@ -97,6 +97,7 @@ impl Stop {
     }
 }
 
+/// Each script stops the run with its error, behind what the lines before have printed.
 #[test]
 fn stops_are_named(rt: HostRuntime) -> Result<(), Fail> {
     for stop in &STOPS {

@@ -5,13 +5,12 @@ ghost use Rattle.std.specs.Prelude.{◌<◌};
 
 use crate::spelling::spell;
 use crate::streams::Streams;
-pub(crate) use all_kinds::{ALL_KINDS, WORDS};
 pub(crate) use home::HOME;
+pub(crate) use many_kinds::{MANY_KINDS, WORDS};
 use std::alloc::{AllocError, Global};
 use std::process::Abort;
 use std::test::Fail;
 
-mod all_kinds;
 mod cancelling;
 mod channels;
 mod closing;
@@ -20,6 +19,7 @@ mod gets;
 mod home;
 mod links;
 mod liveliness;
+mod many_kinds;
 mod matching;
 mod network;
 mod publishers;

@@ -104,6 +104,7 @@ fn are_refused(alloc: Global, line: &str) -> Result<bool, AllocError> {
     Ok(refuses && is_unread(&mut streams.source))
 }
 
+/// Each of these words is refused with status 2, before anything is read or printed.
 #[test]
 fn bad_words_read_and_write_nothing(rt: HostRuntime) -> Result<(), Fail> {
     for line in &BAD_WORDS {
@@ -313,6 +314,7 @@ fn is_soaked(alloc: Global) -> Result<bool, AllocError> {
     Ok(status == 0 && streams.have_told("", SOAKED.as_bytes()))
 }
 
+/// A soak of one seed prints the same counts each time, and reads nothing.
 #[test]
 fn soak_prints_the_same_twice(rt: HostRuntime) -> Result<(), Fail> {
     for time in 1..=2 {
@@ -337,6 +339,7 @@ impl Run {
     }
 }
 
+/// Each run has the status, the complaint and the output that belong to its words and script.
 #[test]
 fn statuses_and_complaints(rt: HostRuntime) -> Result<(), Fail> {
     for case in &RUNS {
@@ -354,6 +357,7 @@ fn is_default(alloc: Global) -> Result<bool, AllocError> {
     Ok(status == 0 && is_spelled(alloc, streams.output.bytes(), FIRST_TEXT)?)
 }
 
+/// A run with no words is one of `drive` with the default settings.
 #[test]
 fn no_words_are_the_defaults(rt: HostRuntime) -> Result<(), Fail> {
     assert!(rt; is_default(rt.alloc())?);

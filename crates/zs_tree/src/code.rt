@@ -53,6 +53,7 @@ pub(crate) fn code_of(alloc: Global, text: &str) -> Result<Vec<u8>, AllocError>
     Ok(code)
 }
 
+/// Puts a chunk behind a code: its mark, its bytes and a `/`. Without memory a part of it may stand there.
 fn push_chunk(code: &mut Vec<u8>, chunk: &str) -> Result<(), AllocError>
     ensures { OnOk result (code.new.items ≡ code.old.items ++ onto_chunk (mark_of chunk.now) chunk.now []) }
 {

@@ -18,6 +18,7 @@ pub(crate) struct Entry {
 impl Entry {
     ghost use Rattle.zs_tree.specs.Entries.{row_of};
 
+    /// An entry with this number, a copy of the key and its code. It fails for want of memory alone.
     pub(crate) fn new(alloc: Global, id: u32, text: &str) -> Result<Entry, AllocError>
         ensures { IfOk result (λ entry. row_of entry ≡ record { id = id; text = text.now }) }
     {

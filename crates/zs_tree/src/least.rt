@@ -46,6 +46,7 @@ fn first_of_run(run: &[Entry], after: Option<u32>) -> Option<u32>
     first_id(&run[at..])
 }
 
+/// The number of the first entry of a run. `None` where the run is empty.
 fn first_id(run: &[Entry]) -> Option<u32>
     ensures { result ≡ first_above None (map (λ e. e.id) run.now) }
 {

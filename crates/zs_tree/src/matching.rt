@@ -29,6 +29,7 @@ pub(crate) fn push_hits(
     Ok(())
 }
 
+/// Puts the numbers of a run behind what the list holds: all of them or, without memory, none.
 fn push_ids(run: &[Entry], into: &mut Vec<u32>) -> Result<(), AllocError>
     ensures ok { OnOk result (into.new.items ≡ into.old.items ++ map (λ e. e.id) run.now) }
     ensures err { OnErr result (into.new.items ≡ into.old.items) }

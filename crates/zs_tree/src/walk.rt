@@ -51,6 +51,7 @@ pub(crate) fn walk<'a>(asked: &'a str, stored: &'a Entry) -> Answer<'a>
     }
 }
 
+/// The place before the first chunks of both keys, where no wild chunk is passed yet.
 fn start<'a>(asked: &'a str, stored: &'a Entry) -> Place<'a>
     ensures { IsLed asked.now stored.now result }
 {

@@ -23,6 +23,7 @@ pub struct Query {
 }
 
 impl Drop for Query {
+    /// Lets go of the memory of its fields. The asker is told nothing, and goes on waiting.
     fn drop(self) {
         let Query {
             fields,

@@ -14,6 +14,7 @@ use crate::parts::{
 use crate::symbols::{type_bytes, type_some_bytes, type_text};
 use zs_wire::{Answered, Body, Message, Push, Request, Response, WireExpr};
 
+/// Looks at what a push or a reply brings.
 fn type_body(body: &Body)
     ensures payload { are_bytes body.now.payload ≡ true }
     ensures encoding { all_scalars body.now.encoding ≡ true }
@@ -28,6 +29,7 @@ fn type_body(body: &Body)
     type_some_bytes(&body.attachment);
 }
 
+/// Looks at a push: its key, and what it brings.
 #[tactic(auto, unfolding(zs_event_lines::specs::Sayable::is_typed))]
 fn type_push(push: &Push)
     ensures { are_typed (net_line (push_line push.now.body.kind push.now)) ≡ true }
@@ -36,6 +38,7 @@ fn type_push(push: &Push)
     type_body(&push.body);
 }
 
+/// Looks at a request, which always has a timeout.
 #[tactic(auto, unfolding(zs_event_lines::specs::Sayable::is_typed))]
 fn type_request(request: &Request)
     ensures { are_typed (net_line (message_line (Message.Request request.now))) ≡ true }
@@ -49,6 +52,7 @@ fn type_request(request: &Request)
     type_some_bytes(&request.attachment);
 }
 
+/// Looks at a response, with the reply or the error in it.
 #[tactic(auto, unfolding(zs_event_lines::specs::Sayable::is_typed))]
 fn type_response(response: &Response)
     ensures { are_typed (net_line (answered_line response.now.answered response.now)) ≡ true }

@@ -16,6 +16,7 @@ pub(crate) fn type_key_number(number: u16)
     let _ = number;
 }
 
+/// Looks at a key, in whichever way an event names it.
 pub(crate) fn type_key(key: &KeyArg)
     ensures { is_key key.now ≡ true }
 {
@@ -29,6 +30,7 @@ pub(crate) fn type_key(key: &KeyArg)
     }
 }
 
+/// Looks at a wire expression: its number, and the text behind that.
 pub(crate) fn type_wire(wire: &WireExpr)
     ensures { is_wire wire.now ≡ true }
 {
@@ -36,6 +38,7 @@ pub(crate) fn type_wire(wire: &WireExpr)
     type_text(&wire.suffix);
 }
 
+/// Looks at a wire expression, if there is one.
 pub(crate) fn type_some_wire(wire: &Option<WireExpr>)
     ensures { if_there is_wire wire.now ≡ true }
 {
@@ -44,12 +47,14 @@ pub(crate) fn type_some_wire(wire: &Option<WireExpr>)
     }
 }
 
+/// Looks at a number of 32 bits, such as that of an entity or of a request.
 pub(crate) fn type_number(number: u32)
     ensures { nat_le number u32_max ≡ true }
 {
     let _ = number;
 }
 
+/// Looks at such a number, if there is one.
 pub(crate) fn type_some_number(number: Option<u32>)
     ensures { if_there (λ n. nat_le n u32_max) number ≡ true }
 {
@@ -58,30 +63,35 @@ pub(crate) fn type_some_number(number: Option<u32>)
     }
 }
 
+/// Looks at a number of 64 bits: a moment, in milliseconds.
 pub(crate) fn type_moment(moment: u64)
     ensures { nat_le moment u64_max ≡ true }
 {
     let _ = moment;
 }
 
+/// Looks at a span of time, if there is one.
 pub(crate) fn type_some_moment(moment: Option<u64>)
     ensures { if_there (λ n. nat_le n u64_max) moment ≡ true }
 {
     let _ = moment;
 }
 
+/// Looks at a timestamp, if there is one.
 pub(crate) fn type_timestamp(timestamp: Option<Timestamp>)
     ensures { if_there is_timestamp timestamp ≡ true }
 {
     let _ = timestamp;
 }
 
+/// Looks at the global id of an entity.
 pub(crate) fn type_entity(entity: EntityGlobalId)
     ensures { is_entity entity ≡ true }
 {
     let _ = entity;
 }
 
+/// Looks at the global id of an entity, if there is one.
 pub(crate) fn type_some_entity(entity: Option<EntityGlobalId>)
     ensures { if_there is_entity entity ≡ true }
 {
@@ -90,6 +100,7 @@ pub(crate) fn type_some_entity(entity: Option<EntityGlobalId>)
     }
 }
 
+/// Looks at a source, if there is one: an entity, and a sequence number.
 pub(crate) fn type_source(source: Option<SourceInfo>)
     ensures { if_there is_source source ≡ true }
 {
@@ -99,6 +110,7 @@ pub(crate) fn type_source(source: Option<SourceInfo>)
     }
 }
 
+/// Looks at a value: its payload, and the encoding of that.
 pub(crate) fn type_value(value: &Value)
     ensures payload { are_bytes value.now.payload ≡ true }
     ensures encoding { all_scalars value.now.encoding ≡ true }
@@ -107,6 +119,7 @@ pub(crate) fn type_value(value: &Value)
     type_text(&value.encoding);
 }
 
+/// Looks at a value, if there is one.
 pub(crate) fn type_some_value(value: &Option<Value>)
     ensures { if_there (λ w. are_bytes w.payload && all_scalars w.encoding) value.now ≡ true }
 {
@@ -115,6 +128,7 @@ pub(crate) fn type_some_value(value: &Option<Value>)
     }
 }
 
+/// Looks at a put's payload and encoding. A deletion has neither.
 fn type_body(body: &PushBody)
     ensures { is_body body.now ≡ true }
 {
@@ -127,6 +141,7 @@ fn type_body(body: &PushBody)
     }
 }
 
+/// Looks at a put or a deletion, with its options.
 pub(crate) fn type_update(update: &Update)
     ensures body { is_body update.now.body ≡ true }
     ensures timestamp { if_there is_timestamp update.now.timestamp ≡ true }
@@ -139,6 +154,7 @@ pub(crate) fn type_update(update: &Update)
     type_some_bytes(&update.attachment);
 }
 
+/// Looks at what a get asks beside its key.
 pub(crate) fn type_inquiry(inquiry: &Inquiry)
     ensures parameters { all_scalars inquiry.now.parameters ≡ true }
     ensures value { if_there (λ w. are_bytes w.payload && all_scalars w.encoding) inquiry.now.value ≡ true }

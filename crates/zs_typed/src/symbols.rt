@@ -23,12 +23,14 @@ pub(crate) fn type_some_text(text: &Option<Text>)
     }
 }
 
+/// Looks at one byte of a payload.
 fn type_byte(byte: u8)
     ensures { nat_lt byte 256 ≡ true }
 {
     let _ = byte;
 }
 
+/// Looks at each byte of one slice of a payload.
 fn type_slice(bytes: &[u8])
     ensures { AllByRecursion (λ b. nat_lt b 256 ≡ true) bytes.now }
 {

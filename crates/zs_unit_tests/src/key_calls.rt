@@ -11,6 +11,7 @@ struct Run {
     end: &'static str,
 }
 
+/// The key of such a text; an error is a text that is no key, or want of memory.
 fn repeated(alloc: Global, run: &Run) -> Result<KeyExpr<'static>, KeyError> {
     let mut whole = String::from_str(alloc, run.start)?;
     for _ in 0..run.times {
@@ -71,12 +72,14 @@ static PAIRS: [(Run, Run, bool); 5] = [
     (BEHIND_A_RUN, PLAIN, false),
 ];
 
+/// Whether two long keys have a key in common.
 fn meet(alloc: Global, left: &Run, right: &Run) -> Result<bool, KeyError> {
     let left = repeated(alloc, left)?;
     let right = repeated(alloc, right)?;
     Ok(left.meets(&right))
 }
 
+/// Long keys of wild chunks are told to meet or not, where a careless search would go on for ever.
 #[test]
 fn hostile_keys(rt: HostRuntime) {
     for (left, right, answer) in &PAIRS {
@@ -84,6 +87,7 @@ fn hostile_keys(rt: HostRuntime) {
     }
 }
 
+/// Whether a key gives the text `a/b` up.
 fn gives_its_text(alloc: Global, key: KeyExpr<'static>) -> bool {
     match key.into_string(alloc) {
         Ok(text) => text.as_str() == "a/b",
@@ -100,6 +104,7 @@ fn share_a_text(alloc: Global) -> Result<bool, KeyError> {
     Ok(first && second)
 }
 
+/// A key gives its text up whether another one shares it or not.
 #[test]
 fn shared_texts(rt: HostRuntime) {
     assert!(rt; share_a_text(rt.alloc()) == Ok(true));
@@ -114,6 +119,7 @@ static ERRORS: [(KeyError, &str); 3] = [
     (KeyError::NoMemory, "out of memory"),
 ];
 
+/// Whether an error is printed as that text.
 fn is_printed_as(alloc: Global, error: KeyError, text: &str) -> bool {
     match format!(in alloc; "{error}") {
         Ok(printed) => printed.as_str() == text,
@@ -121,6 +127,7 @@ fn is_printed_as(alloc: Global, error: KeyError, text: &str) -> bool {
     }
 }
 
+/// Each error is printed as its text.
 #[test]
 fn error_texts(rt: HostRuntime) {
     for (error, text) in &ERRORS {
@@ -144,11 +151,13 @@ struct Made {
     text: Result<&'static str, KeyError>,
 }
 
+/// What Zenoh's `/` makes of a key and a text, which has to be a key by itself.
 fn divide(alloc: Global, key: &KeyExpr<'_>, with: &str) -> Result<KeyExpr<'static>, KeyError> {
     let other = KeyExpr::new(with)?;
     key.div(alloc, &other)
 }
 
+/// What is made of a row's key and its text, or why it is refused.
 fn make(alloc: Global, row: &Made) -> Result<KeyExpr<'static>, KeyError> {
     let key = KeyExpr::new(row.key)?;
     match row.making {
@@ -159,6 +168,7 @@ fn make(alloc: Global, row: &Made) -> Result<KeyExpr<'static>, KeyError> {
     }
 }
 
+/// Whether a row is made as it says, or refused for its reason.
 fn is_made(alloc: Global, row: &Made) -> bool {
     match make(alloc, row) {
         Ok(made) => row.text == Ok(made.as_str()),
@@ -211,6 +221,7 @@ static MADE: [Made; 7] = [
     },
 ];
 
+/// Keys that are joined, appended to and divided become what the rows say, or are refused for that reason.
 #[test]
 fn made_keys(rt: HostRuntime) {
     for row in &MADE {
@@ -224,6 +235,7 @@ fn takes(alloc: Global) -> bool {
     sink.write(&[1, 2, 3]) == Ok(2) && sink.short() == 0
 }
 
+/// A sink over memory takes one piece of a longer write, and never was short of memory.
 #[test]
 fn sinks(rt: HostRuntime) {
     assert!(rt; takes(rt.alloc()));

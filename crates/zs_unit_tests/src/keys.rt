@@ -284,6 +284,7 @@ static TABLES: [(Relation, &str); 6] = [
     (Relation::Form, FORMS),
 ];
 
+/// Whether that front is what stands before the first wild chunk of a key.
 fn begins(key: &KeyExpr<'_>, front: &KeyExpr<'_>) -> bool {
     match key.nonwild_prefix() {
         Some(prefix) => prefix == *front,
@@ -314,6 +315,7 @@ fn are_keys(left: &str, right: &str, relation: &Relation) -> bool {
     }
 }
 
+/// Whether a text is a canonical key expression.
 fn is_key(text: &str) -> bool {
     KeyExpr::new(text).is_ok()
 }
@@ -335,6 +337,7 @@ fn has_form(alloc: Global, text: &str, form: &str) -> bool {
     is_key(text) == own && becomes(alloc, text, form)
 }
 
+/// Whether the two texts of a line, with a space between them, stand so to each other.
 fn holds(alloc: Global, relation: &Relation, line: &str) -> bool {
     let Some((left, right)) = line.split_once(' ') else {
         return false;
@@ -355,6 +358,7 @@ fn first_wrong(alloc: Global, relation: &Relation, table: &'static str) -> Optio
     None
 }
 
+/// Each line of each table holds.
 #[test]
 fn worked_lines(rt: HostRuntime) {
     for (relation, table) in &TABLES {

@@ -6,6 +6,7 @@ use std::io::Write;
 use zs_bytes::{Text, ZBytes, ZBytesWriter, from_reader};
 use zs_keys::MemorySource;
 
+/// Appends a slice, which is dropped where there is no memory for it.
 fn append(writer: &mut ZBytesWriter, slice: ZBytes) -> Result<(), AllocError> {
     match writer.append(slice) {
         Ok(()) => Ok(()),
@@ -16,6 +17,7 @@ fn append(writer: &mut ZBytesWriter, slice: ZBytes) -> Result<(), AllocError> {
     }
 }
 
+/// What a writer made; the writer is dropped where there is no memory for that.
 fn finish(writer: ZBytesWriter) -> Result<ZBytes, AllocError> {
     match writer.finish() {
         Ok(made) => Ok(made),
@@ -35,6 +37,7 @@ fn write_three(alloc: Global, writer: &mut ZBytesWriter) -> Result<(), AllocErro
     Ok(())
 }
 
+/// What a writer made of bytes and slices.
 fn written(alloc: Global) -> Result<ZBytes, AllocError> {
     let mut writer = ZBytes::writer(alloc);
     match write_three(alloc, &mut writer) {
@@ -52,6 +55,7 @@ fn written_by_std(alloc: Global) -> Result<ZBytes, AllocError> {
     }
 }
 
+/// A copy of what a writer made.
 fn copied(alloc: Global) -> Result<ZBytes, AllocError> {
     let value = written(alloc)?;
     value.try_clone(alloc)
@@ -94,6 +98,7 @@ static WAYS: [(Way, &str); 10] = [
     (Way::Read, "from_reader"),
 ];
 
+/// The payload `abcde`, made in that way.
 fn made(alloc: Global, way: &Way) -> Result<ZBytes, AllocError> {
     match way {
         Way::Vec => ZBytes::from_vec(alloc, b"abcde".to_vec(alloc)?),
@@ -109,6 +114,7 @@ fn made(alloc: Global, way: &Way) -> Result<ZBytes, AllocError> {
     }
 }
 
+/// Whether a payload is `abcde` as a text.
 fn has_text(alloc: Global, value: &ZBytes) -> bool {
     match value.try_to_string(alloc) {
         Ok(text) => text.as_str() == "abcde",
@@ -116,6 +122,7 @@ fn has_text(alloc: Global, value: &ZBytes) -> bool {
     }
 }
 
+/// Whether a payload is `abcde` as bytes.
 fn has_bytes(alloc: Global, value: &ZBytes) -> bool {
     match value.to_bytes(alloc) {
         Ok(bytes) => bytes.as_slice() == b"abcde".as_slice(),
@@ -123,6 +130,7 @@ fn has_bytes(alloc: Global, value: &ZBytes) -> bool {
     }
 }
 
+/// Whether a payload that is made in that way has the text and the bytes that it was made of.
 fn is_whole(alloc: Global, way: &Way) -> bool {
     match made(alloc, way) {
         Ok(value) => has_text(alloc, &value) && has_bytes(alloc, &value),
@@ -130,6 +138,7 @@ fn is_whole(alloc: Global, way: &Way) -> bool {
     }
 }
 
+/// Each way makes the same payload while memory is there.
 #[test]
 fn ways_to_a_payload(rt: HostRuntime) {
     for (way, name) in &WAYS {
@@ -161,11 +170,13 @@ fn is_shared(alloc: Global, bytes: &Bytes) -> Result<bool, AllocError> {
     Ok(shared && bytes.is_unique())
 }
 
+/// Whether payloads share bytes that are made of a vector.
 fn shares(alloc: Global) -> Result<bool, AllocError> {
     let bytes = Bytes::from_vec(b"abc".to_vec(alloc)?)?;
     is_shared(alloc, &bytes)
 }
 
+/// Neither a copy nor a writer copies a payload's bytes: they share its memory, and let it go at the end.
 #[test]
 fn memory_is_shared(rt: HostRuntime) {
     assert!(rt; shares(rt.alloc()) == Ok(true));
@@ -174,6 +185,7 @@ fn memory_is_shared(rt: HostRuntime) {
 /// Values of the type may go to another thread, and be used by several.
 fn goes_to_threads<T: Send + Sync>(_value: &T) {}
 
+/// Payloads, their writers and texts are `Send` and `Sync`.
 #[test]
 fn threads(rt: HostRuntime) {
     goes_to_threads(&ZBytes::new());

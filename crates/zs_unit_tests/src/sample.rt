@@ -40,6 +40,7 @@ static ENCODINGS: [(Known, &str); 13] = [
     (Known::WithSchema(";", "a;b"), ";a;b"),
 ];
 
+/// The encoding that is meant, in memory of its own where it is made of texts.
 fn encoding(alloc: Global, known: &Known) -> Result<Encoding, AllocError> {
     match known {
         Known::Bytes => Ok(Encoding::ZENOH_BYTES),
@@ -53,6 +54,7 @@ fn encoding(alloc: Global, known: &Known) -> Result<Encoding, AllocError> {
     }
 }
 
+/// Whether an encoding has that text.
 fn has_text(alloc: Global, encoding: &Encoding, want: &str) -> bool {
     match encoding.to_text(alloc) {
         Ok(text) => text.as_str() == want,
@@ -67,6 +69,7 @@ fn is(alloc: Global, known: &Known, want: &str) -> Result<bool, AllocError> {
     Ok(has_text(alloc, &copy, want))
 }
 
+/// The copy of each encoding has the worked text; a schema takes the place of the one before it.
 #[test]
 fn encodings(rt: HostRuntime) {
     for (known, want) in &ENCODINGS {
@@ -74,6 +77,7 @@ fn encodings(rt: HostRuntime) {
     }
 }
 
+/// Whether priorities are numbered from 1, the highest, to 7, the lowest, as Zenoh does.
 fn are_bounds() -> bool {
     Priority::DEFAULT == Priority::default()
         && Priority::MAX == Priority::RealTime
@@ -83,6 +87,7 @@ fn are_bounds() -> bool {
         && Priority::NUM == 7
 }
 
+/// Whether defaults are those of the Zenoh API.
 fn are_defaults() -> bool {
     Reliability::default() == Reliability::Reliable
         && Locality::default() == Locality::Any
@@ -91,6 +96,7 @@ fn are_defaults() -> bool {
         && QueryConsolidation::default().mode() == ConsolidationMode::Auto
 }
 
+/// Priorities have the bounds of Zenoh, and small types its defaults.
 #[test]
 fn small_types(rt: HostRuntime) {
     assert!(rt; are_bounds());
@@ -108,10 +114,12 @@ static SELECTORS: [(&str, &str, &str, &str); 4] = [
 /// Texts that select nothing.
 static REFUSED: [&str; 4] = ["", "?x", "a//b?x", "/a"];
 
+/// Whether a selector has that key and those parameters.
 fn has_parts(selector: &Selector<'_>, key: &str, parameters: &str) -> bool {
     selector.key_expr().as_str() == key && selector.parameters().as_str() == parameters
 }
 
+/// Whether a selector is printed as that text.
 fn is_printed_as(alloc: Global, selector: &Selector<'_>, want: &str) -> bool {
     match format!(in alloc; "{selector}") {
         Ok(printed) => printed.as_str() == want,
@@ -125,6 +133,7 @@ fn selected(alloc: Global, text: &str) -> Result<Selector<'static>, KeyError> {
     Ok(selector.into_owned(alloc)?)
 }
 
+/// Whether a text becomes a selector of the row's key and parameters, and is printed as the row says.
 fn selects(alloc: Global, row: &(&str, &str, &str, &str)) -> bool {
     let (text, key, parameters, want) = row;
     match selected(alloc, text) {
@@ -135,6 +144,7 @@ fn selects(alloc: Global, row: &(&str, &str, &str, &str)) -> bool {
     }
 }
 
+/// Whether each text that selects nothing is refused.
 fn are_refused() -> bool {
     for text in &REFUSED {
         if Selector::new(text).is_ok() {
@@ -144,6 +154,7 @@ fn are_refused() -> bool {
     true
 }
 
+/// Worked texts become selectors, and those that have no key are refused.
 #[test]
 fn selectors(rt: HostRuntime) {
     for row in &SELECTORS {
@@ -154,6 +165,7 @@ fn selectors(rt: HostRuntime) {
 
 const REPLIER: EntityGlobalId = EntityGlobalId { zid: 1, eid: 2 };
 
+/// A put on `k` with qualities other than the default ones.
 fn sample() -> Result<Sample, KeyError> {
     let key_expr = KeyExpr::new("k")?;
     Ok(Sample::from_fields(SampleFields {
@@ -171,6 +183,7 @@ fn sample() -> Result<Sample, KeyError> {
     }))
 }
 
+/// Whether a reply can be copied while memory is there.
 fn is_copied(alloc: Global, reply: Reply) -> bool {
     match reply.try_clone(alloc) {
         Ok(copy) => {
@@ -189,6 +202,7 @@ fn are_copied(alloc: Global) -> Result<bool, KeyError> {
     Ok(first && second)
 }
 
+/// Whether an empty error tells the length of its payload and its encoding.
 fn is_printed(alloc: Global) -> bool {
     let error = ReplyError::empty();
     match format!(in alloc; "{error}") {
@@ -215,6 +229,7 @@ fn is_replaced() -> bool {
     }
 }
 
+/// Replies can be copied, and their errors printed and replaced.
 #[test]
 fn replies(rt: HostRuntime) {
     assert!(rt; are_copied(rt.alloc()) == Ok(true));

@@ -27,15 +27,18 @@ static TEXTS: [(&str, &str, &[(&str, &str)]); 12] = [
     ("å=ö;", "å=ö", &[("å", "ö")]),
 ];
 
+/// Whether parameters have just those pairs, in that order.
 fn has_pairs(parameters: &Parameters<'_>, pairs: &[(&str, &str)]) -> bool {
     parameters.iter().eq(pairs.iter().copied())
 }
 
+/// Whether so much is left of a text that is given whole, and it has just those pairs.
 fn is_read_as(text: &str, kept: &str, pairs: &[(&str, &str)]) -> bool {
     let parameters = Parameters::of(text);
     parameters.as_str() == kept && has_pairs(&parameters, pairs)
 }
 
+/// Texts lose separators at their end alone, and have the worked pairs.
 #[test]
 fn parameter_texts(rt: HostRuntime) {
     for (text, kept, pairs) in &TEXTS {
@@ -75,6 +78,7 @@ static CHANGES: [(&str, Change, &str); 15] = [
     ("x=2", Change::Extend("x=1;y"), "x=1;y"),
 ];
 
+/// Extends parameters by those of a text: whether there was memory for it.
 fn extends(alloc: Global, parameters: &mut Parameters<'_>, text: &str) -> bool {
     let more = Parameters::of(text);
     parameters.extend(alloc, &more).is_ok()
@@ -91,11 +95,13 @@ fn changes(alloc: Global, parameters: &mut Parameters<'_>, change: &Change) -> b
     }
 }
 
+/// Whether a text becomes another one by a change.
 fn becomes(alloc: Global, text: &str, change: &Change, want: &str) -> bool {
     let mut parameters = Parameters::of(text);
     changes(alloc, &mut parameters, change) && parameters.as_str() == want
 }
 
+/// Each worked change gives its text.
 #[test]
 fn changed_texts(rt: HostRuntime) {
     for (text, change, want) in &CHANGES {
@@ -104,6 +110,7 @@ fn changed_texts(rt: HostRuntime) {
     }
 }
 
+/// Whether defaults are those of the Zenoh API.
 fn are_defaults() -> bool {
     SampleKind::default() == SampleKind::Put
         && CongestionControl::default() == CongestionControl::Drop
@@ -126,6 +133,7 @@ fn are_printed(alloc: Global, parameters: &Parameters<'_>) -> bool {
     }
 }
 
+/// Whether parameters in memory of their own are printed as those that they were made of.
 fn are_owned(alloc: Global) -> bool {
     match Parameters::of("x=1;").into_owned(alloc) {
         Ok(owned) => are_printed(alloc, &owned),
@@ -133,6 +141,7 @@ fn are_owned(alloc: Global) -> bool {
     }
 }
 
+/// Defaults are Zenoh's, timestamps are ordered, and small values are printed as they must.
 #[test]
 fn small_values(rt: HostRuntime) {
     assert!(rt; are_defaults());
@@ -146,6 +155,7 @@ const QOS: QoSType = QoSType {
     express: true,
 };
 
+/// A key on the wire: number 1 that the receiver declared, with nothing behind it.
 fn key() -> WireExpr {
     WireExpr {
         scope: 1,
@@ -154,6 +164,7 @@ fn key() -> WireExpr {
     }
 }
 
+/// An empty value of Zenoh's default encoding.
 fn value() -> Value {
     Value {
         payload: ZBytes::new(),
@@ -161,6 +172,7 @@ fn value() -> Value {
     }
 }
 
+/// The body of an empty put with an attachment.
 fn body() -> Body {
     Body {
         kind: SampleKind::Put,
@@ -172,6 +184,7 @@ fn body() -> Body {
     }
 }
 
+/// A reliable push of a put.
 fn push() -> Message {
     Message::Push(Push {
         wire: key(),
@@ -181,6 +194,7 @@ fn push() -> Message {
     })
 }
 
+/// Request 4, of all complete queryables, with a value and an attachment.
 fn request() -> Message {
     Message::Request(Request {
         rid: 4,
@@ -196,6 +210,7 @@ fn request() -> Message {
     })
 }
 
+/// The response to request 4 that is an error.
 fn response() -> Message {
     Message::Response(Response {
         rid: 4,
@@ -206,6 +221,7 @@ fn response() -> Message {
     })
 }
 
+/// The declaration of complete queryable 5.
 fn queryable() -> Message {
     Message::DeclareQueryable {
         id: 5,
@@ -214,6 +230,7 @@ fn queryable() -> Message {
     }
 }
 
+/// The undeclaration of token 5, with its key.
 fn token_end() -> Message {
     Message::UndeclareToken {
         id: 5,
@@ -243,6 +260,7 @@ static KINDS: [(Kind, &str); 7] = [
     (Kind::Close, "a close"),
 ];
 
+/// The message of a kind.
 fn message(kind: &Kind) -> Message {
     match kind {
         Kind::Push => push(),
@@ -255,6 +273,7 @@ fn message(kind: &Kind) -> Message {
     }
 }
 
+/// Whether the message of a kind can be copied while memory is there.
 fn is_copied(alloc: Global, kind: &Kind) -> bool {
     let message = message(kind);
     match message.try_clone(alloc) {
@@ -266,6 +285,7 @@ fn is_copied(alloc: Global, kind: &Kind) -> bool {
     }
 }
 
+/// A message of each kind can be copied while memory is there.
 #[test]
 fn copied_messages(rt: HostRuntime) {
     for (kind, name) in &KINDS {

@@ -42,6 +42,7 @@ pub(crate) struct Holding {
 }
 
 impl Holding {
+    /// A handler that wasn't called, and isn't released.
     pub(crate) fn new(alloc: Global) -> Result<Holding, AllocError> {
         let entered = word(alloc)?;
         let released = word(alloc)?;
@@ -93,6 +94,7 @@ impl Handler<Item> for Holding {
 
     ghost evicts = { false };
 
+    /// Tells that the call has begun, and holds it until the release. A call that gives up doesn't tell its end.
     fn on<R: Wait>(&self, _rt: &R, _inside: &Inside, item: Item) -> Handled<Item, ()> {
         drop(item);
         self.entered.store(1, Ordering::SeqCst);
@@ -102,5 +104,6 @@ impl Handler<Item> for Holding {
         Handled::Taken(())
     }
 
+    /// Does nothing: the tests look at the words alone.
     fn ended<R: Wait>(&self, _rt: &R, _drained: &Drained) {}
 }

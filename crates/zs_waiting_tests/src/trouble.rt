@@ -1,3 +1,4 @@
+//! What can go wrong in a test of calls that wait, as one error.
 use std::alloc::AllocError;
 use thiserror::Error;
 use zs_cell::{NotSubmitted, SessionError};
@@ -14,12 +15,14 @@ pub(crate) enum Trouble {
 }
 
 impl From<SessionError> for Trouble {
+    /// A session's error as it is.
     fn from(why: SessionError) -> Trouble {
         Trouble::Session(why)
     }
 }
 
 impl<H: Drop> From<NotSubmitted<H>> for Trouble {
+    /// Why an event wasn't taken; the handler that came back is dropped.
     fn from(back: NotSubmitted<H>) -> Trouble {
         Trouble::Session(back.why)
     }

@@ -88,6 +88,7 @@ fn declare<B: Books, R: Wait>(
     }
 }
 
+/// Makes a token, and declares or asks with the handler that is to be held.
 fn begin<B: Books, R: Wait>(
     rt: &R,
     session: &Session<Holding, B>,
@@ -192,6 +193,7 @@ fn hold<
     }
 }
 
+/// Opens a session of default settings, and makes both calls: whether all went well.
 fn open<
     E: EntryLedger + Send + Sync,
     S: Ledger + Send + Sync,
@@ -225,24 +227,28 @@ fn run<R: Wait + Threads + Sync>(rt: &R, alloc: Global, beside: Beside) -> Resul
     if passed { Ok(()) } else { Err(Trouble::Order) }
 }
 
+/// A put that calls no handler is answered while another call's handler is held.
 #[test]
 fn held_call(rt: HostRuntime) -> Result<(), Fail> {
     run(&rt, rt.alloc(), Beside::Put)?;
     Ok(())
 }
 
+/// An undeclaration that drains waits for the call of its subscriber's handler.
 #[test]
 fn waiting_undeclaration(rt: HostRuntime) -> Result<(), Fail> {
     run(&rt, rt.alloc(), Beside::Undeclaration)?;
     Ok(())
 }
 
+/// A close that waits is answered after the held call's end; the session is closed from then on.
 #[test]
 fn waiting_close(rt: HostRuntime) -> Result<(), Fail> {
     run(&rt, rt.alloc(), Beside::Close)?;
     Ok(())
 }
 
+/// The cancel of a token waits for the call of its get's handler; the token is cancelled from then on.
 #[test]
 fn waiting_cancel(rt: HostRuntime) -> Result<(), Fail> {
     run(&rt, rt.alloc(), Beside::Cancel)?;

@@ -1,3 +1,4 @@
+//! What publications and replies carry: payloads with their encodings, timestamps and sources.
 ghost use Rattle.std.specs.Prelude.{◌≡◌, IfOk};
 
 use crate::origin::{SourceInfo, Timestamp};
@@ -13,6 +14,7 @@ pub struct Value {
 }
 
 impl Drop for Value {
+    /// Gives up the payload and the encoding. Memory that copies share stays.
     fn drop(self) {
         let Value { payload, encoding } = self;
         drop(payload);
@@ -46,6 +48,7 @@ pub struct Body {
 }
 
 impl Drop for Body {
+    /// Gives up the payload, the encoding and the attachment. Memory that copies share stays.
     fn drop(self) {
         let Body {
             kind: _,

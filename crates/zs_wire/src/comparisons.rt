@@ -16,6 +16,7 @@ impl<'a> PartialEq for Parameters<'a> {
 
     ghost laws = { Cmp.partial_equiv_from_equiv nat_list_eq_equiv };
 
+    /// Whether the texts are the same: the same pairs in another order are other parameters.
     fn eq(&self, other: &Self) -> bool {
         self.as_str() == other.as_str()
     }
@@ -30,6 +31,7 @@ impl<'a> Hash for Parameters<'a> {
 
     ghost respects_eq = { Prim.search (hashing, rules) };
 
+    /// Feeds the text alone, so that equal parameters hash alike.
     fn hash<H: Hasher>(&self, state: &mut H) {
         self.as_str().hash(state);
     }
@@ -38,12 +40,14 @@ impl<'a> Hash for Parameters<'a> {
 impl<'a> fmt::Display for Parameters<'a> {
     ghost output = { λ p. Some p };
 
+    /// Writes the text, with the width and precision that the formatter asks for.
     fn fmt<W: fmt::Write>(&self, f: &mut fmt::Formatter<W>) -> fmt::Result {
         f.pad(self.as_str())
     }
 }
 
 impl<'a> fmt::Debug for Parameters<'a> {
+    /// Shows the text in quotes, with its escapes, as Debug of a `str` does.
     fn fmt<W: fmt::Write>(&self, f: &mut fmt::Formatter<W>) -> fmt::Result {
         fmt::Debug::fmt(&self.as_str(), f)
     }

@@ -1,3 +1,4 @@
+//! The kinds of an interest, with which a session asks to hear of others' declarations.
 /// Of which declarations a session asks to hear.
 #[derive(Clone, Copy, Debug, PartialEq, Eq, Hash)]
 pub enum InterestMode {

@@ -1,3 +1,4 @@
+//! The messages that sessions send each other, as the Zenoh protocol names them.
 ghost use Rattle.std.specs.Prelude.{◌≡◌, IfOk};
 
 use crate::interest::{InterestMode, InterestWhat};
@@ -66,6 +67,7 @@ pub enum Message {
 }
 
 impl Drop for Message {
+    /// Gives up the key and whatever else the message carries. Memory that copies share stays.
     fn drop(self) {
         match self {
             Message::DeclareKeyExpr { number: _, wire } => drop(wire),

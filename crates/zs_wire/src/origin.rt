@@ -1,3 +1,4 @@
+//! When samples were made, and by whom.
 ghost use Rattle.std.specs.Prelude.{◌≡◌};
 
 /// When a sample was made, and by whose clock. Timestamps are ordered by time, and then by the clock's id.

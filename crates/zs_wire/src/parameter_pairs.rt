@@ -68,6 +68,7 @@ impl<'a> Iterator for ParameterPairs<'a> {
 
     ghost remaining = { item_count (λ left. left) };
 
+    /// The next pair. Empty pieces between `;` are passed over, and a name without `=` has the empty value.
     fn next(&mut self) -> Option<(&'a str, &'a str)> {
         let (pair, rest) = first_pair(self.rest)?;
         self.rest = rest;

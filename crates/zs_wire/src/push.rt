@@ -1,3 +1,4 @@
+//! Publications as messages carry them.
 ghost use Rattle.std.specs.Prelude.{◌≡◌, IfOk};
 
 use crate::body::Body;
@@ -16,6 +17,7 @@ pub struct Push {
 }
 
 impl Drop for Push {
+    /// Gives up the key and the body. Memory that copies share stays.
     fn drop(self) {
         let Push {
             wire,

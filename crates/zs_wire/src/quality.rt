@@ -1,3 +1,4 @@
+//! The quality of service, as messages carry it.
 /// What a router does with a message that finds its queue full.
 #[derive(Clone, Copy, Debug, Default, PartialEq, Eq, Hash)]
 pub enum CongestionControl {

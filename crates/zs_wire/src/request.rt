@@ -1,3 +1,4 @@
+//! Queries as messages carry them.
 ghost use Rattle.std.specs.Prelude.{◌≡◌, IfOk};
 
 use crate::body::{Value, clone_attachment};
@@ -53,6 +54,7 @@ pub struct Request {
 }
 
 impl Drop for Request {
+    /// Gives up the key, the parameters, the value and the attachment. Memory that copies share stays.
     fn drop(self) {
         let Request {
             rid: _,

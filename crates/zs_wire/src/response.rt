@@ -1,3 +1,4 @@
+//! Answers to queries as messages carry them.
 ghost use Rattle.std.specs.Prelude.{◌≡◌, IfOk};
 
 use crate::body::{Body, Value};
@@ -14,6 +15,7 @@ pub enum Answered {
 }
 
 impl Drop for Answered {
+    /// Gives up the body or the value. Memory that copies share stays.
     fn drop(self) {
         match self {
             Answered::Reply(body) => drop(body),
@@ -47,6 +49,7 @@ pub struct Response {
 }
 
 impl Drop for Response {
+    /// Gives up the key and the answer. Memory that copies share stays.
     fn drop(self) {
         let Response {
             rid: _,

@@ -1,3 +1,4 @@
+//! Whether a sample puts or deletes.
 use std::convert::TryFrom;
 use std::fmt;
 
@@ -33,6 +34,7 @@ impl fmt::Display for SampleKind {
 
     ghost output = { λ kind. Some (name_of kind) };
 
+    /// Writes `PUT` or `DELETE`, with the width and precision that the formatter asks for.
     fn fmt<W: fmt::Write>(&self, f: &mut fmt::Formatter<W>) -> fmt::Result {
         f.pad(match self {
             SampleKind::Put => "PUT",

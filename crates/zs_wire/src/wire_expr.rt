@@ -1,3 +1,4 @@
+//! Key expressions as messages carry them.
 ghost use Rattle.std.specs.Prelude.{◌≡◌, IfOk};
 
 use std::alloc::{AllocError, Global};
@@ -25,6 +26,7 @@ pub struct WireExpr {
 }
 
 impl Drop for WireExpr {
+    /// Gives up the suffix. Its number stays declared, and memory that copies share stays.
     fn drop(self) {
         let WireExpr {
             scope: _,

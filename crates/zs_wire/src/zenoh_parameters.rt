@@ -40,6 +40,7 @@ pub trait ZenohParameters {
 impl<'a> ZenohParameters for Parameters<'a> {
     ghost text = { λ parameters. parameters };
 
+    /// Puts `_time` behind all other pairs in place of those of that name, or takes those away.
     fn set_time_range(&mut self, alloc: Global, range: Option<&str>) -> Result<(), AllocError> {
         match range {
             Some(range) => self.insert(alloc, TIME_RANGE, range),
@@ -50,14 +51,17 @@ impl<'a> ZenohParameters for Parameters<'a> {
         }
     }
 
+    /// The value of the first `_time`. Whether it is a range is not tested.
     fn time_range(&self) -> Option<&str> {
         self.get(TIME_RANGE)
     }
 
+    /// Puts `_anyke` with the empty value behind all other pairs, in place of those of that name.
     fn set_reply_key_expr_any(&mut self, alloc: Global) -> Result<(), AllocError> {
         self.insert(alloc, REPLY_KEY_EXPR_ANY, "")
     }
 
+    /// Whether there is an `_anyke`, of whatever value.
     fn reply_key_expr_any(&self) -> bool {
         self.contains_key(REPLY_KEY_EXPR_ANY)
     }

@@ -6,6 +6,7 @@ ghost use Rattle.zs_workers.specs.HandOvers.{handed_to, given_to, turn_hands, ha
 use zs_cell::Entry;
 use zs_events::{Effect, HandOver, Kind, Turn};
 
+/// How many samples an item is for a subscriber: one or none. Those for subscribers to liveliness don't count.
 fn count_item(item: &HandOver) -> u64
     ensures is { result ≡ length (handed_to item.now) }
     ensures one { result ≤ 1 }
@@ -19,6 +20,7 @@ fn count_item(item: &HandOver) -> u64
     }
 }
 
+/// How many samples an effect hands to a subscriber: one or none.
 fn count_effect(effect: &Effect) -> u64
     ensures is { result ≡ length (given_to effect.now) }
     ensures one { result ≤ 1 }
@@ -29,6 +31,7 @@ fn count_effect(effect: &Effect) -> u64
     }
 }
 
+/// How many samples effects hand to subscribers together.
 fn count_effects(effects: &[Effect]) -> u64
     ensures { result ≡ length (flat_map given_to effects.now) }
 {
@@ -39,6 +42,7 @@ fn count_effects(effects: &[Effect]) -> u64
     count
 }
 
+/// How many samples a turn hands to subscribers.
 fn count_turn(turn: &Turn) -> u64
     ensures { result ≡ length (turn_hands turn.now) }
 {

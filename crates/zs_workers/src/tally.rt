@@ -1,3 +1,4 @@
+//! What a run is asked to do, and what it comes to.
 /// Which callers put.
 #[derive(Clone, Copy, Debug, PartialEq, Eq)]
 pub struct Workers {

@@ -98,6 +98,7 @@ fn run<
     count(rt, session, &mut all)
 }
 
+/// Opens the session over ledgers without entries, runs the callers through it, and lets go of it.
 fn open<
     E: EntryLedger + Send + Sync,
     S: Ledger + Send + Sync,

@@ -5,7 +5,7 @@ ghost use Rattle.zs_world.specs.Decisions.{decision_of};
 
 use std::alloc::Global;
 use zs_entity_tables::Met;
-use zs_events::{Answer, BackgroundKind, Effects, EntityKind, Refusal, Turn};
+use zs_events::{BackgroundKind, Effects, EntityKind, Refusal, Turn};
 use zs_keys::KeyExpr;
 use zs_model::{PubRow, QuerierRow};
 use zs_query::{GetRow, RequestRow};
@@ -155,6 +155,7 @@ pub struct Decision {
 }
 
 impl Decision {
+    /// An event that is refused, and why: it changes nothing and has no effects.
     pub fn refused(alloc: Global, refusal: Refusal) -> Decision
         ensures { result ≡ decision_of (Some refusal) None [] Change.Nothing }
     {
@@ -184,6 +185,7 @@ impl Decision {
         }
     }
 
+    /// An accepted event with all that it may bring about: a number where it draws one, effects and a change.
     pub fn accepted(number: Option<u32>, effects: Effects, change: Change) -> Decision
         ensures { result ≡ decision_of None number effects change }
     {

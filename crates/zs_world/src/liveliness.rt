@@ -34,6 +34,7 @@ impl Model for Liveliness {
 }
 
 impl Liveliness {
+    /// No tokens, subscribers or gets. It takes its memory from `alloc`.
     pub fn new(alloc: Global) -> Liveliness
         ensures { result ≡ no_liveliness }
     {

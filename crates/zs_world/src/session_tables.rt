@@ -54,6 +54,7 @@ pub struct SessionTables {
 }
 
 impl Drop for SessionTables {
+    /// Lets go of the settings and of each table; the allocator, the flag and the counters are plain values.
     fn drop(self) {
         let SessionTables {
             alloc: _,

@@ -30,18 +30,21 @@ impl<'a, H, B: Books> Model for ByPublisher<'a, H, B> {
 }
 
 impl<'a, H, B: Books> ByPublisher<'a, H, B> {
+    /// The publisher of that number. Whether it lives shows only when something is published.
     fn of(session: &'a Session<H, B>, id: u32) -> ByPublisher<'a, H, B>
         ensures { result ≡ record { session = session.now; id = id } }
     {
         ByPublisher { session, id }
     }
 
+    /// The session of the publisher.
     fn session(&self) -> &'a Session<H, B>
         ensures { result.now ≡ self.now.session }
     {
         self.session
     }
 
+    /// The number of the publisher.
     fn id(&self) -> u32
         ensures { result ≡ self.now.id }
     {

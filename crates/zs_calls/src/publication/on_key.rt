@@ -66,6 +66,7 @@ impl<'a, H, B: Books> OnKey<'a, H, B> {
         }
     }
 
+    /// The session that publishes.
     fn session(&self) -> &'a Session<H, B>
         ensures { result.now ≡ self.now.session }
     {
@@ -80,6 +81,7 @@ impl<'a, H, B: Books> OnKey<'a, H, B> {
         self
     }
 
+    /// With that priority; the rest of the quality of service stays.
     fn with_priority(self, priority: Priority) -> OnKey<'a, H, B>
         ensures { result ≡ record self.entry { qos = record self.entry.qos { priority = number_of priority } } }
     {
@@ -87,6 +89,7 @@ impl<'a, H, B: Books> OnKey<'a, H, B> {
         self.with_qos(qos)
     }
 
+    /// With that congestion control; the rest of the quality of service stays.
     fn with_congestion(self, congestion_control: CongestionControl) -> OnKey<'a, H, B>
         ensures { result ≡ record self.entry { qos = record self.entry.qos { congestion = congestion_control } } }
     {
@@ -94,6 +97,7 @@ impl<'a, H, B: Books> OnKey<'a, H, B> {
         self.with_qos(qos)
     }
 
+    /// Sent at once or batched; the rest of the quality of service stays.
     fn with_express(self, express: bool) -> OnKey<'a, H, B>
         ensures { result ≡ record self.entry { qos = record self.entry.qos { express = express } } }
     {
@@ -101,6 +105,7 @@ impl<'a, H, B: Books> OnKey<'a, H, B> {
         self.with_qos(qos)
     }
 
+    /// With that reliability in place of its own.
     fn with_reliability(mut self, reliability: Reliability) -> OnKey<'a, H, B>
         ensures { result ≡ record self.entry { reliability = reliability } }
     {
@@ -108,6 +113,7 @@ impl<'a, H, B: Books> OnKey<'a, H, B> {
         self
     }
 
+    /// For the subscribers of that destination, in place of its own.
     fn with_destination(mut self, destination: Locality) -> OnKey<'a, H, B>
         ensures { result ≡ record self.entry { destination = destination } }
     {

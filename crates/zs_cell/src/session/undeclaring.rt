@@ -18,6 +18,7 @@ use zs_turns::Item;
 
 type Caller<B> = zs_books::Caller<B, Receipt<B>>;
 
+/// The kind by which gates are found, of what can be undeclared.
 fn kind_of(kind: EntityKind) -> Kind
     ensures { result ≡ kind_of kind }
 {

@@ -10,6 +10,7 @@ use zs_making::ended_gets::{Ender, push_cut_gets};
 use zs_making::tokens::push_asking_ends;
 use zs_world::{CancellationChange, Change, Decision, SessionTables};
 
+/// A cancellation token is made: it draws the next number of a count of its own. `IdsExhausted` where none is left.
 pub(super) fn decide_cancel_token(world: &SessionTables) -> Result<Decision, AllocError>
     ensures { IfOk result (λ made. made ≡ open_decision world.now Event.CancelToken) }
 {
@@ -21,6 +22,8 @@ pub(super) fn decide_cancel_token(world: &SessionTables) -> Result<Decision, All
     Ok(Decision::quiet(world.alloc, Some(number), change))
 }
 
+/// A cancellation token is taken: the open gets that have it end, those of liveliness tokens too. `NotFound` where it
+/// was never made; one that was taken may be taken again.
 pub(super) fn decide_cancel(
     world: &SessionTables,
     cancellation_token: u32,

@@ -242,6 +242,7 @@ fn request(
     Ok(Message::Request(request))
 }
 
+/// The moment `now` has come, in milliseconds: the gets whose deadline it reaches end, those of tokens too.
 pub(super) fn decide_tick(world: &SessionTables, now: u64) -> Result<Decision, AllocError>
     ensures { IfOk result (λ made. made ≡ open_decision world.now (Event.Tick now)) }
 {
@@ -252,6 +253,7 @@ pub(super) fn decide_tick(world: &SessionTables, now: u64) -> Result<Decision, A
     Ok(Decision::of(effects, change))
 }
 
+/// A response to a get: a value of its key, or an error.
 pub(super) fn decide_response(
     world: &SessionTables,
     response: &Response,
@@ -314,6 +316,7 @@ fn decide_error(
     Ok(Decision::of(effects, Change::Nothing))
 }
 
+/// The network has no more responses to a get. `Ignored` where no get waits for that.
 pub(super) fn decide_response_final(world: &SessionTables, rid: u32) -> Result<Decision, AllocError>
     ensures { IfOk result (λ made. made ≡ open_decision world.now (Event.Net (Message.ResponseFinal rid))) }
 {

@@ -19,6 +19,7 @@ use zs_tables::{LivelinessGet, LivelinessSub};
 use zs_wire::{InterestMode, InterestWhat, Message, WireExpr};
 use zs_world::{Change, Decision, EntityChange, EntityRow, LivelinessChange, SessionTables};
 
+/// A liveliness token is declared, and the network is told of it under the number that it draws.
 pub(super) fn decide_token(world: &SessionTables, key: &KeyArg) -> Result<Decision, AllocError>
     ensures { IfOk result (λ made. made ≡ open_decision world.now (Event.Token key.now)) }
 {
@@ -42,6 +43,7 @@ pub(super) fn decide_token(world: &SessionTables, key: &KeyArg) -> Result<Decisi
     Ok(Decision::accepted(Some(id), effects, change))
 }
 
+/// A liveliness token ends, and the network is told. `NotFound` where this session has none of that number.
 pub(super) fn decide_undeclare_token(world: &SessionTables, id: u32) -> Result<Decision, AllocError>
     ensures { IfOk result (λ made. made ≡ open_decision world.now (Event.Undeclare EntityKind.Token id)) }
 {
@@ -62,6 +64,7 @@ pub(super) fn decide_undeclare_token(world: &SessionTables, id: u32) -> Result<D
     Ok(Decision::of(effects, change))
 }
 
+/// A subscriber to liveliness is declared, and the network is asked of tokens under the number that it draws.
 pub(super) fn decide_lsub(
     world: &SessionTables,
     history: bool,
@@ -87,6 +90,8 @@ pub(super) fn decide_lsub(
     Ok(Decision::accepted(Some(id), effects, change))
 }
 
+/// A subscriber to liveliness ends: a final interest takes its question to the network back. `NotFound` also where it
+/// was left to itself.
 pub(super) fn decide_undeclare_lsub(world: &SessionTables, id: u32) -> Result<Decision, AllocError>
     ensures { IfOk result (λ made. made ≡ open_decision world.now (Event.Undeclare EntityKind.Lsub id)) }
 {
@@ -112,6 +117,8 @@ pub(super) fn decide_undeclare_lsub(world: &SessionTables, id: u32) -> Result<De
     Ok(Decision::of(effects, change))
 }
 
+/// The tokens that live on a key are asked for, under an entity number. The timeout is in milliseconds from the last
+/// moment; without one the session's default holds.
 pub(super) fn decide_liveliness_get(
     world: &SessionTables,
     key: &KeyArg,

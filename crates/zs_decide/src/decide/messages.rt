@@ -52,6 +52,7 @@ pub(super) fn decide_message(
     }
 }
 
+/// The network declares a key. Number 0 is refused: on the wire it says that no declared key stands in front.
 fn decide_key_expr(
     world: &SessionTables,
     number: u16,

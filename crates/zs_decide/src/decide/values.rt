@@ -43,6 +43,7 @@ pub(super) fn decide_request(
     Ok(Decision::of(effects, change))
 }
 
+/// One more value is drawn for the query of an unfinished one. It is to be given back like that one.
 pub(super) fn decide_share(world: &SessionTables, value: u32) -> Result<Decision, AllocError>
     ensures { IfOk result (λ made. made ≡ open_decision world.now (Event.Share value)) }
 {
@@ -57,6 +58,7 @@ pub(super) fn decide_share(world: &SessionTables, value: u32) -> Result<Decision
     Ok(Decision::quiet(world.alloc, Some(number), change))
 }
 
+/// A query value is given back. `NotFound` where nothing is left to give back under that number.
 #[tactic(auto, using(crate::proofs::Answered::given_back))]
 pub(super) fn decide_finish(world: &SessionTables, value: u32) -> Result<Decision, AllocError>
     ensures { IfOk result (λ made. made ≡ open_decision world.now (Event.Finish value)) }
@@ -122,6 +124,7 @@ pub(super) fn met(
     Ok(Met::from_vec(ids))
 }
 
+/// The queryables that a request from the network meets, with the target that it names.
 fn met_by_request(
     world: &SessionTables,
     key: &KeyExpr<'_>,

@@ -1,3 +1,4 @@
+//! Receipts for events.
 ghost use Rattle.std.specs.Prelude.{◌≡◌};
 
 use crate::asked::Asked;

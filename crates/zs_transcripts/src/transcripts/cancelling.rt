@@ -118,6 +118,7 @@ cancel 7
     },
 ];
 
+/// A cancel ends the gets of its token alone, and no further get takes that token.
 #[test]
 fn tokens_cancel_gets(rt: HostRuntime) -> Result<(), Fail> {
     assert_printed(&rt, "drive", &CANCELLED)

@@ -207,11 +207,13 @@ recv lget 2
     },
 ];
 
+/// A subscriber's channel outlives it as a fifo, and ends with it as a ring.
 #[test]
 fn channels_of_subscribers(rt: HostRuntime) -> Result<(), Fail> {
     assert_printed(&rt, "drive", &OF_SUBSCRIBERS)
 }
 
+/// The replies of gets, queriers' gets and gets of tokens wait in channels as samples do.
 #[test]
 fn channels_of_gets(rt: HostRuntime) -> Result<(), Fail> {
     assert_printed(&rt, "drive", &OF_GETS)

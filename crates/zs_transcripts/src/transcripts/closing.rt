@@ -62,6 +62,7 @@ net push s0:k del
     },
 ];
 
+/// Behind a close nothing is published or declared, and messages of the network are ignored.
 #[test]
 fn closed_session_refuses(rt: HostRuntime) -> Result<(), Fail> {
     assert_printed(&rt, "drive", &CLOSING)

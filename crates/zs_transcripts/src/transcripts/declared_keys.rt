@@ -150,11 +150,13 @@ key a
 < 4 send close",
 }];
 
+/// A declared number goes out as it was given, and stands here for its text until it is given back.
 #[test]
 fn declared_keys_stand_for_their_texts(rt: HostRuntime) -> Result<(), Fail> {
     assert_printed(&rt, "drive", &DECLARED_KEYS)
 }
 
+/// With keys numbered from 65534 on, one is declared, and no other.
 #[test]
 fn last_key_number_is_drawn_once(rt: HostRuntime) -> Result<(), Fail> {
     assert_printed(&rt, "drive key=65534", &LAST_NUMBER)

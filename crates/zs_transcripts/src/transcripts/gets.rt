@@ -218,6 +218,7 @@ net responsefinal 0
     },
 ];
 
+/// Gets consolidate their replies by their modes, and end by finals, deadlines and a close.
 #[test]
 fn gets_hand_out_their_replies(rt: HostRuntime) -> Result<(), Fail> {
     assert_printed(&rt, "drive", &GETS)

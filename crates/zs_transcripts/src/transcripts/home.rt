@@ -59,6 +59,7 @@ close
 < 16 ok",
 };
 
+/// The run of a home prints what its transcript says.
 #[test]
 fn the_home_is_printed(rt: HostRuntime) -> Result<(), Fail> {
     assert_printed(&rt, "drive", &[HOME])

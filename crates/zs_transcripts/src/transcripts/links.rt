@@ -170,6 +170,7 @@ ba
     },
 ];
 
+/// Messages of a linked session are delivered or dropped in their order, one for each line that asks.
 #[test]
 fn linked_sessions_deliver_in_order(rt: HostRuntime) -> Result<(), Fail> {
     assert_printed(&rt, "link", &LINKS)

@@ -3,7 +3,7 @@
 use super::{Transcript, assert_printed};
 use std::test::Fail;
 
-static TOKENS: [Transcript; 6] = [
+static TOKENS: [Transcript; 5] = [
     Transcript {
         name: "tokens that the network tells",
         text: "\
@@ -168,62 +168,9 @@ net declarefinal interest=2
 < 9 refused Ignored
 < 10 ok",
     },
-    Transcript {
-        name: "a session at home",
-        text: "\
-key home/kitchen
-< 1 ok 1
-< 1 send keyexpr 1 s0:home/kitchen
-sub any home/**
-< 2 ok 2
-< 2 send sub 2 s0:home/**
-sub remote home/*/temp
-< 3 ok 3
-< 3 send sub 3 s0:home/*/temp
-pub any #1:/temp enc=application/json
-< 4 ok 4
-< 4 send interest 4 currentfuture subscribers s1:/temp
-queryable any complete home/kitchen/**
-< 5 ok 5
-< 5 send queryable 5 complete s0:home/kitchen/**
-token home/kitchen
-< 6 ok 6
-< 6 send token 6 s0:home/kitchen
-pput 4 x7b7d
-< 7 ok
-< 7 send push s1:/temp put x7b7d enc=application/json prio=5 cc=drop express=0 rel=1
-< 7 hand sub 2 put home/kitchen/temp x7b7d enc=application/json prio=5 cc=drop express=0 rel=1
-net push s0:home/hall/temp put x3231
-< 8 ok
-< 8 hand sub 2 put home/hall/temp x3231 %
-< 8 hand sub 3 put home/hall/temp x3231 %
-get any home/kitchen/temp cons=none
-< 9 ok 0
-< 9 send request 0 s0:home/kitchen/temp target=best cons=none timeout=10000 G
-< 9 hand queryable 5 0 home/kitchen/temp G
-reply 0 home/kitchen/temp x3231
-< 10 ok
-< 10 reply get 0 put home/kitchen/temp x3231 enc=zenoh/bytes G rel=1 by=1:5
-finish 0
-< 11 ok
-net responsefinal 0
-< 12 ok
-< 12 end get 0
-tick 100
-< 13 ok
-undeclare token 6
-< 14 ok
-< 14 send untoken 6
-close
-< 15 ok
-< 15 send close
-< 15 end queryable 5
-< 15 end sub 2
-< 15 end sub 3
-< 16 ok",
-    },
 ];
 
+/// Subscribers and gets of liveliness hear of the network's tokens, and not of this session's own.
 #[test]
 fn tokens_come_and_go(rt: HostRuntime) -> Result<(), Fail> {
     assert_printed(&rt, "drive", &TOKENS)

@@ -228,11 +228,13 @@ undeclare queryable 6
     },
 ];
 
+/// Listeners of publishers hear a true status at once, and then each change of it alone.
 #[test]
 fn listeners_hear_changes(rt: HostRuntime) -> Result<(), Fail> {
     assert_printed(&rt, "drive", &LISTENERS)
 }
 
+/// What the network declares counts for matching, and so does whether a queryable is complete.
 #[test]
 fn told_ones_count(rt: HostRuntime) -> Result<(), Fail> {
     assert_printed(&rt, "drive", &TOLD)

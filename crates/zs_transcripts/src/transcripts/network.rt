@@ -117,6 +117,7 @@ net push s9: put x
     },
 ];
 
+/// Numbers in messages stand for what the side that they name has declared.
 #[test]
 fn numbers_of_the_network_stand_for_their_texts(rt: HostRuntime) -> Result<(), Fail> {
     assert_printed(&rt, "drive", &NETWORK)
@@ -189,6 +190,7 @@ net unkeyexpr 0
     },
 ];
 
+/// Unknown numbers and responses that nobody waits for are refused, and change nothing.
 #[test]
 fn hostile_network(rt: HostRuntime) -> Result<(), Fail> {
     assert_printed(&rt, "drive", &HOSTILE)

@@ -120,6 +120,7 @@ pub any k
     },
 ];
 
+/// Publishers put and delete with their own qualities, each to its own destination.
 #[test]
 fn publishers_put_and_delete(rt: HostRuntime) -> Result<(), Fail> {
     assert_printed(&rt, "drive", &PUBLISHERS)

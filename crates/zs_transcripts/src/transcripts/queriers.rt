@@ -128,6 +128,7 @@ qget 2
     },
 ];
 
+/// Gets of a querier ask with its settings, and end with it.
 #[test]
 fn queriers_ask_in_their_way(rt: HostRuntime) -> Result<(), Fail> {
     assert_printed(&rt, "drive", &QUERIERS)

@@ -142,6 +142,7 @@ finish 0
     },
 ];
 
+/// A request ends when the last of its query values is given back.
 #[test]
 fn queries_are_answered_and_given_back(rt: HostRuntime) -> Result<(), Fail> {
     assert_printed(&rt, "drive", &VALUES)

@@ -72,6 +72,7 @@ background queryable 4
     },
 ];
 
+/// Queryables are told to the network unless they are local, and end before subscribers at a close.
 #[test]
 fn queryables_are_declared_and_end(rt: HostRuntime) -> Result<(), Fail> {
     assert_printed(&rt, "drive", &QUERYABLES)

@@ -62,6 +62,7 @@ net push s0:k put xAB enc= ts=7:Ff prio=7 cc=block express=1 rel=0 src=fF:1:2 at
     },
 ];
 
+/// The options of puts and deletions come out in messages and samples, with the defaults filled in.
 #[test]
 fn samples_carry_their_options(rt: HostRuntime) -> Result<(), Fail> {
     assert_printed(&rt, "drive", &SAMPLES)

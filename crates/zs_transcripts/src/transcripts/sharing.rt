@@ -112,16 +112,19 @@ undeclare pub 4
 < 8 end sub 5",
 }];
 
+/// Subscribers that an aggregate includes are told as one, until the last of them ends.
 #[test]
 fn declarations_share_an_aggregate(rt: HostRuntime) -> Result<(), Fail> {
     assert_printed(&rt, "drive aggsub=a/**", &ONE_AGGREGATE)
 }
 
+/// The first aggregate of the words that includes a key is the one that is declared for it.
 #[test]
 fn first_aggregate_holds(rt: HostRuntime) -> Result<(), Fail> {
     assert_printed(&rt, "drive aggsub=a/b/** aggsub=a/**", &FIRST_IN_ORDER)
 }
 
+/// Publishers share the interest of their aggregate, and puts keep their own key.
 #[test]
 fn publishers_have_aggregates_of_their_own(rt: HostRuntime) -> Result<(), Fail> {
     assert_printed(

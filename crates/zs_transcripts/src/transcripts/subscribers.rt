@@ -246,11 +246,13 @@ pub any a
 < 4 end sub 4294967294",
 }];
 
+/// Subscribers hear the puts that meet their keys and origins, until they are undeclared.
 #[test]
 fn subscribers_hear_puts(rt: HostRuntime) -> Result<(), Fail> {
     assert_printed(&rt, "drive", &SUBSCRIBERS)
 }
 
+/// With entities numbered behind 4294967293, one is declared, and no other.
 #[test]
 fn last_number_is_drawn_once(rt: HostRuntime) -> Result<(), Fail> {
     assert_printed(&rt, "drive entity=4294967293", &LAST_NUMBER)

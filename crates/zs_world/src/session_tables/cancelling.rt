@@ -8,6 +8,7 @@ use crate::change::{CancellationChange, Change};
 use std::alloc::AllocError;
 
 impl SessionTables {
+    /// Makes a change of the cancellation tokens. Drawing one takes no memory, taking one may.
     pub(super) fn change_cancellation(
         &mut self,
         change: CancellationChange,

@@ -10,6 +10,7 @@ use zs_keys::KeyExpr;
 use zs_wire::Mapping;
 
 impl SessionTables {
+    /// Makes a change of the keys that the session declared. Only giving one back never wants memory.
     pub(super) fn change_keys(&mut self, change: KeyChange) -> Result<(), AllocError>
         requires { KeysFit self.old change }
         ensures ok { OnOk result (self.new ≡ with_change (Change.OfKeys change) self.old) }
@@ -53,6 +54,7 @@ impl SessionTables {
         }
     }
 
+    /// Makes a change of what the network told: its number stands for the key from now on.
     pub(super) fn change_network(&mut self, change: NetworkChange) -> Result<(), AllocError>
         ensures ok { OnOk result (self.new ≡ with_change (Change.OfNetwork change) self.old) }
         ensures err { OnErr result (self.new ≡ self.old) }

@@ -10,6 +10,7 @@ use std::alloc::AllocError;
 use zs_events::{BackgroundKind, EntityKind};
 
 impl SessionTables {
+    /// Makes a change of what the application declared: one is added, ends, or is left to itself.
     pub(super) fn change_entities(&mut self, change: EntityChange) -> Result<(), AllocError>
         requires { EntitiesFit self.old.counters.entity change }
         ensures ok { OnOk result (self.new ≡ with_change (Change.OfEntities change) self.old) }
@@ -39,6 +40,8 @@ impl SessionTables {
         }
     }
 
+    /// Ends what has that kind and number. The end of a subscriber or a queryable may want memory, to count anew whom
+    /// listeners match.
     fn end_entity(&mut self, kind: EntityKind, id: u32) -> Result<(), AllocError>
         ensures ok { OnOk result (self.new ≡ with_change (Change.OfEntities (EntityChange.End kind id)) self.old) }
         ensures err { OnErr result (self.new ≡ self.old) }

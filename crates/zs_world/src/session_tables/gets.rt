@@ -8,6 +8,7 @@ use crate::change::{Change, GetChange};
 use std::alloc::AllocError;
 
 impl SessionTables {
+    /// Makes a change of the gets. A new moment also ends the gets of tokens whose deadline it reaches.
     pub(super) fn change_gets(&mut self, change: GetChange) -> Result<(), AllocError>
         requires { GetsFit self.old change }
         ensures ok { OnOk result (self.new ≡ with_change (Change.OfGets change) self.old) }

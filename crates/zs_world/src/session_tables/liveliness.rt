@@ -13,6 +13,7 @@ use zs_events::EntityKind;
 use zs_tables::LivelinessSub;
 
 impl SessionTables {
+    /// Makes a change of the tokens that the network tells, or of the gets of tokens: a new get draws an entity number.
     pub(super) fn change_liveliness(&mut self, change: LivelinessChange) -> Result<(), AllocError>
         requires { LivelinessFits self.old.counters.entity change }
         ensures ok { OnOk result (self.new ≡ with_change (Change.OfLiveliness change) self.old) }
@@ -34,6 +35,7 @@ impl SessionTables {
         Ok(())
     }
 
+    /// The token of that number ends, if this session has it.
     pub(super) fn end_token(&mut self, id: u32)
         ensures { self.new ≡ with_change (Change.OfEntities (EntityChange.End EntityKind.Token id)) self.old }
     {
@@ -51,6 +53,7 @@ impl SessionTables {
         Ok(())
     }
 
+    /// The subscriber to liveliness of that number ends, if there is one.
     pub(super) fn end_lsub(&mut self, id: u32)
         ensures { self.new ≡ with_change (Change.OfEntities (EntityChange.End EntityKind.Lsub id)) self.old }
     {

@@ -25,6 +25,7 @@ impl SessionTables {
         }
     }
 
+    /// Makes a change of those whom the network tells, and of how many match each listener.
     pub(super) fn change_matching(&mut self, change: MatchingChange) -> Result<(), AllocError>
         ensures ok { OnOk result (self.new ≡ with_change (Change.OfMatching change) self.old) }
         ensures err { OnErr result (self.new ≡ self.old) }
@@ -49,12 +50,14 @@ impl SessionTables {
         Ok(())
     }
 
+    /// The listener of that number ends, if there is one.
     pub(super) fn end_listener(&mut self, id: u32)
         ensures { self.new ≡ with_change (Change.OfEntities (EntityChange.End EntityKind.Listener id)) self.old }
     {
         self.matching.end(id);
     }
 
+    /// A told subscriber takes the place of one of its number: listeners count the new one, and the old one no more.
     fn tell_sub(&mut self, row: RemoteSubscriber) -> Result<(), AllocError>
         ensures ok { OnOk result (self.new ≡ with_change (Change.OfMatching (MatchingChange.TellSub row)) self.old) }
         ensures err { OnErr result (self.new ≡ self.old) }
@@ -68,6 +71,7 @@ impl SessionTables {
         Ok(())
     }
 
+    /// A told subscriber ends, if there is one of that number: the listeners that it matched count it no more.
     fn forget_sub(&mut self, number: u32) -> Result<(), AllocError>
         ensures ok { OnOk result (self.new ≡ with_change (Change.OfMatching (MatchingChange.ForgetSub number)) self.old) }
         ensures err { OnErr result (self.new ≡ self.old) }
@@ -80,6 +84,7 @@ impl SessionTables {
         Ok(())
     }
 
+    /// A told queryable takes the place of one of its number: listeners count the new one, and the old one no more.
     fn tell_queryable(&mut self, row: RemoteQueryable) -> Result<(), AllocError>
         ensures ok { OnOk result (self.new ≡ with_change (Change.OfMatching (MatchingChange.TellQueryable row)) self.old) }
         ensures err { OnErr result (self.new ≡ self.old) }
@@ -93,6 +98,7 @@ impl SessionTables {
         Ok(())
     }
 
+    /// A told queryable ends, if there is one of that number: the listeners that it matched count it no more.
     fn forget_queryable(&mut self, number: u32) -> Result<(), AllocError>
         ensures ok { OnOk result (self.new ≡ with_change (Change.OfMatching (MatchingChange.ForgetQueryable number)) self.old) }
         ensures err { OnErr result (self.new ≡ self.old) }

@@ -32,6 +32,7 @@ impl SessionTables {
         Ok(())
     }
 
+    /// A publisher ends: it leaves the group of its key, and the listeners to it end with it.
     pub(super) fn end_pub(&mut self, id: u32)
         ensures { self.new ≡ with_change (Change.OfEntities (EntityChange.End EntityKind.Pub id)) self.old }
     {

@@ -34,6 +34,7 @@ impl SessionTables {
         Ok(())
     }
 
+    /// A queryable ends, and the listeners that it matched count it no more.
     pub(super) fn end_queryable(&mut self, id: u32) -> Result<(), AllocError>
         ensures ok { OnOk result (self.new ≡ with_change (Change.OfEntities (EntityChange.End EntityKind.Queryable id)) self.old) }
         ensures err { OnErr result (self.new ≡ self.old) }

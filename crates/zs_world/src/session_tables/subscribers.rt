@@ -35,6 +35,7 @@ impl SessionTables {
         Ok(())
     }
 
+    /// A subscriber ends: it leaves the group of its key, and the listeners that it matched count it no more.
     pub(super) fn end_sub(&mut self, id: u32) -> Result<(), AllocError>
         ensures ok { OnOk result (self.new ≡ with_change (Change.OfEntities (EntityChange.End EntityKind.Sub id)) self.old) }
         ensures err { OnErr result (self.new ≡ self.old) }

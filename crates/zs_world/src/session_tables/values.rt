@@ -14,6 +14,7 @@ use zs_entity_tables::Met;
 use zs_query::{Finished, GetTable, RequestRow, RequestTable};
 
 impl SessionTables {
+    /// Makes a change of the query values. Only giving one back never wants memory.
     pub(super) fn change_values(&mut self, change: ValueChange) -> Result<(), AllocError>
         requires { ValuesFit self.old change }
         ensures ok { OnOk result (self.new ≡ with_change (Change.OfValues change) self.old) }

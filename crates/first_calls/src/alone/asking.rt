@@ -1,6 +1,6 @@
 //! A queryable, and a get that it answers.
+use crate::alone::showing::show;
 use crate::channel::channel;
-use crate::showing::show;
 use crate::trouble::Trouble;
 use std::io::Print;
 use std::sync::Wait;

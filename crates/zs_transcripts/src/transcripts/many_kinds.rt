@@ -1,4 +1,4 @@
-//! A run over all kinds of events.
+//! A run over many kinds of events.
 
 use super::{Transcript, assert_printed};
 use std::test::Fail;
@@ -7,8 +7,8 @@ use std::test::Fail;
 pub(crate) const WORDS: &str = "drive aggsub=home/**";
 
 /// Its script, with what it prints.
-pub(crate) const ALL_KINDS: Transcript = Transcript {
-    name: "all kinds of events",
+pub(crate) const MANY_KINDS: Transcript = Transcript {
+    name: "many kinds of events",
     text: "\
 key home/kitchen
 < 1 ok 1
@@ -90,7 +90,8 @@ put any home/hall x
 < 28 ok",
 };
 
+/// A run over events of many kinds, with an aggregate, prints what its transcript says.
 #[test]
-fn all_kinds_are_printed(rt: HostRuntime) -> Result<(), Fail> {
-    assert_printed(&rt, WORDS, &[ALL_KINDS])
+fn many_kinds_are_printed(rt: HostRuntime) -> Result<(), Fail> {
+    assert_printed(&rt, WORDS, &[MANY_KINDS])
 }

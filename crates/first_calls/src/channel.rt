@@ -1,3 +1,4 @@
+//! Channels as handlers.
 use crate::trouble::Trouble;
 use std::alloc::{AllocError, Global};
 use std::sync::Arc;
