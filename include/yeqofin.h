@@ -90,7 +90,7 @@ typedef struct {
 /* What an event is answered. */
 typedef struct {
     uint8_t refusal; /* 0: it was accepted. Else why not, and nothing follows from it: */
-    bool has_number; /* whether it drew a number: of a declared key or entity, a get, a cancellation token, a query */
+    bool has_number; /* whether the next is meant: a declared key or entity, a get, a cancellation token or a query drew it */
     uint32_t number; /* that number; of yq_matching 1 where anyone matches, else 0 */
 } yq_answer;
 

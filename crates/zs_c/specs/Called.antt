@@ -1,5 +1,5 @@
 -- What a call of an event comes to.
-use Rattle.std.specs.Prelude.{◌≡◌, ◌⊎◌, ℕ, ◌<◌, ◌≤◌, List, [], ◌∷◌, ◌++◌, length, take, drop, min, IsSomeAnd}
+use Rattle.std.specs.Prelude.{◌≡◌, ◌⊎◌, ℕ, ◌<◌, ◌≤◌, List, [], ◌∷◌, ◌++◌, length, take, drop, min, IsSome, IsSomeAnd}
 use Rattle.std.specs.declared.option.Option.{Option}
 use Rattle.std.specs.declared.option.Option.TheVariants.{None, Some}
 use Rattle.zs_events.specs.declared.event.Event.{Event}
@@ -25,7 +25,7 @@ pub record Called (said : Option Event) (old new : Option Lined) (kept written :
   pub done : status ≡ 0 → IsSomeAnd said (λ event. Through (Told event written) old new)
   pub undone : ¬ (status ≡ 0) → (new ≡ old) × (written ≡ kept)
   pub empty : status ≡ 1 → old ≡ None
-  pub unsaid : status ≡ 5 → said ≡ None
+  pub unsaid : status ≡ 5 → (said ≡ None) × IsSome old
   pub known : (status ≡ 0) ⊎ (status ≡ 1) ⊎ (status ≡ 5) ⊎ (status ≡ 6)
 
 -- the first effect that waits is told

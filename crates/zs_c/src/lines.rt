@@ -1,11 +1,11 @@
 //! The calls by which something happens to a session.
 
-ghost use Rattle.std.specs.Prelude.{◌≡◌, ◌⊎◌, ◌<◌, length};
+ghost use Rattle.std.specs.Prelude.{◌≡◌, ◌⊎◌, ◌<◌, ◌≤◌, length};
 ghost use Rattle.std.specs.declared.option.Option.TheVariants.{None, Some};
 ghost use Rattle.zs_events.specs.declared.event.Event.TheVariants.{Close};
 ghost use Rattle.zs_line_session.specs.Lined.{session_event, Takes, TakesLine};
 ghost use Rattle.zs_grammar.specs.Grammar.{event_of};
-ghost use Rattle.zs_c.specs.Through.{Through, IsLonger};
+ghost use Rattle.zs_c.specs.Through.{Through, IsLonger, IsNoEvent};
 
 use crate::slot::Slot;
 use crate::status::{NO_EVENT, NO_MEMORY, NOT_OPEN, OK, TOO_LONG};
@@ -19,7 +19,7 @@ pub extern "C" fn yq_line(alloc: Global, slot: &mut Slot, number: u64, line: &[u
     ensures kept { ¬ (result ≡ 0) → slot.new.handle.value ≡ slot.old.handle.value }
     ensures empty { result ≡ 1 → slot.old.handle.value ≡ None }
     ensures long { result ≡ 4 → IsLonger line.now slot.old.handle.value }
-    ensures other { result ≡ 5 → session_event (event_of line.now) ≡ None }
+    ensures other { result ≡ 5 → IsNoEvent line.now slot.old.handle.value }
     ensures known { (result ≡ 0) ⊎ (result ≡ 1) ⊎ (result ≡ 4) ⊎ (result ≡ 5) ⊎ (result ≡ 6) }
 {
     match slot.take(alloc) {
@@ -38,7 +38,7 @@ fn line_status(session: &mut LineSession, number: u64, line: &[u8]) -> u32
     ensures kept { ¬ (result ≡ 0) → session.new ≡ session.old }
     ensures open { ¬ (result ≡ 1) }
     ensures long { result ≡ 4 → session.old.line_max < length line.now }
-    ensures other { result ≡ 5 → session_event (event_of line.now) ≡ None }
+    ensures other { result ≡ 5 → (length line.now ≤ session.old.line_max) × (session_event (event_of line.now) ≡ None) }
     ensures known { (result ≡ 0) ⊎ (result ≡ 1) ⊎ (result ≡ 4) ⊎ (result ≡ 5) ⊎ (result ≡ 6) }
 {
     match session.take_line(number, line) {

@@ -20,7 +20,7 @@ pub extern "C" fn yq_open(alloc: Global, slot: &mut Slot, form: &SettingsForm) -
     ensures fresh { result ≡ 0 → slot.old.handle.value ≡ None }
     ensures kept { ¬ (result ≡ 0) → slot.new.handle.value ≡ slot.old.handle.value }
     ensures live { result ≡ 2 → IsSome slot.old.handle.value }
-    ensures bad { result ≡ 3 → is_valid (settings_of form.now) ≡ false }
+    ensures bad { result ≡ 3 → (slot.old.handle.value ≡ None) × (is_valid (settings_of form.now) ≡ false) }
     ensures known { (result ≡ 0) ⊎ (result ≡ 2) ⊎ (result ≡ 3) ⊎ (result ≡ 6) }
 {
     match slot.take(alloc) {

@@ -50,6 +50,13 @@ impl Slot {
         }
     }
 
+    /// Whether there is a session.
+    pub(crate) fn is_open(&self) -> bool
+        ensures { result ≡ is_some self.now.handle.value }
+    {
+        self.live
+    }
+
     /// Takes the session out.
     pub(crate) fn take(&mut self, alloc: Global) -> Option<Box<LineSession>>
         ensures taken { MatchOption result (self.old.handle.value ≡ None) (λ b. self.old.handle.value ≡ Some b.value) }

@@ -1,6 +1,6 @@
 //! How an event that C says reaches the session.
 
-ghost use Rattle.std.specs.Prelude.{◌≡◌, ◌⊎◌, IfOk};
+ghost use Rattle.std.specs.Prelude.{◌≡◌, ◌⊎◌, IsSome, IfOk};
 ghost use Rattle.std.specs.declared.option.Option.{Option};
 ghost use Rattle.std.specs.declared.option.Option.TheVariants.{None, Some};
 ghost use Rattle.zs_events.specs.declared.event.Event.{Event};
@@ -39,8 +39,17 @@ pub(crate) fn take(
 {
     match said {
         Some(event) => take_event(alloc, slot, event, answer),
-        None => NO_EVENT,
+        None => refuse(slot),
     }
+}
+
+/// The status of a call that says no event: a slot without a session comes first.
+fn refuse(slot: &Slot) -> u32
+    ensures open { result ≡ 5 → IsSome slot.now.handle.value }
+    ensures empty { result ≡ 1 → slot.now.handle.value ≡ None }
+    ensures known { (result ≡ 1) ⊎ (result ≡ 5) }
+{
+    if slot.is_open() { NO_EVENT } else { NOT_OPEN }
 }
 
 /// Gives the event to the session of the slot, if it has one. The event is freed in either case.

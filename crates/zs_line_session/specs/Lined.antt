@@ -63,5 +63,5 @@ pub record TakesLine (old new : Lined) (number : ℕ) (line : List ℕ) : Type 0
 -- why a line was not taken
 abbrev pub IsCause : LineFault → Lined → List ℕ → Type 0
 IsCause TooLong old line = old.line_max < length line
-IsCause NoEvent old line = session_event (event_of line) ≡ None
+IsCause NoEvent old line = (length line ≤ old.line_max) × (session_event (event_of line) ≡ None)
 IsCause NoMemory old line = length line ≤ old.line_max

@@ -1,5 +1,6 @@
 -- What a reader of lines is between two calls, and what one call gives.
-use Rattle.std.specs.Prelude.{ℕ, ◌≡◌, ◌+◌, ◌*◌, ◌≤◌, ◌<◌, Bool, true, false, List, [], ◌∷◌, ◌++◌, length, Option, Some, None, Result, Ok, Err, if◌then◌else◌}
+use Rattle.std.specs.Prelude.{ℕ, ◌≡◌, ◌==◌, ◌+◌, ◌*◌, ◌≤◌, ◌<◌, Bool, true, false, List, [], ◌∷◌, ◌++◌, length, Option, Some, None, Result, Ok, Err, if◌then◌else◌}
+use Rattle.std.specs.List.{position}
 use Rattle.zs_keys.specs.Stream.{HoldsNothing}
 use Rattle.zs_lines.specs.Lines.{lines}
 use Rattle.zs_lines.specs.declared.reader.Line.{Line}
@@ -48,6 +49,10 @@ IsTooLong old gave = (more : List ℕ) → (bytes : List ℕ) × (rest : List (L
 -- what was held and what was read is held, and no line more was given
 abbrev pub Keeps : Reading → Reading → List ℕ → Type 0
 Keeps old new gave = (new.held ≡ old.held ++ gave) × (new.given ≡ old.given)
+
+-- no whole line is held, and what is held is no longer than a line may be
+abbrev pub HoldsNoLine : Reading → Type 0
+HoldsNoLine reading = (position (λ b. b == 10) reading.held ≡ None) × (length reading.held ≤ reading.line_max)
 
 -- what a call answers, where it read these bytes: the next line, the end of all lines, or an error with its cause, at which
 -- no byte is lost

@@ -2,7 +2,7 @@
 ghost use Rattle.std.specs.Prelude.{◌≡◌, ℕ, ◌≢◌, ◌+◌, ◌-◌, ◌<◌, ◌≤◌, ◌==◌, false, true, List, [], ◌++◌, length, take, drop, Some, None, is_some, IfOk, IfErr, OnOk, OnErr, IfSome, IfNone, OnSome};
 ghost use Rattle.std.specs.List.{position};
 ghost use Rattle.zs_keys.specs.Stream.{HasRisen, TakesOff, count_after};
-ghost use Rattle.zs_lines.specs.Reading.{Answers, GivesLine, IsAtEnd, IsSpent, IsTooLong, MayFollow, Reads, work};
+ghost use Rattle.zs_lines.specs.Reading.{Answers, GivesLine, HoldsNoLine, IsAtEnd, IsSpent, IsTooLong, MayFollow, Reads, work};
 
 use crate::held::Held;
 use std::alloc::{AllocError, Global};
@@ -213,11 +213,13 @@ impl LineReader {
     /// # Errors
     ///
     /// `ReadFault` where the source failed, `LineTooLong` where the line has more bytes than it may have, `OutOfTurns` where
-    /// no read that gives bytes is left, and `NoMemory`. No byte that was read is lost.
+    /// no read that gives bytes is left, and no whole line is held nor a rest that is too long already, and `NoMemory`. No
+    /// byte that was read is lost.
     pub fn next<S: Source>(&mut self, source: &mut S) -> Result<Option<Line>, LineError>
         ensures answer { (gave : List ℕ) × TakesOff (S.left source.old) gave (S.left source.new)
             × Reads self.old self.new gave × Answers self.old self.new gave result }
         ensures at_end { IsAtEnd self.old (S.left source.old) → self.new.ended ≡ true → IsSpent (S.left source.old) (S.left source.new) }
+        ensures out_of_turns { result ≡ Err LineError.OutOfTurns → HoldsNoLine self.new }
         ensures still { self.old.ended ≡ true → source.new ≡ source.old }
         ensures held { is_some (position (λ b. b == 10) self.old.held) ≡ true → source.new ≡ source.old }
         ensures pieces { S.pieces source.new ≡ count_after (S.pieces source.old) (self.old.turns - self.new.turns) }

@@ -139,6 +139,8 @@ fn tells_why_it_reads_no_further(rt: HostRuntime) -> Result<(), Fail> {
         (4096, 0, 1, 9, "1[97] 2[98, 99] OutOfTurns"),
         (4096, 0, 2, 9, "1[97] 2[98, 99] 3[100] end"),
         (3, 0, 2, 1, "1[97] LineTooLong(2)"),
+        // The turns run out with a rest that is too long already.
+        (4, 0, 1, 1, "1[97] LineTooLong(2)"),
         (3, 0, 1, 9, "1[97] OutOfTurns"),
         (3, 0, 100, 2, "1[97] 2[98, 99] 3[100] end"),
         (3, 2, 100, 9, "1[97] ReadFault"),

@@ -6,4 +6,5 @@ mod asking;
 mod opening;
 mod publishing;
 mod putting;
+mod querying;
 mod showing;

@@ -5,6 +5,7 @@ ghost use Rattle.zs_core.specs.Settings.{default_settings};
 use crate::alone::asking::offer_and_ask;
 use crate::alone::publishing::subscribe_and_publish;
 use crate::alone::putting::subscribe_and_put;
+use crate::alone::querying::{ask_and_cancel, declare_and_query};
 use crate::trouble::Trouble;
 use std::alloc::Global;
 use std::io::Print;
@@ -15,7 +16,7 @@ use zs_cell::{Books, Caller, EntryLedger, Item, Session, Three};
 use zs_core::Settings;
 use zs_handlers::FifoSender;
 
-/// Puts, asks, publishes and closes the session.
+/// Puts, asks, publishes, asks by a querier, cancels a get and closes the session.
 fn use_session<B: Books, R: Wait + Print>(
     rt: &R,
     session: &Session<FifoSender<Item>, B>,
@@ -24,6 +25,8 @@ fn use_session<B: Books, R: Wait + Print>(
     subscribe_and_put(rt, session, caller)?;
     offer_and_ask(rt, session, caller)?;
     subscribe_and_publish(rt, session, caller)?;
+    declare_and_query(rt, session, caller)?;
+    ask_and_cancel(rt, session, caller)?;
     session.close(rt, false, caller)?;
     let count = caller.count();
     println!(rt; "{count} events")?;
