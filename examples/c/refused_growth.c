@@ -89,6 +89,7 @@ static size_t read_text(yq_session *session, uint8_t *text, size_t length)
 static size_t run(long growth, uint8_t *text)
 {
     yq_session session = {0};
+    yq_answer answer;
     size_t length = 0;
     unsigned place;
 
@@ -103,8 +104,10 @@ static size_t run(long growth, uint8_t *text)
     }
     length = read_text(&session, text, length);
     counting = false;
+    want(yq_undeclare(&session, 255, 1, &answer), YQ_NO_EVENT, "yq_undeclare of no sort");
     yq_free(&session);
     yq_free(&session);
+    want(yq_undeclare(&session, 255, 1, &answer), YQ_NOT_OPEN, "yq_undeclare of no sort and an empty slot");
     want(yq_close(&session, 1), YQ_NOT_OPEN, "yq_close of an empty slot");
     return length;
 }
