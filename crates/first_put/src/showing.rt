@@ -5,7 +5,7 @@ use std::io::Print;
 use std::sync::Wait;
 use zs_cell::Item;
 use zs_handlers::FifoChannelHandler;
-use zs_sample::{MatchingStatus, Sample, SampleKind};
+use zs_sample::{Sample, SampleKind};
 
 /// Prints a sample as its key and its text, or that the key was deleted.
 fn show_sample<R: Print>(
@@ -26,13 +26,6 @@ fn show_sample<R: Print>(
     Ok(())
 }
 
-/// Prints what a listener is told.
-fn show_status<R: Print>(rt: &R, status: MatchingStatus) -> Result<(), Trouble> {
-    let matching = status.matching();
-    println!(rt; "a queryable is there: {matching}")?;
-    Ok(())
-}
-
 /// Prints the next item of a channel.
 pub(crate) fn show<R: Wait + Print>(
     rt: &R,
@@ -45,7 +38,6 @@ pub(crate) fn show<R: Wait + Print>(
             Ok(sample) => show_sample(rt, alloc, "reply:", sample),
             Err(_) => Err(Trouble::ErrorReply),
         },
-        Ok(Some(Item::Matching(status))) => show_status(rt, status),
         _ => Err(Trouble::Nothing),
     }
 }
