@@ -6,7 +6,7 @@ use std::process::Abort;
 use std::test::Fail;
 use zs_event_lines::print_event;
 use zs_events::{Event, ScriptEvent};
-use zs_script::parse_event;
+use zs_script::{Line, parse_event};
 
 /// Declarations, keys and what ends them.
 const DECLARATIONS: &str = "\
