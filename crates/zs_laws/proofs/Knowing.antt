@@ -37,7 +37,8 @@ use Rattle.zs_standing.proofs.Changes.{made}
 use Rattle.zs_standing.proofs.Watching.{entity_up}
 use Rattle.zs_world.proofs.Hearing.{all_there, between_same, not_there}
 use Rattle.zs_standing.proofs.Matched.{matched_is}
-use Rattle.zs_laws.proofs.Silent.{IsSilent, told_append, silent_map, silent_effects}
+use Rattle.zs_laws.proofs.Brought.{all_map}
+use Rattle.zs_laws.proofs.Silent.{IsSilent, told_append, silent, silent_effects}
 use Rattle.zs_standing.proofs.Stands.{standing, same_turn}
 use Rattle.zs_standing.proofs.Steps.{along, next_is}
 
@@ -121,7 +122,7 @@ told_behind id fx ended turns quiet =
     told_append id fx (listener_ends ended ++ turns)
     ∙ ap (λ (bs : List Bool). bs ++ told_to id (listener_ends ended ++ turns)) (quiet id)
     ∙ told_append id (listener_ends ended) turns
-    ∙ ap (λ (bs : List Bool). bs ++ told_to id turns) (silent_map (λ (row : ListenerRow). End listener_kind row.id) (λ row n. refl) ended id)
+    ∙ ap (λ (bs : List Bool). bs ++ told_to id turns) (all_map IsSilent silent (λ (row : ListenerRow). End listener_kind row.id) (λ row n. refl) ended id)
 
 -- what is known behind a history: each listener was told last what is so, and a number that was never drawn was told nothing
 pub record Know (s : Settings) (h : List Event) (w : World) : Type 0 where

@@ -21,6 +21,7 @@ mod EndsOfTokens
 mod Unended
 mod TokensKnown
 mod Ordered
+pub mod Brought
 pub mod Covered
 pub mod Endings
 pub mod EntityEnds
