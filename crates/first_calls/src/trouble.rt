@@ -7,7 +7,8 @@ use zs_cell::{NotSubmitted, SessionError};
 use zs_handlers::ChannelError;
 use zs_keys::KeyError;
 
-/// What can go wrong.
+/// Why the program ends before its end: what a call of the session, a channel, a key or the standard library answered, or
+/// that something else came than what the example is about.
 #[derive(Debug, Drop, Error)]
 pub(crate) enum Trouble {
     #[error("{0}")]

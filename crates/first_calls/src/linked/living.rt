@@ -1,7 +1,7 @@
 //! `z_sub_liveliness` there, and `z_liveliness` here.
 use crate::channel::channel;
-use crate::link::pass;
-use crate::showing::show;
+use crate::linked::link::pass;
+use crate::linked::showing::show;
 use crate::trouble::Trouble;
 use std::io::Print;
 use std::sync::{Arc, Wait};

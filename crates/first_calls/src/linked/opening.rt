@@ -1,11 +1,11 @@
 //! The two sessions of the program: `here` and `there`.
 ghost use Rattle.std.specs.Prelude.{◌≡◌};
 ghost use Rattle.zs_core.specs.Settings.{default_settings};
-ghost use Rattle.first_link.specs.Places.{there_settings};
+ghost use Rattle.first_calls.specs.Places.{there_settings};
 
-use crate::asking::ask_there;
-use crate::living::live_here;
-use crate::publishing::publish_here;
+use crate::linked::asking::ask_there;
+use crate::linked::living::live_here;
+use crate::linked::publishing::publish_here;
 use crate::trouble::Trouble;
 use std::alloc::Global;
 use std::io::Print;
@@ -59,7 +59,7 @@ fn run_there<A: Books, R: Wait + Print>(
 }
 
 /// Opens the first session, with the default settings.
-pub(crate) fn run<E: EntryLedger, S: Ledger, D: Ledger, R: Wait + Print>(
+fn run<E: EntryLedger, S: Ledger, D: Ledger, R: Wait + Print>(
     rt: &R,
     alloc: Global,
     entries: Blank,
@@ -77,4 +77,12 @@ pub(crate) fn run<E: EntryLedger, S: Ledger, D: Ledger, R: Wait + Print>(
     );
     let (here, mut here_caller) = opened?;
     run_there(rt, &here, &mut here_caller)
+}
+
+/// Makes the ledgers of the first session, and opens it.
+pub(crate) fn start<R: Wait + Print>(rt: &R, alloc: Global) -> Result<(), Trouble> {
+    let entries = Blank::new(1 << 32);
+    let sent = Blank::new(1 << 32);
+    let drained = Blank::new(1 << 32);
+    run::<Brand, Brand, Brand, R>(rt, alloc, entries, sent, drained)
 }

@@ -1,6 +1,6 @@
 //! A subscriber, and a put that it is handed.
+use crate::alone::showing::show;
 use crate::channel::channel;
-use crate::showing::show;
 use crate::trouble::Trouble;
 use std::io::Print;
 use std::sync::Wait;

@@ -1,5 +1,5 @@
 use Rattle.zs_core.specs.Settings.{default_settings}
-use Rattle.first_link.proofs.main.Given as goal
+use Rattle.first_calls.proofs.alone.opening.start.Given as goal
 
 abbrev pub ghosts-run-E-EntryLedger : goal.ghosts-run-E-EntryLedger
 ghosts-run-E-EntryLedger g a = record { settings = default_settings }

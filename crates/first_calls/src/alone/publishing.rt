@@ -1,6 +1,6 @@
 //! A publisher, and a subscriber that hears it and whose callbacks are waited for.
+use crate::alone::showing::show;
 use crate::channel::channel;
-use crate::showing::show;
 use crate::trouble::Trouble;
 use std::alloc::Global;
 use std::io::Print;

@@ -1,5 +1,5 @@
-use Rattle.first_link.specs.Places.{there_settings}
-use Rattle.first_link.proofs.opening.run_there.Given as goal
+use Rattle.first_calls.specs.Places.{there_settings}
+use Rattle.first_calls.proofs.linked.opening.run_there.Given as goal
 
 abbrev pub ghosts-open_there-E-EntryLedger : goal.ghosts-open_there-E-EntryLedger
 ghosts-open_there-E-EntryLedger g a = record { settings = there_settings }

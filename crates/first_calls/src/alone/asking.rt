@@ -1,6 +1,6 @@
 //! A queryable, and a get that it answers.
+use crate::alone::showing::show;
 use crate::channel::channel;
-use crate::showing::show;
 use crate::trouble::Trouble;
 use std::io::Print;
 use std::sync::Wait;
@@ -27,6 +27,19 @@ fn answer<B: Books, R: Wait>(
     }
 }
 
+/// Answers the next query that a queryable was handed.
+pub(crate) fn answer_next<B: Books, R: Wait>(
+    rt: &R,
+    session: &Session<FifoSender<Item>, B>,
+    queries: &FifoChannelHandler<Item>,
+    caller: &mut Caller<B>,
+) -> Result<(), Trouble> {
+    match queries.try_recv(rt) {
+        Ok(Some(Item::Query(query))) => answer(rt, session, query, caller),
+        _ => Err(Trouble::Nothing),
+    }
+}
+
 /// Asks, answers the query that the queryable is handed, and shows the reply.
 fn ask_and_show<B: Books, R: Wait + Print>(
     rt: &R,
@@ -41,10 +54,7 @@ fn ask_and_show<B: Books, R: Wait + Print>(
         .allowed_destination(Locality::SessionLocal)
         .wait(rt, caller)?;
     println!(rt; "get {number} asks")?;
-    let Ok(Some(Item::Query(query))) = queries.try_recv(rt) else {
-        return Err(Trouble::Nothing);
-    };
-    answer(rt, session, query, caller)?;
+    answer_next(rt, session, queries, caller)?;
     show(rt, session.alloc(), &replies)
 }
 
