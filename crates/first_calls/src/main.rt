@@ -1,6 +1,7 @@
 //! Sessions as callers share them: first one session alone, with a subscriber that is handed a put, a get that a queryable
-//! answers, and a publisher that asks whether anyone listens; then two linked sessions in one process, in the style of Zenoh's
-//! examples, where what is declared, published and asked in one of them is heard and answered in the other.
+//! answers, a publisher that asks whether anyone listens, a querier whose listener is told whether a queryable is there, and a
+//! get that is cancelled; then two linked sessions in one process, in the style of Zenoh's examples, where what is declared,
+//! published and asked in one of them is heard and answered in the other.
 #![tactic(auto)]
 
 use crate::trouble::Trouble;
