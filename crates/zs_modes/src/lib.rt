@@ -4,6 +4,4 @@
 pub use running::run;
 
 mod running;
-#[cfg(test)]
-mod tests;
 mod working;

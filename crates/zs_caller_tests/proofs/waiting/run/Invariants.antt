@@ -1,5 +1,5 @@
 use Rattle.zs_core.specs.Settings.{default_settings}
-use Rattle.zs_waiting_tests.proofs.waiting.run.Given as goal
+use Rattle.zs_caller_tests.proofs.waiting.run.Given as goal
 
 abbrev pub ghosts-open-E-EntryLedger : goal.ghosts-open-E-EntryLedger
 ghosts-open-E-EntryLedger g a = record { settings = default_settings }

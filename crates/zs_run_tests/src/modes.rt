@@ -1,11 +1,11 @@
 //! What runs of the program come to, by their words.
 
-use super::run;
 use std::alloc::{AllocError, Global};
 use std::sync::Wait;
 use std::test::Fail;
 use std::thread::Threads;
 use zs_keys::{MemorySink, SteadySource};
+use zs_modes::run;
 
 /// A run, whose words have a space between two.
 struct Run {
